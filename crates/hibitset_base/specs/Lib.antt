@@ -1,0 +1,5 @@
+pub mod Members
+pub mod Sets
+pub mod Places
+pub mod Cursor
+pub mod Reading

@@ -1,0 +1,8 @@
+//! Hierarchical bit sets: the words of a set in layers, walks over them, and sets that are combined without copying.
+#![tactic(auto)]
+
+pub mod cursor;
+pub mod reads;
+pub mod util;
+
+pub use util::Index;
