@@ -63,10 +63,12 @@ left-both (suc k) x l r q (m ∷ ms) (p ∷ ps) e wide long below =
     ∙ left-both k x (suc l) r q ms ps (omega arith) (omega arith) (omega arith) (λ j lower. below (suc j) (omega arith))
 
 -- no bit is left
-pub left-none : (l : ℕ) (ms ps : List ℕ) → ((j : ℕ) → get_or ms j 0 ≡ 0) → places_left l ms ps ≡ []
+pub left-none : (l : ℕ) (ms ps : List ℕ) → ((j : ℕ) → j < length ms → get_or ms j 0 ≡ 0) → places_left l ms ps ≡ []
 left-none l [] ps none = refl
-left-none l (m ∷ ms) [] none = ap (λ ys. places_in l ys ++ places_left (suc l) ms []) (bits-none 0 m (none 0)) ∙ left-none (suc l) ms [] (λ j. none (suc j))
-left-none l (m ∷ ms) (p ∷ ps) none = ap (λ ys. places_in l ys ++ places_left (suc l) ms ps) (bits-none p m (none 0)) ∙ left-none (suc l) ms ps (λ j. none (suc j))
+left-none l (m ∷ ms) [] none =
+    ap (λ ys. places_in l ys ++ places_left (suc l) ms []) (bits-none 0 m (none 0 (omega arith))) ∙ left-none (suc l) ms [] (λ j below. none (suc j) (omega arith))
+left-none l (m ∷ ms) (p ∷ ps) none =
+    ap (λ ys. places_in l ys ++ places_left (suc l) ms ps) (bits-none p m (none 0 (omega arith))) ∙ left-none (suc l) ms ps (λ j below. none (suc j) (omega arith))
 
 -- the first place is taken
 pub left-take : (k t r : ℕ) (ms ps : List ℕ) → k < length ms → k < length ps → ((j : ℕ) → j < k → get_or ms j 0 ≡ 0) → TakesFirst (get_or ms k 0) t r

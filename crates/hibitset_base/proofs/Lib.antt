@@ -4,3 +4,7 @@ pub mod Left
 pub mod Taking
 pub mod Putting
 pub mod Starting
+pub mod Layers
+pub mod Going
+pub mod Descending
+pub mod Stepping

@@ -47,5 +47,5 @@ top_left n d v e =
     let h : places_left 0 (set zeros d v) (set zeros d 0) ≡ places_in d (bits_from 0 v) ++ places_left 0 zeros zeros =
     left-put d v 0 zeros zeros (omega arith) (omega arith) (λ j _. none j) in
     let same : set zeros d 0 ≡ zeros = set_none n d in
-    let h2 = rw (same, left-none 0 zeros zeros none) at h in
+    let h2 = rw (same, left-none 0 zeros zeros (λ j _. none j)) at h in
     h2 ∙ append-nil _

@@ -3,3 +3,4 @@ pub mod Sets
 pub mod Places
 pub mod Cursor
 pub mod Reading
+pub mod Walk

@@ -5,18 +5,21 @@ use Rattle.std.specs.Int.{bit_at}
 use Rattle.hibitset_base.specs.Sets.{IsExact}
 use Rattle.hibitset_base.specs.Places.{Place, bits_from, items_of}
 
--- The words that are read to visit all that a place stands for, in the order in which they are read: none in layer 0, and above it the word at that position and what is read under its bits.
+-- The words that are read to visit all that a place stands for, in the order in which they are read: none in layer 0, and above it the word at that position and then what is read under its bits.
 abbrev pub words_under : (ℕ → ℕ → ℕ) → ℕ → ℕ → List Place
 words_under word zero q = []
 words_under word (suc l) q = (record { layer = l; position = q }) ∷ flat_map (words_under word l) (bits_from (64 * q) (word l q))
 
 -- the words that a walk with these places left has still to read
-abbrev pub words_ahead : (ℕ → ℕ → ℕ) → List Place → List Place
-words_ahead word = flat_map (λ place. words_under word place.layer place.position)
+abbrev pub words_of : (ℕ → ℕ → ℕ) → List Place → List Place
+words_of word = flat_map (λ place. words_under word place.layer place.position)
 
--- the bit at each place stands in the set's own word
-abbrev pub IsDrawn : (ℕ → ℕ → ℕ) → List Place → Type 0
-IsDrawn word = All (λ place. bit_at (word place.layer (place.position / 64)) (place.position % 64) ≡ 1)
+-- the bit at a place stands in the set's own word
+abbrev pub Stands : (ℕ → ℕ → ℕ) → Place → Type 0
+Stands word place = bit_at (word place.layer (place.position / 64)) (place.position % 64) ≡ 1
+
+abbrev pub AllStand : (ℕ → ℕ → ℕ) → List Place → Type 0
+AllStand word = All (Stands word)
 
 -- how many layers lie below the next place
 abbrev pub depth : List Place → ℕ
@@ -27,7 +30,7 @@ depth (place ∷ _) = place.layer
 pub record GoesOn (n : ℕ) (holds : ℕ → Bool) (word : ℕ → ℕ → ℕ) (reads : ℕ) (ps : List Place) (later : ℕ) (qs : List Place) : Type 0 where
   pub items : items_of holds qs ≡ items_of holds ps
   pub taken : List Place
-  pub ahead : words_ahead word ps ≡ taken ++ words_ahead word qs
+  pub ahead : words_of word ps ≡ taken ++ words_of word qs
   pub count : later ≡ reads + length taken
-  pub drawn : IsDrawn word ps → IsDrawn word qs
-  pub few : IsExact n word → IsDrawn word ps → later + depth qs ≤ reads + depth ps
+  pub drawn : AllStand word ps → AllStand word qs
+  pub few : IsExact n word → AllStand word ps → later + depth qs ≤ reads + depth ps

@@ -2,7 +2,11 @@
 #![tactic(auto)]
 
 pub mod cursor;
+pub mod iter;
+pub mod like;
 pub mod reads;
 pub mod util;
 
+pub use iter::BitIter;
+pub use like::BitSetLike;
 pub use util::Index;

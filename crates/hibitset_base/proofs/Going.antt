@@ -1,0 +1,18 @@
+-- A walk goes on in several steps.
+use Rattle.std.proofs.Common.{◌≡◌, ℕ, ◌+◌, ◌≤◌, ◌<◌, Bool, List, [], ◌++◌, refl, sym, ◌∙◌, ap, arith, length, length-append, append_assoc}
+use Rattle.hibitset_base.specs.Places.{Place}
+use Rattle.hibitset_base.specs.Reading.{GoesOn, words_of}
+
+module _ {n : ℕ} {holds : ℕ → Bool} {word : ℕ → ℕ → ℕ} where
+  pub goes_nowhere : (r : ℕ) (ps : List Place) → GoesOn n holds word r ps r ps
+  goes_nowhere r ps = record { items = refl; taken = []; ahead = refl; count = omega arith; drawn = λ h. h; few = λ exact drawn. omega arith }
+
+  pub goes_both : {r s t : ℕ} {ps qs xs : List Place} → GoesOn n holds word r ps s qs → GoesOn n holds word s qs t xs → GoesOn n holds word r ps t xs
+  goes_both a b = record {
+    items = b.items ∙ a.items;
+    taken = a.taken ++ b.taken;
+    ahead = a.ahead ∙ (ap (λ ws. a.taken ++ ws) b.ahead ∙ sym (append_assoc a.taken b.taken _));
+    count = let h = a.count in let k = b.count in let e = length-append a.taken b.taken in omega arith;
+    drawn = λ h. b.drawn (a.drawn h);
+    few = λ exact drawn. let h = a.few exact drawn in let k = b.few exact (a.drawn drawn) in omega arith;
+  }

@@ -1,0 +1,37 @@
+-- What a walk's step shows of its cursor is what the walk's users see.
+use Rattle.std.proofs.Common.{◌≡◌, ℕ, ◌+◌, ◌-◌, ◌≤◌, Bool, List, [], ◌∷◌, ◌++◌, Option, None, Some, MatchOption, length, refl, sym, ◌∙◌, ap, arith, rules}
+use Rattle.std.proofs.lemmas.List.Elements.{All-tail}
+use Rattle.hibitset_base.specs.Places.{Place, items_of}
+use Rattle.hibitset_base.specs.Cursor.{left}
+use Rattle.hibitset_base.specs.Reading.{Stands, AllStand, words_of, depth, GoesOn}
+use Rattle.hibitset_base.specs.Walk.{items_left, KeepsOn, WalkSteps}
+use Rattle.hibitset_base.specs.declared.iter.BitIter.{BitIter}
+use Rattle.hibitset_base.specs.declared.util.TheConstants.{LAYERS}
+use Rattle.hibitset_base.proofs.Descending.{depth-left}
+
+module _ {T : Type 0} (holds : T → ℕ → Bool) (word : T → ℕ → ℕ → ℕ) (old new : BitIter T) (set : new.set ≡ old.set) where
+  few_layers : depth (left old.cursor) ≤ LAYERS - 1
+  few_layers = let h = depth-left 0 old.cursor.masks old.cursor.prefix in let e = old.cursor.formed.long in omega arith
+
+  -- what a walk keeps where it gives no item
+  keeps_on : {qs : List Place} → GoesOn LAYERS (holds old.set) (word old.set) old.reads.count (left old.cursor) new.reads.count qs
+      → words_of (word old.set) qs ≡ words_of (word old.set) (left new.cursor) → (AllStand (word old.set) qs → AllStand (word old.set) (left new.cursor)) → KeepsOn word old new
+  keeps_on goes same drawn = record {
+    set = set;
+    read = goes.taken;
+    ahead = rw set (goes.ahead ∙ ap (λ ws. goes.taken ++ ws) same);
+    count = goes.count;
+    drawn = λ before. rw set (drawn (goes.drawn before));
+    few = λ exact before. let few = goes.few exact before in let most = few_layers in omega arith;
+  }
+
+  pub walk_steps : (r : Option ℕ) → (r ≡ None → left new.cursor ≡ [])
+      → MatchOption r (GoesOn LAYERS (holds old.set) (word old.set) old.reads.count (left old.cursor) new.reads.count (left new.cursor))
+      (λ i. GoesOn LAYERS (holds old.set) (word old.set) old.reads.count (left old.cursor) new.reads.count ((record { layer = 0; position = i }) ∷ left new.cursor))
+      → WalkSteps holds word old r new
+  walk_steps None end goes =
+      let none : left new.cursor ≡ [] = end refl in
+      let items : items_left holds new ≡ [] = rw (set, none) refl in
+      ((sym goes.items ∙ ap (items_of (holds old.set)) none, items), keeps_on goes refl (λ h. h))
+  walk_steps (Some i) end goes =
+      (rw set (sym goes.items), keeps_on goes refl (λ h. All-tail (Stands (word old.set)) (record { layer = 0; position = i }) (left new.cursor) h))

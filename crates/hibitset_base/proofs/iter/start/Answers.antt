@@ -1,0 +1,22 @@
+use Rattle.std.proofs.Common.{◌≡◌, ℕ, suc, ◌+◌, ◌-◌, ◌∷◌, Bool, List, sym, ap, ◌∙◌}
+use Rattle.hibitset_base.specs.Places.{places_in, bits_from, items_of}
+use Rattle.hibitset_base.specs.Reading.{AllStand, words_of}
+use Rattle.hibitset_base.specs.declared.util.TheConstants.{LAYERS}
+use Rattle.hibitset_base.proofs.Descending.{top_items, top_words, drawn_from_word}
+use Rattle.hibitset_base.proofs.iter.start.Goals as goal
+
+pub returns-clause-items : goal.returns-clause-items
+returns-clause-items g c =
+    let holds : ℕ → Bool = g.T.BitSetLike.holds c.args.set.now in
+    let word : ℕ → ℕ → ℕ = g.T.BitSetLike.word c.args.set.now in
+    rw (c.at_top.ensures, c.read.ensures.word) (top_items (LAYERS - 1) holds word (g.met.T.BitSetLike.lawful c.args.set.now))
+
+pub returns-clause-drawn : goal.returns-clause-drawn
+returns-clause-drawn g c =
+    let word : ℕ → ℕ → ℕ = g.T.BitSetLike.word c.args.set.now in
+    rw (c.at_top.ensures, c.read.ensures.word) (drawn_from_word word (LAYERS - 1) 0)
+
+pub returns-clause-ahead : goal.returns-clause-ahead
+returns-clause-ahead g c =
+    let word : ℕ → ℕ → ℕ = g.T.BitSetLike.word c.args.set.now in
+    rw (c.at_top.ensures, c.read.ensures.word) (ap (λ ws. (record { layer = LAYERS - 1; position = 0 }) ∷ ws) (sym (top_words (LAYERS - 1) word)))
