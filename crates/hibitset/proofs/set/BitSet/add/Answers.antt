@@ -1,0 +1,13 @@
+use Rattle.std.proofs.Common.{◌≡◌, ◌==◌, cond, true, ap, ◌∙◌}
+use Rattle.hibitset.specs.BitSet.{has, word_of}
+use Rattle.hibitset.proofs.Holding.{holds_same, put_in, OnErr-always}
+use Rattle.hibitset.proofs.set.BitSet.add.Goals as goal
+
+pub returns-in_err-extend-clause-refused : goal.returns-in_err-extend-clause-refused
+returns-in_err-extend-clause-refused c = OnErr-always c.from_residual.result (λ i. holds_same (word_of c.args.self.now) (word_of c.extend.new.self) i c.extend.ensures.same)
+
+pub returns-clause-added : goal.returns-clause-added
+returns-clause-added c = λ i.
+    c.put.ensures.put i
+    ∙ (ap (λ h. cond (i == c.args.id) true h) (holds_same (word_of c.args.self.now) (word_of c.extend.new.self) i c.extend.ensures.same)
+    ∙ put_in (i == c.args.id) (has c.args.self.now i))

@@ -1,0 +1,20 @@
+-- What a contract sees of a `BitSet`.
+use Rattle.std.specs.Prelude.{ℕ, Bool, List, [], ◌∷◌, get_or, length}
+use Rattle.hibitset.specs.Words.{word_at, holds_at}
+use Rattle.hibitset.specs.declared.set.BitSet.{BitSet}
+
+-- the words of the layers, from the lowest up
+abbrev pub layers : BitSet → List (List ℕ)
+layers set = set.layer0.items ∷ set.layer1.items ∷ set.layer2.items ∷ (set.layer3 ∷ []) ∷ []
+
+-- the word of a layer at a position
+abbrev pub word_of : BitSet → ℕ → ℕ → ℕ
+word_of set = word_at (layers set)
+
+-- the set has the number as a member
+abbrev pub has : BitSet → ℕ → Bool
+has set = holds_at (word_of set)
+
+-- how many words the slice of a layer has
+abbrev pub slice_len : BitSet → ℕ → ℕ
+slice_len set l = length (get_or (layers set) l [])

@@ -1,0 +1,30 @@
+-- A set that keeps its words has exact summaries, and so it is lawful.
+use Rattle.std.specs.Prelude.{◌≡◌, ℕ, zero, suc, ◌+◌, ◌-◌, ◌*◌, ◌/◌, ◌%◌, ◌^◌, ◌<◌, Bool, cond, ◌==◌, List, refl}
+use Rattle.std.specs.Int.{bit_at}
+use Rattle.std.proofs.Common.{arith}
+use Rattle.std.proofs.lemmas.Nat.Bits.{bit_at-lt}
+use Rattle.hibitset_base.specs.Sets.{IsLawful, IsExact, bit_of}
+use Rattle.hibitset.specs.Words.{IsSummed, IsStored, word_at, holds_at}
+
+test_of : (x : ℕ) → x < 2 → x ≡ bit_of (x == 1)
+test_of zero below = refl
+test_of (suc zero) below = refl
+test_of (suc (suc x)) below = absurd (omega arith)
+
+pub summed_lawful : (n : ℕ) {w : ℕ → ℕ → ℕ} → IsSummed n w → IsLawful n (holds_at w) w
+summed_lawful n {w} exact = record {
+  members = λ p b within small.
+      let q-is : (64 * p + b) / 64 ≡ p = omega arith in
+      let b-is : (64 * p + b) % 64 ≡ b = omega arith in
+      rw (q-is, b-is) (test_of (bit_at (w 0 p) b) (bit_at-lt (w 0 p) b));
+  summaries = λ l p below within some.
+      let p-is : 64 * (p / 64) + p % 64 ≡ p = omega arith in
+      let some_here : 0 < w l (64 * (p / 64) + p % 64) = rw p-is some in
+      (exact.summed l (p / 64) (p % 64) below (omega arith)).1 some_here;
+}
+
+pub stored_lawful : (n : ℕ) {layers : List (List ℕ)} → IsStored n layers → IsLawful n (holds_at (word_at layers)) (word_at layers)
+stored_lawful n stored = summed_lawful n stored.summed
+
+pub stored_exact : (n : ℕ) {layers : List (List ℕ)} → IsStored n layers → IsExact n (word_at layers)
+stored_exact n stored = record { exact = λ l p b below within small. stored.summed.summed l p b below small }

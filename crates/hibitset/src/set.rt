@@ -1,0 +1,269 @@
+//! The set that keeps its words.
+ghost use Rattle.std.specs.Prelude.{◌≡◌, ◌≢◌, ℕ, ◌+◌, ◌-◌, ◌*◌, ◌/◌, ◌%◌, ◌^◌, ◌<◌, ◌≤◌, ◌==◌, ◌||◌, ◌&&◌, not, if◌then◌else◌, Bool, true, false, List, [], ◌∷◌, get_or, length, slice_index_or, ◌↔◌, OnOk, OnErr, IfOk, IsOk, max};
+ghost use Rattle.std.specs.Int.{bit_at};
+ghost use Rattle.hibitset_base.specs.Sets.{IsExact, bit_of};
+ghost use Rattle.hibitset.specs.Words.{IsStored, word_at, holds_at};
+ghost use Rattle.hibitset_base.specs.declared.util.TheConstants.{LAYERS, MAX_EID};
+
+use hibitset_base::like::BitSetLike;
+use hibitset_base::util::{Index, LAYERS, MAX_EID, offsets};
+use std::alloc::{AllocError, Global};
+
+/// A set of indices below `MAX_EID`, kept as words in four layers.
+///
+/// A bit of a layer above the lowest stands exactly over a word that is not 0, at all times.
+#[derive(Debug, Drop)]
+pub struct BitSet {
+    pub(crate) layer3: usize,
+    pub(crate) layer2: Vec<usize>,
+    pub(crate) layer1: Vec<usize>,
+    pub(crate) layer0: Vec<usize>,
+    ghost stored: { IsStored LAYERS (layer0.items ∷ layer1.items ∷ layer2.items ∷ (layer3 ∷ []) ∷ []) },
+}
+
+// Makes room for the word at `place`, and changes no word.
+fn fill_up(words: &mut Vec<usize>, place: usize) -> Result<(), AllocError>
+    requires { place < 64 ^ LAYERS }
+    ensures same { (p : ℕ) → get_or words.new.items p 0 ≡ get_or words.old.items p 0 }
+    ensures length { length words.new.items ≤ max (length words.old.items) (place + 1) }
+    ensures keeps { length words.old.items ≤ length words.new.items }
+    ensures covers { OnOk result (place < length words.new.items) }
+    ensures room { place < length words.old.items → IsOk result }
+{
+    if words.len() <= place {
+        words.resize(place + 1, 0)?;
+    }
+    Ok(())
+}
+
+// The word with one bit set or cleared.
+#[inline]
+pub(crate) fn with_bit(word: usize, bit: usize, stands: bool) -> usize
+    requires { bit < 64 }
+    ensures same { (b : ℕ) → b < 64 → b ≢ bit → bit_at result b ≡ bit_at word b }
+    ensures here { bit_at result bit ≡ bit_of stands }
+{
+    if stands {
+        word | (1 << bit)
+    } else {
+        word & !(1 << bit)
+    }
+}
+
+// Puts a word in the place of another, and tells whether one of them is 0 and the other not.
+#[inline]
+fn replace(words: &mut Vec<usize>, place: usize, word: usize) -> bool
+    requires { place < length words.old.items }
+    ensures length { length words.new.items ≡ length words.old.items }
+    ensures here { get_or words.new.items place 0 ≡ word }
+    ensures others { (p : ℕ) → p ≢ place → get_or words.new.items p 0 ≡ get_or words.old.items p 0 }
+    ensures stays { result ≡ false → (0 < get_or words.old.items place 0) ↔ (0 < word) }
+{
+    let before = words[place];
+    words[place] = word;
+    (before == 0) != (word == 0)
+}
+
+impl BitSet {
+    ghost use Rattle.hibitset.specs.BitSet.{has, word_of, slice_len};
+
+    /// Number of bits in a word.
+    pub const BITS_PER_USIZE: usize = 64;
+
+    /// Number of indices that a bit of layer 1 stands for.
+    pub const LAYER1_GRANULARITY: usize = 64;
+
+    /// Number of indices that a bit of layer 2 stands for.
+    pub const LAYER2_GRANULARITY: usize = 4_096;
+
+    /// The empty set, which takes no memory until the first `add`.
+    pub fn new(alloc: Global) -> BitSet
+        ensures empty { (i : ℕ) → has result i ≡ false }
+        ensures lengths { (l : ℕ) → l < LAYERS - 1 → slice_len result l ≡ 0 }
+    {
+        BitSet {
+            layer3: 0,
+            layer2: Vec::new(alloc),
+            layer1: Vec::new(alloc),
+            layer0: Vec::new(alloc),
+        }
+    }
+
+    /// An empty set with room for every index below `max`, which is at most `MAX_EID`: no `add` of one needs memory until `clear`.
+    pub fn with_capacity(alloc: Global, max: Index) -> Result<BitSet, AllocError>
+        requires { max ≤ MAX_EID }
+        ensures empty { IfOk result (λ set. (i : ℕ) → has set i ≡ false) }
+        ensures room { IfOk result (λ set. (i : ℕ) → i < max → i / 64 < slice_len set 0) }
+    {
+        let mut set = BitSet::new(alloc);
+        if max > 0 {
+            set.extend(max - 1)?;
+        }
+        Ok(set)
+    }
+
+    // Makes room for the words over `id`, and changes no word.
+    fn extend(&mut self, id: Index) -> Result<(), AllocError>
+        requires { id < MAX_EID }
+        ensures same { (l p : ℕ) → word_of self.new l p ≡ word_of self.old l p }
+        ensures keeps { slice_len self.old 0 ≤ slice_len self.new 0 }
+        ensures covers { OnOk result (id / 64 < slice_len self.new 0) }
+        ensures room { id / 64 < slice_len self.old 0 → IsOk result }
+    {
+        let (p0, p1, p2) = offsets(id);
+        fill_up(&mut self.layer2, p2)?;
+        fill_up(&mut self.layer1, p1)?;
+        fill_up(&mut self.layer0, p0)
+    }
+
+    // Puts a word into layer 0, and sets the summaries over it right, as far up as one turns from 0 or to 0.
+    #[inline]
+    fn put_word(&mut self, place: usize, word: usize)
+        requires { place < slice_len self.old 0 }
+        ensures here { word_of self.new 0 place ≡ word }
+        ensures others { (p : ℕ) → p ≢ place → word_of self.new 0 p ≡ word_of self.old 0 p }
+        ensures length { slice_len self.new 0 ≡ slice_len self.old 0 }
+    {
+        if !replace(&mut self.layer0, place, word) {
+            return;
+        }
+        let word1 = with_bit(self.layer1[place / 64], place % 64, word != 0);
+        if !replace(&mut self.layer1, place / 64, word1) {
+            return;
+        }
+        let word2 = with_bit(self.layer2[place / 4_096], place / 64 % 64, word1 != 0);
+        if !replace(&mut self.layer2, place / 4_096, word2) {
+            return;
+        }
+        self.layer3 = with_bit(self.layer3, place / 4_096, word2 != 0);
+    }
+
+    // Puts an index in or takes it out, where there is room for it.
+    #[inline]
+    fn put(&mut self, id: Index, stands: bool)
+        requires { id / 64 < slice_len self.old 0 }
+        ensures put { (i : ℕ) → has self.new i ≡ (if i == id then stands else has self.old i) }
+        ensures length { slice_len self.new 0 ≡ slice_len self.old 0 }
+    {
+        let place = id as usize / 64;
+        let word = with_bit(self.layer0[place], id as usize % 64, stands);
+        self.put_word(place, word);
+    }
+
+    /// Adds an index below `MAX_EID`, and tells whether it was there. Where memory is refused the members stay.
+    ///
+    /// It needs no memory where the word at position `id / 64` lies in `layer0_as_slice`, so for no index that is there.
+    #[inline]
+    pub fn add(&mut self, id: Index) -> Result<bool, AllocError>
+        requires { id < MAX_EID }
+        ensures was { IfOk result (λ was. was ≡ has self.old id) }
+        ensures added { OnOk result ((i : ℕ) → has self.new i ≡ (has self.old i || i == id)) }
+        ensures refused { OnErr result ((i : ℕ) → has self.new i ≡ has self.old i) }
+        ensures room { id / 64 < slice_len self.old 0 → IsOk result }
+        ensures keeps { slice_len self.old 0 ≤ slice_len self.new 0 }
+    {
+        if self.contains(id) {
+            return Ok(true);
+        }
+        self.extend(id)?;
+        self.put(id, true);
+        Ok(false)
+    }
+
+    /// Takes an index out, and tells whether it was there.
+    #[inline]
+    pub fn remove(&mut self, id: Index) -> bool
+        ensures was { result ≡ has self.old id }
+        ensures removed { (i : ℕ) → has self.new i ≡ (has self.old i && not (i == id)) }
+        ensures length { slice_len self.new 0 ≡ slice_len self.old 0 }
+    {
+        if !self.contains(id) {
+            return false;
+        }
+        self.put(id, false);
+        true
+    }
+
+    /// Takes all members out, and gives up the words: the three slices have length 0 then.
+    pub fn clear(&mut self)
+        ensures empty { (i : ℕ) → has self.new i ≡ false }
+        ensures lengths { (l : ℕ) → l < LAYERS - 1 → slice_len self.new l ≡ 0 }
+    {
+        self.layer0.clear();
+        self.layer1.clear();
+        self.layer2.clear();
+        self.layer3 = 0;
+    }
+
+    /// The words of layer 0, at least as many as the members need. Past the end all are 0.
+    #[inline]
+    pub fn layer0_as_slice(&self) -> &[usize]
+        ensures length { length result.now ≡ slice_len self.now 0 }
+        ensures words { (p : ℕ) → slice_index_or result.now p 0 ≡ word_of self.now 0 p }
+    {
+        self.layer0.as_slice()
+    }
+
+    /// The words of layer 1, at least as many as the members need. Past the end all are 0.
+    #[inline]
+    pub fn layer1_as_slice(&self) -> &[usize]
+        ensures length { length result.now ≡ slice_len self.now 1 }
+        ensures words { (p : ℕ) → slice_index_or result.now p 0 ≡ word_of self.now 1 p }
+    {
+        self.layer1.as_slice()
+    }
+
+    /// The words of layer 2, at least as many as the members need. Past the end all are 0.
+    #[inline]
+    pub fn layer2_as_slice(&self) -> &[usize]
+        ensures length { length result.now ≡ slice_len self.now 2 }
+        ensures words { (p : ℕ) → slice_index_or result.now p 0 ≡ word_of self.now 2 p }
+    {
+        self.layer2.as_slice()
+    }
+
+    /// Tells whether an index is there.
+    #[inline]
+    pub fn contains(&self, id: Index) -> bool
+        ensures { result ≡ has self.now id }
+    {
+        let index = id as usize;
+        self.layer0(index / 64) >> (index % 64) & 1 == 1
+    }
+}
+
+impl BitSetLike for BitSet {
+    ghost use Rattle.hibitset.specs.BitSet.{has, word_of};
+    ghost use Rattle.hibitset.specs.Stored.{stored_lawful};
+
+    ghost holds = { has };
+
+    ghost word = { word_of };
+
+    ghost lawful = { λ s. stored_lawful LAYERS s.stored };
+
+    #[inline]
+    fn layer3(&self) -> usize {
+        self.layer3
+    }
+
+    #[inline]
+    fn layer2(&self, i: usize) -> usize {
+        self.layer2.get(i).copied().unwrap_or(0)
+    }
+
+    #[inline]
+    fn layer1(&self, i: usize) -> usize {
+        self.layer1.get(i).copied().unwrap_or(0)
+    }
+
+    #[inline]
+    fn layer0(&self, i: usize) -> usize {
+        self.layer0.get(i).copied().unwrap_or(0)
+    }
+
+    #[inline]
+    fn contains(&self, i: Index) -> bool {
+        BitSet::contains(self, i)
+    }
+}
