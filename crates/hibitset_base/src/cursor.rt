@@ -1,5 +1,5 @@
 //! Where a walk stands in the layers of a set, apart from the set.
-ghost use Rattle.std.specs.Prelude.{◌≡◌, ℕ, ◌+◌, ◌-◌, ◌*◌, ◌<◌, ◌≤◌, ◌++◌, ◌∷◌, get_or, true, false};
+ghost use Rattle.std.specs.Prelude.{◌≡◌, ℕ, ◌+◌, ◌-◌, ◌*◌, ◌<◌, ◌≤◌, ◌++◌, ◌∷◌, [], get_or, true, false, MatchOption, IfNone, IfSome, ⊤};
 ghost use Rattle.hibitset_base.specs.Places.{places_left, places_in, bits_from, IsWellFormed, ComesBefore};
 
 use crate::util::BITS;
@@ -65,6 +65,28 @@ impl<const N: usize> Cursor<N> {
         let first_bit = mask.trailing_zeros();
         self.masks[layer] = mask & (mask - 1);
         self.prefix[layer] | first_bit
+    }
+
+    // The lowest layer in which bits are left.
+    #[inline]
+    fn lowest_layer(&self) -> Option<usize>
+        ensures none { IfNone result (IsEmptyBelow self.now N) }
+        ensures lowest { IfSome result (λ layer. (layer < N) × (0 < mask self.now layer) × IsEmptyBelow self.now layer) }
+    {
+        self.masks.iter().position(|mask| *mask != 0)
+    }
+
+    /// Takes the first place that is left, and answers its layer and its position.
+    #[inline]
+    pub(crate) fn take_lowest(&mut self) -> Option<(usize, u32)>
+        ensures taken { MatchOption result (left self.old ≡ []) (λ place. left self.old ≡ (record { layer = place.0; position = place.1 }) ∷ left self.new) }
+        ensures rest { MatchOption result ⊤ (λ place. (place.0 < N) × MayGoOn self.new place.0 place.1) }
+    {
+        let Some(layer) = self.lowest_layer() else {
+            return None;
+        };
+        let position = self.take_first(layer);
+        Some((layer, position))
     }
 
     /// Puts the places of a word's bits in front of those that are left. The word lies in `layer` at `position`, the position that was taken last.

@@ -1,11 +1,14 @@
 //! What every hierarchical bit set offers.
-ghost use Rattle.std.specs.Prelude.{◌≡◌, ℕ, ◌+◌, ◌-◌, ◌^◌, ◌<◌, ◌≤◌, ◌∷◌, Bool};
+ghost use Rattle.std.specs.Prelude.{◌≡◌, ℕ, ◌+◌, ◌-◌, ◌^◌, ◌<◌, ◌≤◌, ◌∷◌, [], Bool, ◌==◌, ◌&&◌, not, IsTrue, ◌↔◌};
 ghost use Rattle.hibitset_base.specs.Members.{members_below};
 ghost use Rattle.hibitset_base.specs.Sets.{IsLawful};
 ghost use Rattle.hibitset_base.specs.Reading.{words_under};
 ghost use Rattle.hibitset_base.specs.Walk.{items_left, words_read, words_ahead, IsDrawn};
+ghost use Rattle.hibitset_base.specs.Drain.{items_to_drain, drained, lender};
 ghost use Rattle.hibitset_base.specs.declared.util.TheConstants.{LAYERS, MAX_EID};
 
+use crate::cursor::Cursor;
+use crate::drain::DrainBitIter;
 use crate::iter::BitIter;
 use crate::util::{Index, LAYERS, MAX_EID};
 
@@ -32,6 +35,22 @@ pub trait BitSetLike {
             2 => self.layer2(idx),
             _ => self.layer3(),
         }
+    }
+
+    /// Tells whether there is no member below `MAX_EID`. It looks at the words down to the first member, and at no word twice.
+    #[inline]
+    fn is_empty(&self) -> bool
+        ensures { IsTrue result ↔ (members_below MAX_EID (holds self.now) ≡ []) }
+    {
+        let mut cursor = Cursor::<LAYERS>::at_top(self.layer3());
+        'places: while let Some((layer, position)) = cursor.take_lowest() {
+            if layer == 0 {
+                return false;
+            }
+            let word = self.get_from_layer(layer - 1, position as usize);
+            cursor.put(layer - 1, position, word);
+        }
+        true
     }
 
     /// The one word of layer 3.
@@ -72,12 +91,37 @@ pub trait BitSetLike {
     ghost lawful: { (s : Self) → IsLawful LAYERS (holds s) (word s) };
 }
 
+/// A set that members can be taken out of.
+pub trait DrainableBitSet: BitSetLike {
+    /// Takes an index out, and tells whether it was there.
+    fn remove(&mut self, i: Index) -> bool
+        ensures was { result ≡ Self.holds self.old i }
+        ensures removed { (j : ℕ) → Self.holds self.new j ≡ (Self.holds self.old j && not (j == i)) };
+
+    /// A walk over the members below `MAX_EID`, in ascending order, that takes out of the set each one that it gives, and no other.
+    #[inline]
+    final fn drain(&mut self) -> DrainBitIter<'_, Self>
+    where
+        Self: Sized,
+        ensures lender { lender result ≡ self.entry.ghost_name }
+        ensures set { drained result ≡ self.old }
+        ensures items { items_to_drain Self.holds result ≡ members_below MAX_EID (Self.holds self.old) }
+    {
+        DrainBitIter::from_top(self)
+    }
+}
+
 impl<T: BitSetLike> BitSetLike for &T {
     ghost holds = { λ s. T.holds s.now };
 
     ghost word = { λ s. T.word s.now };
 
     ghost lawful = { λ s. T.lawful s.now };
+
+    #[inline]
+    fn is_empty(&self) -> bool {
+        (**self).is_empty()
+    }
 
     #[inline]
     fn layer3(&self) -> usize {
@@ -102,5 +146,50 @@ impl<T: BitSetLike> BitSetLike for &T {
     #[inline]
     fn contains(&self, i: Index) -> bool {
         (**self).contains(i)
+    }
+}
+
+impl<T: BitSetLike> BitSetLike for &mut T {
+    ghost holds = { λ s. T.holds s.now };
+
+    ghost word = { λ s. T.word s.now };
+
+    ghost lawful = { λ s. T.lawful s.now };
+
+    #[inline]
+    fn is_empty(&self) -> bool {
+        (**self).is_empty()
+    }
+
+    #[inline]
+    fn layer3(&self) -> usize {
+        (**self).layer3()
+    }
+
+    #[inline]
+    fn layer2(&self, i: usize) -> usize {
+        (**self).layer2(i)
+    }
+
+    #[inline]
+    fn layer1(&self, i: usize) -> usize {
+        (**self).layer1(i)
+    }
+
+    #[inline]
+    fn layer0(&self, i: usize) -> usize {
+        (**self).layer0(i)
+    }
+
+    #[inline]
+    fn contains(&self, i: Index) -> bool {
+        (**self).contains(i)
+    }
+}
+
+impl<T: DrainableBitSet> DrainableBitSet for &mut T {
+    #[inline]
+    fn remove(&mut self, i: Index) -> bool {
+        (**self).remove(i)
     }
 }
