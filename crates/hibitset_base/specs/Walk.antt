@@ -41,7 +41,7 @@ module _ {T : Type 0} where
 
   -- The walk begins at the top of the set: it has all members to give, and one word read.
   pub record Starts (holds : T → ℕ → Bool) (word : T → ℕ → ℕ → ℕ) (set : T) (walk : BitIter T) : Type 0 where
-    pub set : walk.set ≡ set
+    pub over : walk.set ≡ set
     pub items : items_left holds walk ≡ members_below MAX_EID (holds set)
     pub drawn : IsDrawn word walk
     pub read : words_read walk ≡ 1

@@ -8,7 +8,7 @@ use crate::util::Index;
 use crate::virt::{BitSetAll, BitSetAnd, BitSetNot, BitSetOr, BitSetXor};
 use std::ops::{BitAnd, BitOr, BitXor, Not};
 
-impl<A> Not for BitSetNot<A> {
+impl<A: BitSetLike> Not for BitSetNot<A> {
     type Output = BitSetNot<Self>;
 
     ghost not_gives = { λ set result. result.0 ≡ set };
@@ -19,7 +19,7 @@ impl<A> Not for BitSetNot<A> {
     }
 }
 
-impl<A, T> BitAnd<T> for BitSetNot<A> {
+impl<A: BitSetLike, T: BitSetLike> BitAnd<T> for BitSetNot<A> {
     type Output = BitSetAnd<Self, T>;
 
     ghost bitand_gives = { λ set other result. (result.0 ≡ set) × (result.1 ≡ other) };
@@ -30,7 +30,7 @@ impl<A, T> BitAnd<T> for BitSetNot<A> {
     }
 }
 
-impl<A, T> BitOr<T> for BitSetNot<A> {
+impl<A: BitSetLike, T: BitSetLike> BitOr<T> for BitSetNot<A> {
     type Output = BitSetOr<Self, T>;
 
     ghost bitor_gives = { λ set other result. (result.0 ≡ set) × (result.1 ≡ other) };
@@ -41,7 +41,7 @@ impl<A, T> BitOr<T> for BitSetNot<A> {
     }
 }
 
-impl<A, T> BitXor<T> for BitSetNot<A> {
+impl<A: BitSetLike, T: BitSetLike> BitXor<T> for BitSetNot<A> {
     type Output = BitSetXor<Self, T>;
 
     ghost bitxor_gives = { λ set other result. (result.0 ≡ set) × (result.1 ≡ other) };
@@ -65,7 +65,7 @@ impl<A: BitSetLike + Drop> IntoIterator for BitSetNot<A> {
     }
 }
 
-impl<'a, A> Not for &'a BitSetNot<A> {
+impl<'a, A: BitSetLike> Not for &'a BitSetNot<A> {
     type Output = BitSetNot<Self>;
 
     ghost not_gives = { λ set result. result.0 ≡ set };
@@ -76,7 +76,7 @@ impl<'a, A> Not for &'a BitSetNot<A> {
     }
 }
 
-impl<'a, A, T> BitAnd<T> for &'a BitSetNot<A> {
+impl<'a, A: BitSetLike, T: BitSetLike> BitAnd<T> for &'a BitSetNot<A> {
     type Output = BitSetAnd<Self, T>;
 
     ghost bitand_gives = { λ set other result. (result.0 ≡ set) × (result.1 ≡ other) };
@@ -87,7 +87,7 @@ impl<'a, A, T> BitAnd<T> for &'a BitSetNot<A> {
     }
 }
 
-impl<'a, A, T> BitOr<T> for &'a BitSetNot<A> {
+impl<'a, A: BitSetLike, T: BitSetLike> BitOr<T> for &'a BitSetNot<A> {
     type Output = BitSetOr<Self, T>;
 
     ghost bitor_gives = { λ set other result. (result.0 ≡ set) × (result.1 ≡ other) };
@@ -98,7 +98,7 @@ impl<'a, A, T> BitOr<T> for &'a BitSetNot<A> {
     }
 }
 
-impl<'a, A, T> BitXor<T> for &'a BitSetNot<A> {
+impl<'a, A: BitSetLike, T: BitSetLike> BitXor<T> for &'a BitSetNot<A> {
     type Output = BitSetXor<Self, T>;
 
     ghost bitxor_gives = { λ set other result. (result.0 ≡ set) × (result.1 ≡ other) };
@@ -122,7 +122,7 @@ impl<'a, A: BitSetLike> IntoIterator for &'a BitSetNot<A> {
     }
 }
 
-impl<A, B> Not for BitSetAnd<A, B> {
+impl<A: BitSetLike, B: BitSetLike> Not for BitSetAnd<A, B> {
     type Output = BitSetNot<Self>;
 
     ghost not_gives = { λ set result. result.0 ≡ set };
@@ -133,7 +133,7 @@ impl<A, B> Not for BitSetAnd<A, B> {
     }
 }
 
-impl<A, B, T> BitAnd<T> for BitSetAnd<A, B> {
+impl<A: BitSetLike, B: BitSetLike, T: BitSetLike> BitAnd<T> for BitSetAnd<A, B> {
     type Output = BitSetAnd<Self, T>;
 
     ghost bitand_gives = { λ set other result. (result.0 ≡ set) × (result.1 ≡ other) };
@@ -144,7 +144,7 @@ impl<A, B, T> BitAnd<T> for BitSetAnd<A, B> {
     }
 }
 
-impl<A, B, T> BitOr<T> for BitSetAnd<A, B> {
+impl<A: BitSetLike, B: BitSetLike, T: BitSetLike> BitOr<T> for BitSetAnd<A, B> {
     type Output = BitSetOr<Self, T>;
 
     ghost bitor_gives = { λ set other result. (result.0 ≡ set) × (result.1 ≡ other) };
@@ -155,7 +155,7 @@ impl<A, B, T> BitOr<T> for BitSetAnd<A, B> {
     }
 }
 
-impl<A, B, T> BitXor<T> for BitSetAnd<A, B> {
+impl<A: BitSetLike, B: BitSetLike, T: BitSetLike> BitXor<T> for BitSetAnd<A, B> {
     type Output = BitSetXor<Self, T>;
 
     ghost bitxor_gives = { λ set other result. (result.0 ≡ set) × (result.1 ≡ other) };
@@ -179,7 +179,7 @@ impl<A: BitSetLike + Drop, B: BitSetLike + Drop> IntoIterator for BitSetAnd<A, B
     }
 }
 
-impl<'a, A, B> Not for &'a BitSetAnd<A, B> {
+impl<'a, A: BitSetLike, B: BitSetLike> Not for &'a BitSetAnd<A, B> {
     type Output = BitSetNot<Self>;
 
     ghost not_gives = { λ set result. result.0 ≡ set };
@@ -190,7 +190,7 @@ impl<'a, A, B> Not for &'a BitSetAnd<A, B> {
     }
 }
 
-impl<'a, A, B, T> BitAnd<T> for &'a BitSetAnd<A, B> {
+impl<'a, A: BitSetLike, B: BitSetLike, T: BitSetLike> BitAnd<T> for &'a BitSetAnd<A, B> {
     type Output = BitSetAnd<Self, T>;
 
     ghost bitand_gives = { λ set other result. (result.0 ≡ set) × (result.1 ≡ other) };
@@ -201,7 +201,7 @@ impl<'a, A, B, T> BitAnd<T> for &'a BitSetAnd<A, B> {
     }
 }
 
-impl<'a, A, B, T> BitOr<T> for &'a BitSetAnd<A, B> {
+impl<'a, A: BitSetLike, B: BitSetLike, T: BitSetLike> BitOr<T> for &'a BitSetAnd<A, B> {
     type Output = BitSetOr<Self, T>;
 
     ghost bitor_gives = { λ set other result. (result.0 ≡ set) × (result.1 ≡ other) };
@@ -212,7 +212,7 @@ impl<'a, A, B, T> BitOr<T> for &'a BitSetAnd<A, B> {
     }
 }
 
-impl<'a, A, B, T> BitXor<T> for &'a BitSetAnd<A, B> {
+impl<'a, A: BitSetLike, B: BitSetLike, T: BitSetLike> BitXor<T> for &'a BitSetAnd<A, B> {
     type Output = BitSetXor<Self, T>;
 
     ghost bitxor_gives = { λ set other result. (result.0 ≡ set) × (result.1 ≡ other) };
@@ -236,7 +236,7 @@ impl<'a, A: BitSetLike, B: BitSetLike> IntoIterator for &'a BitSetAnd<A, B> {
     }
 }
 
-impl<A, B> Not for BitSetOr<A, B> {
+impl<A: BitSetLike, B: BitSetLike> Not for BitSetOr<A, B> {
     type Output = BitSetNot<Self>;
 
     ghost not_gives = { λ set result. result.0 ≡ set };
@@ -247,7 +247,7 @@ impl<A, B> Not for BitSetOr<A, B> {
     }
 }
 
-impl<A, B, T> BitAnd<T> for BitSetOr<A, B> {
+impl<A: BitSetLike, B: BitSetLike, T: BitSetLike> BitAnd<T> for BitSetOr<A, B> {
     type Output = BitSetAnd<Self, T>;
 
     ghost bitand_gives = { λ set other result. (result.0 ≡ set) × (result.1 ≡ other) };
@@ -258,7 +258,7 @@ impl<A, B, T> BitAnd<T> for BitSetOr<A, B> {
     }
 }
 
-impl<A, B, T> BitOr<T> for BitSetOr<A, B> {
+impl<A: BitSetLike, B: BitSetLike, T: BitSetLike> BitOr<T> for BitSetOr<A, B> {
     type Output = BitSetOr<Self, T>;
 
     ghost bitor_gives = { λ set other result. (result.0 ≡ set) × (result.1 ≡ other) };
@@ -269,7 +269,7 @@ impl<A, B, T> BitOr<T> for BitSetOr<A, B> {
     }
 }
 
-impl<A, B, T> BitXor<T> for BitSetOr<A, B> {
+impl<A: BitSetLike, B: BitSetLike, T: BitSetLike> BitXor<T> for BitSetOr<A, B> {
     type Output = BitSetXor<Self, T>;
 
     ghost bitxor_gives = { λ set other result. (result.0 ≡ set) × (result.1 ≡ other) };
@@ -293,7 +293,7 @@ impl<A: BitSetLike + Drop, B: BitSetLike + Drop> IntoIterator for BitSetOr<A, B>
     }
 }
 
-impl<'a, A, B> Not for &'a BitSetOr<A, B> {
+impl<'a, A: BitSetLike, B: BitSetLike> Not for &'a BitSetOr<A, B> {
     type Output = BitSetNot<Self>;
 
     ghost not_gives = { λ set result. result.0 ≡ set };
@@ -304,7 +304,7 @@ impl<'a, A, B> Not for &'a BitSetOr<A, B> {
     }
 }
 
-impl<'a, A, B, T> BitAnd<T> for &'a BitSetOr<A, B> {
+impl<'a, A: BitSetLike, B: BitSetLike, T: BitSetLike> BitAnd<T> for &'a BitSetOr<A, B> {
     type Output = BitSetAnd<Self, T>;
 
     ghost bitand_gives = { λ set other result. (result.0 ≡ set) × (result.1 ≡ other) };
@@ -315,7 +315,7 @@ impl<'a, A, B, T> BitAnd<T> for &'a BitSetOr<A, B> {
     }
 }
 
-impl<'a, A, B, T> BitOr<T> for &'a BitSetOr<A, B> {
+impl<'a, A: BitSetLike, B: BitSetLike, T: BitSetLike> BitOr<T> for &'a BitSetOr<A, B> {
     type Output = BitSetOr<Self, T>;
 
     ghost bitor_gives = { λ set other result. (result.0 ≡ set) × (result.1 ≡ other) };
@@ -326,7 +326,7 @@ impl<'a, A, B, T> BitOr<T> for &'a BitSetOr<A, B> {
     }
 }
 
-impl<'a, A, B, T> BitXor<T> for &'a BitSetOr<A, B> {
+impl<'a, A: BitSetLike, B: BitSetLike, T: BitSetLike> BitXor<T> for &'a BitSetOr<A, B> {
     type Output = BitSetXor<Self, T>;
 
     ghost bitxor_gives = { λ set other result. (result.0 ≡ set) × (result.1 ≡ other) };
@@ -350,7 +350,7 @@ impl<'a, A: BitSetLike, B: BitSetLike> IntoIterator for &'a BitSetOr<A, B> {
     }
 }
 
-impl<A, B> Not for BitSetXor<A, B> {
+impl<A: BitSetLike, B: BitSetLike> Not for BitSetXor<A, B> {
     type Output = BitSetNot<Self>;
 
     ghost not_gives = { λ set result. result.0 ≡ set };
@@ -361,7 +361,7 @@ impl<A, B> Not for BitSetXor<A, B> {
     }
 }
 
-impl<A, B, T> BitAnd<T> for BitSetXor<A, B> {
+impl<A: BitSetLike, B: BitSetLike, T: BitSetLike> BitAnd<T> for BitSetXor<A, B> {
     type Output = BitSetAnd<Self, T>;
 
     ghost bitand_gives = { λ set other result. (result.0 ≡ set) × (result.1 ≡ other) };
@@ -372,7 +372,7 @@ impl<A, B, T> BitAnd<T> for BitSetXor<A, B> {
     }
 }
 
-impl<A, B, T> BitOr<T> for BitSetXor<A, B> {
+impl<A: BitSetLike, B: BitSetLike, T: BitSetLike> BitOr<T> for BitSetXor<A, B> {
     type Output = BitSetOr<Self, T>;
 
     ghost bitor_gives = { λ set other result. (result.0 ≡ set) × (result.1 ≡ other) };
@@ -383,7 +383,7 @@ impl<A, B, T> BitOr<T> for BitSetXor<A, B> {
     }
 }
 
-impl<A, B, T> BitXor<T> for BitSetXor<A, B> {
+impl<A: BitSetLike, B: BitSetLike, T: BitSetLike> BitXor<T> for BitSetXor<A, B> {
     type Output = BitSetXor<Self, T>;
 
     ghost bitxor_gives = { λ set other result. (result.0 ≡ set) × (result.1 ≡ other) };
@@ -407,7 +407,7 @@ impl<A: BitSetLike + Drop, B: BitSetLike + Drop> IntoIterator for BitSetXor<A, B
     }
 }
 
-impl<'a, A, B> Not for &'a BitSetXor<A, B> {
+impl<'a, A: BitSetLike, B: BitSetLike> Not for &'a BitSetXor<A, B> {
     type Output = BitSetNot<Self>;
 
     ghost not_gives = { λ set result. result.0 ≡ set };
@@ -418,7 +418,7 @@ impl<'a, A, B> Not for &'a BitSetXor<A, B> {
     }
 }
 
-impl<'a, A, B, T> BitAnd<T> for &'a BitSetXor<A, B> {
+impl<'a, A: BitSetLike, B: BitSetLike, T: BitSetLike> BitAnd<T> for &'a BitSetXor<A, B> {
     type Output = BitSetAnd<Self, T>;
 
     ghost bitand_gives = { λ set other result. (result.0 ≡ set) × (result.1 ≡ other) };
@@ -429,7 +429,7 @@ impl<'a, A, B, T> BitAnd<T> for &'a BitSetXor<A, B> {
     }
 }
 
-impl<'a, A, B, T> BitOr<T> for &'a BitSetXor<A, B> {
+impl<'a, A: BitSetLike, B: BitSetLike, T: BitSetLike> BitOr<T> for &'a BitSetXor<A, B> {
     type Output = BitSetOr<Self, T>;
 
     ghost bitor_gives = { λ set other result. (result.0 ≡ set) × (result.1 ≡ other) };
@@ -440,7 +440,7 @@ impl<'a, A, B, T> BitOr<T> for &'a BitSetXor<A, B> {
     }
 }
 
-impl<'a, A, B, T> BitXor<T> for &'a BitSetXor<A, B> {
+impl<'a, A: BitSetLike, B: BitSetLike, T: BitSetLike> BitXor<T> for &'a BitSetXor<A, B> {
     type Output = BitSetXor<Self, T>;
 
     ghost bitxor_gives = { λ set other result. (result.0 ≡ set) × (result.1 ≡ other) };
@@ -475,7 +475,7 @@ impl Not for BitSetAll {
     }
 }
 
-impl<T> BitAnd<T> for BitSetAll {
+impl<T: BitSetLike> BitAnd<T> for BitSetAll {
     type Output = BitSetAnd<Self, T>;
 
     ghost bitand_gives = { λ set other result. (result.0 ≡ set) × (result.1 ≡ other) };
@@ -486,7 +486,7 @@ impl<T> BitAnd<T> for BitSetAll {
     }
 }
 
-impl<T> BitOr<T> for BitSetAll {
+impl<T: BitSetLike> BitOr<T> for BitSetAll {
     type Output = BitSetOr<Self, T>;
 
     ghost bitor_gives = { λ set other result. (result.0 ≡ set) × (result.1 ≡ other) };
@@ -497,7 +497,7 @@ impl<T> BitOr<T> for BitSetAll {
     }
 }
 
-impl<T> BitXor<T> for BitSetAll {
+impl<T: BitSetLike> BitXor<T> for BitSetAll {
     type Output = BitSetXor<Self, T>;
 
     ghost bitxor_gives = { λ set other result. (result.0 ≡ set) × (result.1 ≡ other) };
@@ -532,7 +532,7 @@ impl<'a> Not for &'a BitSetAll {
     }
 }
 
-impl<'a, T> BitAnd<T> for &'a BitSetAll {
+impl<'a, T: BitSetLike> BitAnd<T> for &'a BitSetAll {
     type Output = BitSetAnd<Self, T>;
 
     ghost bitand_gives = { λ set other result. (result.0 ≡ set) × (result.1 ≡ other) };
@@ -543,7 +543,7 @@ impl<'a, T> BitAnd<T> for &'a BitSetAll {
     }
 }
 
-impl<'a, T> BitOr<T> for &'a BitSetAll {
+impl<'a, T: BitSetLike> BitOr<T> for &'a BitSetAll {
     type Output = BitSetOr<Self, T>;
 
     ghost bitor_gives = { λ set other result. (result.0 ≡ set) × (result.1 ≡ other) };
@@ -554,7 +554,7 @@ impl<'a, T> BitOr<T> for &'a BitSetAll {
     }
 }
 
-impl<'a, T> BitXor<T> for &'a BitSetAll {
+impl<'a, T: BitSetLike> BitXor<T> for &'a BitSetAll {
     type Output = BitSetXor<Self, T>;
 
     ghost bitxor_gives = { λ set other result. (result.0 ≡ set) × (result.1 ≡ other) };

@@ -10,7 +10,7 @@ use crate::util::Index;
 
 /// The intersection of two sets: the indices that are in both.
 #[derive(Debug, Drop)]
-pub struct BitSetAnd<A, B>(pub A, pub B);
+pub struct BitSetAnd<A: BitSetLike, B: BitSetLike>(pub A, pub B);
 
 impl<A: BitSetLike, B: BitSetLike> BitSetLike for BitSetAnd<A, B> {
     ghost holds = { λ s i. A.holds s.0 i && B.holds s.1 i };
@@ -65,7 +65,7 @@ impl<A: DrainableBitSet, B: DrainableBitSet> DrainableBitSet for BitSetAnd<A, B>
 
 /// The union of two sets: the indices that are in at least one.
 #[derive(Debug, Drop)]
-pub struct BitSetOr<A, B>(pub A, pub B);
+pub struct BitSetOr<A: BitSetLike, B: BitSetLike>(pub A, pub B);
 
 impl<A: BitSetLike, B: BitSetLike> BitSetLike for BitSetOr<A, B> {
     ghost holds = { λ s i. A.holds s.0 i || B.holds s.1 i };
@@ -117,7 +117,7 @@ impl<A: DrainableBitSet, B: DrainableBitSet> DrainableBitSet for BitSetOr<A, B> 
 
 /// The symmetric difference of two sets: the indices that are in one and not in the other.
 #[derive(Debug, Drop)]
-pub struct BitSetXor<A, B>(pub A, pub B);
+pub struct BitSetXor<A: BitSetLike, B: BitSetLike>(pub A, pub B);
 
 impl<A: BitSetLike, B: BitSetLike> BitSetLike for BitSetXor<A, B> {
     ghost holds = { λ s i. differ (A.holds s.0 i) (B.holds s.1 i) };
@@ -154,7 +154,7 @@ impl<A: BitSetLike, B: BitSetLike> BitSetLike for BitSetXor<A, B> {
 
 /// The complement of a set: the indices that are not in it. It has every index from `MAX_EID` on that its operand lacks, but a walk stops below.
 #[derive(Debug, Drop)]
-pub struct BitSetNot<A>(pub A);
+pub struct BitSetNot<A: BitSetLike>(pub A);
 
 impl<A: BitSetLike> BitSetLike for BitSetNot<A> {
     ghost holds = { λ s i. not (A.holds s.0 i) };
