@@ -9,3 +9,4 @@ pub mod Going
 pub mod Descending
 pub mod Stepping
 pub mod Draining
+pub mod Bounds

@@ -10,6 +10,10 @@ use Rattle.hibitset_base.specs.declared.iter.BitIter.{BitIter}
 use Rattle.hibitset_base.specs.declared.util.TheConstants.{LAYERS, MAX_EID}
 
 module _ {T : Type 0} where
+  -- the set that is walked over
+  abbrev pub set_of : BitIter T → T
+  set_of walk = walk.set
+
   -- the items that the walk has still to give, in order
   abbrev pub items_left : (T → ℕ → Bool) → BitIter T → List ℕ
   items_left holds walk = items_of (holds walk.set) (left walk.cursor)
@@ -28,7 +32,7 @@ module _ {T : Type 0} where
 
   -- What a walk keeps at each step: its set, which words it reads, that it is drawn, and over exact summaries few reads.
   pub record KeepsOn (word : T → ℕ → ℕ → ℕ) (old new : BitIter T) : Type 0 where
-    pub set : new.set ≡ old.set
+    pub set : set_of new ≡ set_of old
     pub read : List Place
     pub ahead : words_ahead word old ≡ read ++ words_ahead word new
     pub count : words_read new ≡ words_read old + length read
@@ -41,7 +45,7 @@ module _ {T : Type 0} where
 
   -- The walk begins at the top of the set: it has all members to give, and one word read.
   pub record Starts (holds : T → ℕ → Bool) (word : T → ℕ → ℕ → ℕ) (set : T) (walk : BitIter T) : Type 0 where
-    pub over : walk.set ≡ set
+    pub over : set_of walk ≡ set
     pub items : items_left holds walk ≡ members_below MAX_EID (holds set)
     pub drawn : IsDrawn word walk
     pub read : words_read walk ≡ 1

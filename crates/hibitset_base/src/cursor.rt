@@ -5,7 +5,7 @@ ghost use Rattle.hibitset_base.specs.Places.{places_left, places_in, bits_from, 
 use crate::util::BITS;
 
 /// The bits that a walk has left: a mask a layer from the lowest up, and the position of each mask's first bit. One serves every walk, over a set of any number of layers.
-#[derive(Drop)]
+#[derive(Debug, Drop)]
 pub struct Cursor<const N: usize> {
     pub(crate) masks: [usize; N],
     pub(crate) prefix: [u32; N],
@@ -25,6 +25,17 @@ impl<const N: usize> Cursor<N> {
         ensures prefix { result.prefix ≡ prefix.entry }
     {
         Cursor { masks, prefix }
+    }
+
+    /// A cursor at the same places.
+    #[inline]
+    pub(crate) fn copied(&self) -> Self
+        ensures { left result ≡ left self.now }
+    {
+        Cursor {
+            masks: self.masks,
+            prefix: self.prefix,
+        }
     }
 
     /// A cursor that has the bits of one word left, the whole top layer.

@@ -2,8 +2,8 @@
 ghost use Rattle.std.specs.Prelude.{◌≡◌, ℕ, ◌+◌, ◌-◌, ◌^◌, ◌<◌, ◌≤◌, ◌∷◌, [], Bool, ◌==◌, ◌&&◌, not, IsTrue, ◌↔◌};
 ghost use Rattle.hibitset_base.specs.Members.{members_below};
 ghost use Rattle.hibitset_base.specs.Sets.{IsLawful};
-ghost use Rattle.hibitset_base.specs.Reading.{words_under};
-ghost use Rattle.hibitset_base.specs.Walk.{items_left, words_read, words_ahead, IsDrawn};
+ghost use Rattle.hibitset_base.specs.Reading.{words_under, Encloses, IsBoundBy};
+ghost use Rattle.hibitset_base.specs.Walk.{set_of, items_left, words_read, words_ahead, IsDrawn};
 ghost use Rattle.hibitset_base.specs.Drain.{items_to_drain, drained, lender};
 ghost use Rattle.hibitset_base.specs.declared.util.TheConstants.{LAYERS, MAX_EID};
 
@@ -73,15 +73,16 @@ pub trait BitSetLike {
     fn contains(&self, i: Index) -> bool
         ensures { result ≡ holds self.now i };
 
-    /// A walk over the members below `MAX_EID`, in ascending order. It reads one word of the set now, and the others as it goes.
+    /// A walk over the members below `MAX_EID`, in ascending order. It reads one word of the set now, and the others as it goes: over a set with exact summaries at most three for each member, and all in the ranges of members. The same holds of a set whose words lie within those of one with exact summaries, as an intersection's do.
     #[inline]
     final fn iter(self) -> BitIter<Self>
     where
         Self: Sized,
-        ensures set { result.set ≡ self }
+        ensures set { set_of result ≡ self }
         ensures items { items_left holds result ≡ members_below MAX_EID (holds self) }
         ensures drawn { IsDrawn word result }
         ensures read { words_read result ≡ 1 }
+        ensures bound { (p : ℕ → Bool) (a : ℕ → ℕ → ℕ) → Encloses LAYERS p a (word self) → IsBoundBy LAYERS p (words_ahead word result) }
         ensures ahead { words_under (word self) LAYERS 0 ≡ (record { layer = LAYERS - 1; position = 0 }) ∷ words_ahead word result }
     {
         BitIter::from_top(self)

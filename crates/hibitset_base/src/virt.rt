@@ -1,16 +1,32 @@
 //! Sets that are made of other sets without copying. Each word is made of the operands' words when it is asked for.
 //!
 //! A bit above layer 0 may stand over a word that is 0 in `BitSetAnd`, `BitSetXor`, `BitSetNot` and whatever is built over them.
-ghost use Rattle.std.specs.Prelude.{◌≡◌, ℕ, Bool, true, ◌==◌, ◌&&◌, ◌||◌, not, bit_and, bit_or};
+ghost use Rattle.std.specs.Prelude.{◌≡◌, ℕ, Bool, true, ◌==◌, ◌&&◌, ◌||◌, not, bit_and, bit_or, IfOk, IsOk};
+ghost use Rattle.hibitset_base.specs.Sets.{SameSet, ClonesToSame};
 ghost use Rattle.hibitset_base.specs.Virtual.{differ, xor_word, not_word, all_ones, and_lawful, or_lawful, xor_lawful, not_lawful, all_lawful};
 ghost use Rattle.hibitset_base.specs.declared.util.TheConstants.{LAYERS};
 
 use crate::like::{BitSetLike, DrainableBitSet};
 use crate::util::Index;
+use std::alloc::AllocError;
 
 /// The intersection of two sets: the indices that are in both.
 #[derive(Debug, Drop)]
 pub struct BitSetAnd<A: BitSetLike, B: BitSetLike>(pub A, pub B);
+
+impl<A: BitSetLike + Clone, B: BitSetLike + Clone> BitSetAnd<A, B> {
+    /// The same set over clones of the operands. It takes no memory but what cloning them takes.
+    ///
+    /// A clone of an operand is the same set.
+    pub fn clone(&self) -> Result<Self, AllocError>
+        requires first { ClonesToSame A.is_clone A.holds self.now.0 }
+        requires second { ClonesToSame B.is_clone B.holds self.now.1 }
+        ensures same { IfOk result (λ copy. SameSet (⟦<Self as BitSetLike>⟧.holds self.now) (⟦<Self as BitSetLike>⟧.holds copy)) }
+        ensures refused { A.is_infallible self.now.0 → B.is_infallible self.now.1 → IsOk result }
+    {
+        Ok(BitSetAnd(self.0.clone()?, self.1.clone()?))
+    }
+}
 
 impl<A: BitSetLike, B: BitSetLike> BitSetLike for BitSetAnd<A, B> {
     ghost holds = { λ s i. A.holds s.0 i && B.holds s.1 i };
@@ -67,6 +83,20 @@ impl<A: DrainableBitSet, B: DrainableBitSet> DrainableBitSet for BitSetAnd<A, B>
 #[derive(Debug, Drop)]
 pub struct BitSetOr<A: BitSetLike, B: BitSetLike>(pub A, pub B);
 
+impl<A: BitSetLike + Clone, B: BitSetLike + Clone> BitSetOr<A, B> {
+    /// The same set over clones of the operands. It takes no memory but what cloning them takes.
+    ///
+    /// A clone of an operand is the same set.
+    pub fn clone(&self) -> Result<Self, AllocError>
+        requires first { ClonesToSame A.is_clone A.holds self.now.0 }
+        requires second { ClonesToSame B.is_clone B.holds self.now.1 }
+        ensures same { IfOk result (λ copy. SameSet (⟦<Self as BitSetLike>⟧.holds self.now) (⟦<Self as BitSetLike>⟧.holds copy)) }
+        ensures refused { A.is_infallible self.now.0 → B.is_infallible self.now.1 → IsOk result }
+    {
+        Ok(BitSetOr(self.0.clone()?, self.1.clone()?))
+    }
+}
+
 impl<A: BitSetLike, B: BitSetLike> BitSetLike for BitSetOr<A, B> {
     ghost holds = { λ s i. A.holds s.0 i || B.holds s.1 i };
 
@@ -119,6 +149,20 @@ impl<A: DrainableBitSet, B: DrainableBitSet> DrainableBitSet for BitSetOr<A, B> 
 #[derive(Debug, Drop)]
 pub struct BitSetXor<A: BitSetLike, B: BitSetLike>(pub A, pub B);
 
+impl<A: BitSetLike + Clone, B: BitSetLike + Clone> BitSetXor<A, B> {
+    /// The same set over clones of the operands. It takes no memory but what cloning them takes.
+    ///
+    /// A clone of an operand is the same set.
+    pub fn clone(&self) -> Result<Self, AllocError>
+        requires first { ClonesToSame A.is_clone A.holds self.now.0 }
+        requires second { ClonesToSame B.is_clone B.holds self.now.1 }
+        ensures same { IfOk result (λ copy. SameSet (⟦<Self as BitSetLike>⟧.holds self.now) (⟦<Self as BitSetLike>⟧.holds copy)) }
+        ensures refused { A.is_infallible self.now.0 → B.is_infallible self.now.1 → IsOk result }
+    {
+        Ok(BitSetXor(self.0.clone()?, self.1.clone()?))
+    }
+}
+
 impl<A: BitSetLike, B: BitSetLike> BitSetLike for BitSetXor<A, B> {
     ghost holds = { λ s i. differ (A.holds s.0 i) (B.holds s.1 i) };
 
@@ -156,6 +200,19 @@ impl<A: BitSetLike, B: BitSetLike> BitSetLike for BitSetXor<A, B> {
 #[derive(Debug, Drop)]
 pub struct BitSetNot<A: BitSetLike>(pub A);
 
+impl<A: BitSetLike + Clone> BitSetNot<A> {
+    /// The same set over a clone of the operand. It takes no memory but what cloning it takes.
+    ///
+    /// A clone of the operand is the same set.
+    pub fn clone(&self) -> Result<Self, AllocError>
+        requires { ClonesToSame A.is_clone A.holds self.now.0 }
+        ensures same { IfOk result (λ copy. SameSet (⟦<Self as BitSetLike>⟧.holds self.now) (⟦<Self as BitSetLike>⟧.holds copy)) }
+        ensures refused { A.is_infallible self.now.0 → IsOk result }
+    {
+        Ok(BitSetNot(self.0.clone()?))
+    }
+}
+
 impl<A: BitSetLike> BitSetLike for BitSetNot<A> {
     ghost holds = { λ s i. not (A.holds s.0 i) };
 
@@ -192,6 +249,15 @@ impl<A: BitSetLike> BitSetLike for BitSetNot<A> {
 /// The set of all indices. A walk stops below `MAX_EID`.
 #[derive(Debug, Drop)]
 pub struct BitSetAll;
+
+impl BitSetAll {
+    /// The same set. It takes no memory.
+    pub fn clone(&self) -> Result<Self, AllocError>
+        ensures { IsOk result }
+    {
+        Ok(BitSetAll)
+    }
+}
 
 impl BitSetLike for BitSetAll {
     ghost holds = { λ s i. true };
