@@ -1,8 +1,14 @@
 //! Hierarchical bit sets: sets of `u32` indices that are walked fast, combined without copying, and proved.
 #![tactic(auto)]
 
+pub mod ops;
 pub mod set;
 
-pub use hibitset_base::{BitIter, BitSetLike, Index};
-pub use hibitset_base::{iter, like, util};
+pub use hibitset_base::drain;
+pub use hibitset_base::iter;
+pub use hibitset_base::like;
+pub use hibitset_base::util;
+pub use hibitset_base::virt;
+pub use hibitset_base::{BitIter, BitSetLike, DrainBitIter, DrainableBitSet, Index};
+pub use hibitset_base::{BitSetAll, BitSetAnd, BitSetNot, BitSetOr, BitSetXor};
 pub use set::BitSet;

@@ -179,7 +179,7 @@ impl<T: BitSetLike> BitIter<T> {
     }
 }
 
-impl<T: BitSetLike + Drop> Iterator for BitIter<T> {
+impl<T: BitSetLike> Iterator for BitIter<T> {
     type Item = Index;
 
     ghost next_gives = { WalkSteps T.holds T.word };

@@ -15,7 +15,7 @@ use crate::util::{Index, LAYERS, MAX_EID};
 /// A set of indices that is kept, or made on demand, as words in four layers.
 ///
 /// Bit `b` of word `w` of layer 0 stands for the index `64 * w + b`. A bit of layer 1, 2 or 3 stands for one word of the layer below, and layer 3 is one word. Over each word that is not 0 the bit in the layer above stands; it may also stand over a word that is 0. Each implementation proves this, and all that is generic rests on it alone.
-pub trait BitSetLike {
+pub trait BitSetLike: Drop {
     // Holds of the numbers that are in the set. Its members are those below `MAX_EID`.
     ghost holds: { Self → ℕ → Bool };
 

@@ -52,7 +52,7 @@ impl<A: BitSetLike, T: BitSetLike> BitXor<T> for BitSetNot<A> {
     }
 }
 
-impl<A: BitSetLike + Drop> IntoIterator for BitSetNot<A> {
+impl<A: BitSetLike> IntoIterator for BitSetNot<A> {
     type Item = Index;
 
     type IntoIter = BitIter<Self>;
@@ -166,7 +166,7 @@ impl<A: BitSetLike, B: BitSetLike, T: BitSetLike> BitXor<T> for BitSetAnd<A, B> 
     }
 }
 
-impl<A: BitSetLike + Drop, B: BitSetLike + Drop> IntoIterator for BitSetAnd<A, B> {
+impl<A: BitSetLike, B: BitSetLike> IntoIterator for BitSetAnd<A, B> {
     type Item = Index;
 
     type IntoIter = BitIter<Self>;
@@ -280,7 +280,7 @@ impl<A: BitSetLike, B: BitSetLike, T: BitSetLike> BitXor<T> for BitSetOr<A, B> {
     }
 }
 
-impl<A: BitSetLike + Drop, B: BitSetLike + Drop> IntoIterator for BitSetOr<A, B> {
+impl<A: BitSetLike, B: BitSetLike> IntoIterator for BitSetOr<A, B> {
     type Item = Index;
 
     type IntoIter = BitIter<Self>;
@@ -394,7 +394,7 @@ impl<A: BitSetLike, B: BitSetLike, T: BitSetLike> BitXor<T> for BitSetXor<A, B> 
     }
 }
 
-impl<A: BitSetLike + Drop, B: BitSetLike + Drop> IntoIterator for BitSetXor<A, B> {
+impl<A: BitSetLike, B: BitSetLike> IntoIterator for BitSetXor<A, B> {
     type Item = Index;
 
     type IntoIter = BitIter<Self>;
