@@ -1,3 +1,4 @@
 pub mod Words
 pub mod Stored
 pub mod BitSet
+pub mod Strangers
