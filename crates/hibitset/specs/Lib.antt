@@ -5,3 +5,4 @@ pub mod Merging
 pub mod Operators
 pub mod Comparing
 pub mod Laws
+pub mod Building

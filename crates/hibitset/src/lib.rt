@@ -2,6 +2,7 @@
 #![tactic(auto)]
 
 pub mod assign;
+pub mod build;
 mod bits;
 mod compare;
 pub mod laws;
