@@ -9,5 +9,6 @@ pub mod laws;
 mod operator;
 pub mod set;
 
+pub use build::BuildError;
 pub use hibitset_base::{BitIter, BitSetLike, Index, iter, like, util};
 pub use set::BitSet;
