@@ -5,7 +5,7 @@ use Rattle.std.proofs.Common.{arith, lit<, ap, sym, ◌∙◌}
 use Rattle.std.proofs.lemmas.Bool.Decides.{nat_tests}
 use Rattle.std.proofs.lemmas.Nat.Bits.{bit_at-lt, bit_at-zero, same_from_bits_below}
 use Rattle.hibitset_base.specs.Sets.{bit_of}
-use Rattle.hibitset.specs.Operators.{differ}
+use Rattle.hibitset_base.specs.Virtual.{differ}
 
 -- ours has what theirs has
 abbrev pub includes : Bool → Bool → Bool

@@ -2,7 +2,7 @@
 use Rattle.std.specs.Prelude.{◌≡◌, ℕ, ◌<◌, Bool, true}
 use Rattle.hibitset_base.specs.declared.util.TheConstants.{MAX_EID}
 use Rattle.hibitset.specs.BitSet.{has}
-use Rattle.hibitset.specs.Operators.{differ}
+use Rattle.hibitset_base.specs.Virtual.{differ}
 use Rattle.hibitset.specs.declared.set.BitSet.{BitSet}
 
 -- both have the same members

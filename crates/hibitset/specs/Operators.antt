@@ -1,15 +1,11 @@
 -- The words of two sets put together by and, or, exclusive or.
-use Rattle.std.specs.Prelude.{◌≡◌, ℕ, zero, suc, ◌+◌, ◌%◌, ◌<◌, Bool, true, false, ◌==◌, ◌&&◌, ◌||◌, not, bit_and, bit_or, bit_xor, min, max, refl}
+use Rattle.std.specs.Prelude.{◌≡◌, ℕ, zero, suc, ◌+◌, ◌%◌, ◌<◌, Bool, true, false, ◌==◌, ◌&&◌, ◌||◌, bit_and, bit_or, bit_xor, min, max, refl}
 use Rattle.std.specs.Int.{bit_at}
 use Rattle.std.specs.Int.Bits.{or_zero_r, xor_zero_r, and_zero_l}
 use Rattle.std.proofs.Common.{arith, ◌∙◌}
 use Rattle.std.proofs.lemmas.Nat.Bits.{bit_at_and, bit_at_or, bit_at_xor, bit_at-lt, bit_at-zero}
 use Rattle.hibitset_base.specs.Sets.{IsLawful, bit_of}
-
--- one of two holds, and not both
-abbrev pub differ : Bool → Bool → Bool
-differ true b = not b
-differ false b = b
+use Rattle.hibitset_base.specs.Virtual.{differ}
 
 -- a test of two bits, by the four cases
 by_bits : (f : ℕ → ℕ → ℕ) (g : Bool → Bool → Bool) → f 0 0 ≡ bit_of (g false false) → f 0 1 ≡ bit_of (g false true) → f 1 0 ≡ bit_of (g true false) → f 1 1 ≡ bit_of (g true true)

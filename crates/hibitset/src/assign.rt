@@ -4,7 +4,8 @@ ghost use Rattle.std.specs.Int.{bit_at};
 ghost use Rattle.hibitset_base.specs.Sets.{bit_of};
 ghost use Rattle.hibitset.specs.BitSet.{has, word_of, slice_len};
 ghost use Rattle.hibitset.specs.Merging.{AreWords, MergedUnder, MergedAt, Summarizes, Covers};
-ghost use Rattle.hibitset.specs.Operators.{differ, none_lawful};
+ghost use Rattle.hibitset_base.specs.Virtual.{differ};
+ghost use Rattle.hibitset.specs.Operators.{none_lawful};
 ghost use Rattle.hibitset_base.specs.declared.util.TheConstants.{LAYERS, MAX_EID};
 
 use crate::bits::{last_bit, take_bit};

@@ -2,7 +2,8 @@
 ghost use Rattle.std.specs.Prelude.{◌≡◌, ℕ, ◌<◌, ◌==◌, ◌||◌, ◌&&◌, Bool, bit_and, bit_or, bit_xor, refl};
 ghost use Rattle.std.specs.Int.{bit_at};
 ghost use Rattle.hibitset_base.specs.Sets.{bit_of};
-ghost use Rattle.hibitset.specs.Operators.{differ, and_bits, and_keeps, or_bits, or_keeps, xor_bits, xor_keeps};
+ghost use Rattle.hibitset_base.specs.Virtual.{differ};
+ghost use Rattle.hibitset.specs.Operators.{and_bits, and_keeps, or_bits, or_keeps, xor_bits, xor_keeps};
 
 // An operator on two sets, by its words.
 pub(crate) trait Operator {

@@ -5,7 +5,7 @@ ghost use Rattle.hibitset_base.specs.Sets.{IsExact, bit_of};
 ghost use Rattle.hibitset.specs.Words.{IsStored, word_at, holds_at};
 ghost use Rattle.hibitset_base.specs.declared.util.TheConstants.{LAYERS, MAX_EID};
 
-use hibitset_base::like::BitSetLike;
+use hibitset_base::like::{BitSetLike, DrainableBitSet};
 use hibitset_base::util::{Index, LAYERS, MAX_EID, offsets};
 use std::alloc::{AllocError, Global};
 
@@ -243,6 +243,11 @@ impl BitSetLike for BitSet {
     ghost lawful = { λ s. stored_lawful LAYERS s.stored };
 
     #[inline]
+    fn is_empty(&self) -> bool {
+        self.layer3 == 0
+    }
+
+    #[inline]
     fn layer3(&self) -> usize {
         self.layer3
     }
@@ -265,6 +270,13 @@ impl BitSetLike for BitSet {
     #[inline]
     fn contains(&self, i: Index) -> bool {
         BitSet::contains(self, i)
+    }
+}
+
+impl DrainableBitSet for BitSet {
+    #[inline]
+    fn remove(&mut self, i: Index) -> bool {
+        BitSet::remove(self, i)
     }
 }
 

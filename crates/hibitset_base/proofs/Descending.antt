@@ -16,7 +16,7 @@ use Rattle.hibitset_base.proofs.Left.{bits-first}
 use Rattle.hibitset_base.proofs.Masks.{takes_first}
 use Rattle.hibitset_base.proofs.Layers.{read_word}
 
-one_of : (x : ℕ) → (x == 1) ≡ true → x ≡ 1
+pub one_of : (x : ℕ) → (x == 1) ≡ true → x ≡ 1
 one_of x e = grind (arith, nat_tests)
 
 all_cond : (P : Place → Type 0) (l : ℕ) (b : Bool) (a : ℕ) (xs : List ℕ) → (b ≡ true → P (record { layer = l; position = a })) → All P (places_in l xs) → All P (places_in l (cond b (a ∷ xs) xs))
@@ -81,6 +81,20 @@ goes_down n p w lawful l q r ps layer within fits = record {
 -- a walk reads one word to go on
 pub fewer_after : (w : ℕ → ℕ → ℕ) (l q : ℕ) (ps : List Place) → length (words_of w (places_in l (bits_from (64 * q) (w l q)) ++ ps)) + 1 ≡ length (words_of w ((record { layer = suc l; position = q }) ∷ ps))
 fewer_after w l q ps = let e = ap length (words_after w l q ps) in omega (arith, e)
+
+-- A place above layer 0 is taken, and those under its word are put in its stead.
+pub record StepsDown (w : ℕ → ℕ → ℕ) (ps qs rest : List Place) (l q : ℕ) : Type 0 where
+  pub before : ps ≡ (record { layer = suc l; position = q }) ∷ rest
+  pub after : qs ≡ places_in l (bits_from (64 * q) (w l q)) ++ rest
+
+pub steps_down : (w : ℕ → ℕ → ℕ) (ps qs rest : List Place) (layer q v : ℕ) → 0 < layer → ps ≡ (record { layer = layer; position = q }) ∷ rest → qs ≡ places_in (layer - 1) (bits_from (64 * q) v) ++ rest → v ≡ w (layer - 1) q
+    → StepsDown w ps qs rest (layer - 1) q
+steps_down w ps qs rest layer q v above taken put read =
+    let e : layer ≡ suc (layer - 1) = omega arith in
+    record {
+      before = taken ∙ ap (λ l. (record { layer = l; position = q }) ∷ rest) e;
+      after = put ∙ ap (λ x. places_in (layer - 1) (bits_from (64 * q) x) ++ rest) read;
+    }
 
 -- a walk begins with the bits of the top word
 pub top_items : (d : ℕ) (p : ℕ → Bool) (w : ℕ → ℕ → ℕ) → IsLawful (suc d) p w → items_of p (places_in d (bits_from 0 (w d 0))) ≡ members p 0 (64 ^ suc d)

@@ -88,8 +88,11 @@ module _ (n : ℕ) (p : ℕ → Bool) (w : ℕ → ℕ → ℕ) (lawful : IsLawf
       let one : i * 1 ≡ i = omega arith in
       rw (member_here k q i (omega arith) within from below, test_of_bit (p i), one) (one_member p i) in
       let start : 64 * q * 1 ≡ q * 64 = omega arith in
-      flat_map-map (λ place. items_under p place.layer place.position) (λ i. record { layer = 0; position = i }) (members t (64 * q) 64)
-      ∙ (members-blocks t p (λ i. i ∷ []) 1 (64 * q) 64 each ∙ ap (λ x. members p x 64) start)
+      let listed : items_of p (places_in 0 (members t (64 * q) 64)) ≡ flat_map (λ i. i ∷ []) (members t (64 * q) 64) =
+      flat_map-map (λ place. items_under p place.layer place.position) (λ i. record { layer = 0; position = i }) (members t (64 * q) 64) in
+      let found : flat_map (λ i. i ∷ []) (members t (64 * q) 64) ≡ members p (64 * q * 1) 64 = members-blocks t p (λ i. i ∷ []) 1 (64 * q) 64 each in
+      let all : members p (64 * q * 1) 64 ≡ members p (q * 64) 64 = ap (λ x. members p x 64) start in
+      listed ∙ (found ∙ all)
   read_word (suc l) k q layers within =
       let size : ℕ = 64 ^ suc l in
       let e : 64 ^ suc (suc l) ≡ 64 * size = pow-succ' 64 (suc l) in
@@ -108,4 +111,6 @@ module _ (n : ℕ) (p : ℕ → Bool) (w : ℕ → ℕ → ℕ) (lawful : IsLawf
       let start : 64 * q * size ≡ q * (64 * size) = omega arith in
       let all = members-blocks t p (λ i. members p (i * size) size) size (64 * q) 64 each in
       let all_here : flat_map (λ i. members p (i * size) size) (members t (64 * q) 64) ≡ members p (q * (64 * size)) (64 * size) = rw start at all in
-      rw e (flat_map-map (λ place. items_under p place.layer place.position) (λ i. record { layer = suc l; position = i }) (members t (64 * q) 64) ∙ all_here)
+      let listed : items_of p (places_in (suc l) (members t (64 * q) 64)) ≡ flat_map (λ i. members p (i * size) size) (members t (64 * q) 64) =
+      flat_map-map (λ place. items_under p place.layer place.position) (λ i. record { layer = suc l; position = i }) (members t (64 * q) 64) in
+      rw e (listed ∙ all_here)

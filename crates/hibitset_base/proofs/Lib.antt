@@ -8,3 +8,5 @@ pub mod Layers
 pub mod Going
 pub mod Descending
 pub mod Stepping
+pub mod Draining
+pub mod Bounds

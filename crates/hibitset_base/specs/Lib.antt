@@ -4,3 +4,5 @@ pub mod Places
 pub mod Cursor
 pub mod Reading
 pub mod Walk
+pub mod Virtual
+pub mod Drain

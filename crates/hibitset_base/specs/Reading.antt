@@ -1,8 +1,9 @@
 -- The words that a walk reads.
-use Rattle.std.specs.Prelude.{◌≡◌, ℕ, zero, suc, ◌+◌, ◌-◌, ◌*◌, ◌/◌, ◌%◌, ◌≤◌, Bool, List, [], ◌∷◌, ◌++◌, length, All}
+use Rattle.std.specs.Prelude.{◌≡◌, ℕ, zero, suc, ◌+◌, ◌-◌, ◌*◌, ◌/◌, ◌%◌, ◌^◌, ◌<◌, ◌≤◌, Bool, true, List, [], ◌∷◌, ◌++◌, length, All}
 use Rattle.std.specs.List.{flat_map}
 use Rattle.std.specs.Int.{bit_at}
-use Rattle.hibitset_base.specs.Sets.{IsExact}
+use Rattle.hibitset_base.specs.Members.{members_below}
+use Rattle.hibitset_base.specs.Sets.{IsLawful, IsExact}
 use Rattle.hibitset_base.specs.Places.{Place, bits_from, items_of}
 
 -- The words that are read to visit all that a place stands for, in the order in which they are read: none in layer 0, and above it the word at that position and then what is read under its bits.
@@ -34,3 +35,19 @@ pub record GoesOn (n : ℕ) (holds : ℕ → Bool) (word : ℕ → ℕ → ℕ) 
   pub count : later ≡ reads + length taken
   pub drawn : AllStand word ps → AllStand word qs
   pub few : IsExact n word → AllStand word ps → later + depth qs ≤ reads + depth ps
+
+-- The set p has exact summaries, and its words have each bit of these words.
+pub record Encloses (n : ℕ) (p : ℕ → Bool) (a word : ℕ → ℕ → ℕ) : Type 0 where
+  pub lawful : IsLawful n p a
+  pub exact : IsExact n a
+  pub words : (l q : ℕ) → a l q < 2 ^ 64
+  pub inside : (l q b : ℕ) → bit_at (word l q) b ≡ 1 → bit_at (a l q) b ≡ 1
+
+-- a member of the set lies in the range of the word at this place
+abbrev pub LiesOver : (ℕ → Bool) → Place → Type 0
+LiesOver p place = (i : ℕ) × (p i ≡ true) × (i / 64 ^ (place.layer + 1) ≡ place.position)
+
+-- These words lie over members of the set, and below the top layer there are at most as many as members in each layer.
+pub record IsBoundBy (n : ℕ) (p : ℕ → Bool) (words : List Place) : Type 0 where
+  pub over : All (LiesOver p) words
+  pub few : length words ≤ (n - 1) * length (members_below (64 ^ n) p)

@@ -14,3 +14,11 @@ pub record IsLawful (n : ℕ) (holds : ℕ → Bool) (word : ℕ → ℕ → ℕ
 -- Summaries are exact: a bit above layer 0 stands over a word that is not 0, and over no other.
 pub record IsExact (n : ℕ) (word : ℕ → ℕ → ℕ) : Type 0 where
   pub exact : (l p b : ℕ) → l + 1 < n → p < 64 ^ (n - 2 - l) → b < 64 → (bit_at (word (l + 1) p) b ≡ 1) ↔ (0 < word l (64 * p + b))
+
+-- the two sets hold of the same numbers
+abbrev pub SameSet : (ℕ → Bool) → (ℕ → Bool) → Type 0
+SameSet p q = (i : ℕ) → q i ≡ p i
+
+-- whatever a clone of this value may be, it is the same set
+abbrev pub ClonesToSame : {T : Type 0} → (T → T → Type 0) → (T → ℕ → Bool) → T → Type 0
+ClonesToSame {T} is_clone holds set = (copy : T) → is_clone set copy → SameSet (holds set) (holds copy)

@@ -1,11 +1,11 @@
 //! Where a walk stands in the layers of a set, apart from the set.
-ghost use Rattle.std.specs.Prelude.{◌≡◌, ℕ, ◌+◌, ◌-◌, ◌*◌, ◌<◌, ◌≤◌, ◌++◌, ◌∷◌, get_or, true, false};
+ghost use Rattle.std.specs.Prelude.{◌≡◌, ℕ, ◌+◌, ◌-◌, ◌*◌, ◌<◌, ◌≤◌, ◌++◌, ◌∷◌, [], get_or, true, false, MatchOption, IfNone, IfSome, ⊤};
 ghost use Rattle.hibitset_base.specs.Places.{places_left, places_in, bits_from, IsWellFormed, ComesBefore};
 
 use crate::util::BITS;
 
 /// The bits that a walk has left: a mask a layer from the lowest up, and the position of each mask's first bit. One serves every walk, over a set of any number of layers.
-#[derive(Drop)]
+#[derive(Debug, Drop)]
 pub struct Cursor<const N: usize> {
     pub(crate) masks: [usize; N],
     pub(crate) prefix: [u32; N],
@@ -25,6 +25,17 @@ impl<const N: usize> Cursor<N> {
         ensures prefix { result.prefix ≡ prefix.entry }
     {
         Cursor { masks, prefix }
+    }
+
+    /// A cursor at the same places.
+    #[inline]
+    pub(crate) fn copied(&self) -> Self
+        ensures { left result ≡ left self.now }
+    {
+        Cursor {
+            masks: self.masks,
+            prefix: self.prefix,
+        }
     }
 
     /// A cursor that has the bits of one word left, the whole top layer.
@@ -65,6 +76,28 @@ impl<const N: usize> Cursor<N> {
         let first_bit = mask.trailing_zeros();
         self.masks[layer] = mask & (mask - 1);
         self.prefix[layer] | first_bit
+    }
+
+    // The lowest layer in which bits are left.
+    #[inline]
+    fn lowest_layer(&self) -> Option<usize>
+        ensures none { IfNone result (IsEmptyBelow self.now N) }
+        ensures lowest { IfSome result (λ layer. (layer < N) × (0 < mask self.now layer) × IsEmptyBelow self.now layer) }
+    {
+        self.masks.iter().position(|mask| *mask != 0)
+    }
+
+    /// Takes the first place that is left, and answers its layer and its position.
+    #[inline]
+    pub(crate) fn take_lowest(&mut self) -> Option<(usize, u32)>
+        ensures taken { MatchOption result (left self.old ≡ []) (λ place. left self.old ≡ (record { layer = place.0; position = place.1 }) ∷ left self.new) }
+        ensures rest { MatchOption result ⊤ (λ place. (place.0 < N) × MayGoOn self.new place.0 place.1) }
+    {
+        let Some(layer) = self.lowest_layer() else {
+            return None;
+        };
+        let position = self.take_first(layer);
+        Some((layer, position))
     }
 
     /// Puts the places of a word's bits in front of those that are left. The word lies in `layer` at `position`, the position that was taken last.

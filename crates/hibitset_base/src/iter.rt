@@ -1,23 +1,24 @@
 //! Walks over a set, in ascending order.
-ghost use Rattle.std.specs.Prelude.{◌≡◌, ℕ, ◌+◌, ◌-◌, ◌^◌, ◌<◌, ◌≤◌, ◌∷◌, ◌++◌, [], length, get_or, MatchOption, true, false, ⊤, Bool, Option, None};
+ghost use Rattle.std.specs.Prelude.{◌≡◌, ℕ, ◌+◌, ◌-◌, ◌^◌, ◌<◌, ◌≤◌, ◌∷◌, ◌++◌, [], length, get_or, MatchOption, true, false, ⊤, Bool, Option, None, IfOk, IsOk};
 ghost use Rattle.std.specs.Iterator.{item_count};
 ghost use Rattle.hibitset_base.specs.Members.{members_below};
-ghost use Rattle.hibitset_base.specs.Sets.{IsExact};
+ghost use Rattle.hibitset_base.specs.Sets.{IsExact, ClonesToSame};
 ghost use Rattle.hibitset_base.specs.Places.{places_left, items_of, IsWellFormed};
 ghost use Rattle.hibitset_base.specs.Cursor.{left, mask, IsEmptyBelow, MayGoOn};
-ghost use Rattle.hibitset_base.specs.Reading.{words_under, words_of, AllStand, depth, GoesOn};
-ghost use Rattle.hibitset_base.specs.Walk.{items_left, words_read, words_ahead, IsDrawn, WalkSteps};
+ghost use Rattle.hibitset_base.specs.Reading.{words_under, words_of, AllStand, depth, GoesOn, Encloses, IsBoundBy};
+ghost use Rattle.hibitset_base.specs.Walk.{set_of, items_left, words_read, words_ahead, IsDrawn, WalkSteps};
 ghost use Rattle.hibitset_base.specs.declared.util.TheConstants.{LAYERS, MAX_EID};
 
 use crate::cursor::Cursor;
 use crate::like::BitSetLike;
 use crate::reads::Reads;
 use crate::util::{Index, LAYERS, MAX_EID};
+use std::alloc::AllocError;
 
 /// A walk over the members of a set, in ascending order.
 ///
 /// It gives first the indices of the bits that it has left in layer 0, and then the members under the bits that it has left above.
-#[derive(Drop)]
+#[derive(Debug, Drop)]
 pub struct BitIter<T> {
     pub(crate) set: T,
     pub(crate) cursor: Cursor<LAYERS>,
@@ -31,7 +32,7 @@ impl<T> BitIter<T> {
     #[inline]
     pub fn new(set: T, masks: [usize; LAYERS], prefix: [u32; LAYERS - 1]) -> Self
         requires { IsWellFormed LAYERS masks prefix }
-        ensures set { result.set ≡ set }
+        ensures set { set_of result ≡ set }
         ensures items { (holds : T → ℕ → Bool) → items_left holds result ≡ items_of (holds set) (places_left 0 masks prefix) }
         ensures drawn { (word : T → ℕ → ℕ → ℕ) → AllStand (word set) (places_left 0 masks prefix) → IsDrawn word result }
         ensures read { words_read result ≡ 0 }
@@ -81,6 +82,7 @@ pub(crate) fn start<T: BitSetLike>(set: &T, reads: &mut Reads) -> Cursor<LAYERS>
     ensures reads { reads.new.count ≡ reads.old.count + 1 }
     ensures items { items_of (T.holds set.now) (left result) ≡ members_below MAX_EID (T.holds set.now) }
     ensures drawn { AllStand (T.word set.now) (left result) }
+    ensures bound { (p : ℕ → Bool) (a : ℕ → ℕ → ℕ) → Encloses LAYERS p a (T.word set.now) → IsBoundBy LAYERS p (words_of (T.word set.now) (left result)) }
     ensures ahead { words_under (T.word set.now) LAYERS 0 ≡ (record { layer = LAYERS - 1; position = 0 }) ∷ words_of (T.word set.now) (left result) }
 {
     Cursor::at_top(read(set, reads, LAYERS - 1, 0))
@@ -137,10 +139,11 @@ impl<T: BitSetLike> BitIter<T> {
     // Starts at the top of the set.
     #[inline]
     pub(crate) fn from_top(set: T) -> Self
-        ensures set { result.set ≡ set }
+        ensures set { set_of result ≡ set }
         ensures items { items_left T.holds result ≡ members_below MAX_EID (T.holds set) }
         ensures drawn { IsDrawn T.word result }
         ensures read { words_read result ≡ 1 }
+        ensures bound { (p : ℕ → Bool) (a : ℕ → ℕ → ℕ) → Encloses LAYERS p a (T.word set) → IsBoundBy LAYERS p (words_ahead T.word result) }
         ensures ahead { words_under (T.word set) LAYERS 0 ≡ (record { layer = LAYERS - 1; position = 0 }) ∷ words_ahead T.word result }
     {
         let mut reads = Reads::none();
@@ -148,16 +151,35 @@ impl<T: BitSetLike> BitIter<T> {
         BitIter { set, cursor, reads }
     }
 
+    /// A walk over a clone of the set, with the same items left. It takes no memory but what cloning the set takes.
+    ///
+    /// A clone of the set is the same set.
+    pub fn clone(&self) -> Result<Self, AllocError>
+    where
+        T: Clone,
+        requires { ClonesToSame T.is_clone T.holds (set_of self.now) }
+        ensures set { IfOk result (λ copy. T.is_clone (set_of self.now) (set_of copy)) }
+        ensures items { IfOk result (λ copy. items_left T.holds copy ≡ items_left T.holds self.now) }
+        ensures read { IfOk result (λ copy. words_read copy ≡ 0) }
+        ensures refused { T.is_infallible (set_of self.now) → IsOk result }
+    {
+        Ok(BitIter {
+            set: self.set.clone()?,
+            cursor: self.cursor.copied(),
+            reads: Reads::none(),
+        })
+    }
+
     /// Tells whether an index is in the set that is walked over.
     #[inline]
     pub fn contains(&self, i: Index) -> bool
-        ensures { result ≡ T.holds self.now.set i }
+        ensures { result ≡ T.holds (set_of self.now) i }
     {
         self.set.contains(i)
     }
 }
 
-impl<T: BitSetLike + Drop> Iterator for BitIter<T> {
+impl<T: BitSetLike> Iterator for BitIter<T> {
     type Item = Index;
 
     ghost next_gives = { WalkSteps T.holds T.word };

@@ -2,11 +2,16 @@
 #![tactic(auto)]
 
 pub mod cursor;
+pub mod drain;
 pub mod iter;
 pub mod like;
+pub mod ops;
 pub mod reads;
 pub mod util;
+pub mod virt;
 
+pub use drain::DrainBitIter;
 pub use iter::BitIter;
-pub use like::BitSetLike;
+pub use like::{BitSetLike, DrainableBitSet};
 pub use util::Index;
+pub use virt::{BitSetAll, BitSetAnd, BitSetNot, BitSetOr, BitSetXor};

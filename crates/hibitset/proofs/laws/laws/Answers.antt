@@ -1,7 +1,7 @@
 use Rattle.std.proofs.Common.{◌≡◌, Bool, true, false, refl, sym, ◌∙◌, ap}
 use Rattle.std.specs.Cmp.Lexicographic.{on_texts_equal}
 use Rattle.hibitset.specs.BitSet.{has, members_of}
-use Rattle.hibitset.specs.Operators.{differ}
+use Rattle.hibitset_base.specs.Virtual.{differ}
 use Rattle.hibitset.proofs.Holding.{has_within}
 use Rattle.hibitset.proofs.Equality.{eq-Decides}
 use Rattle.hibitset.proofs.laws.laws.Goals as goal

@@ -1,6 +1,8 @@
 use Rattle.std.proofs.Common.{◌≡◌, ℕ, suc, ◌+◌, ◌-◌, ◌∷◌, Bool, List, sym, ap, ◌∙◌}
 use Rattle.hibitset_base.specs.Places.{places_in, bits_from, items_of}
-use Rattle.hibitset_base.specs.Reading.{AllStand, words_of}
+use Rattle.hibitset_base.specs.Reading.{AllStand, words_under, words_of, IsBoundBy}
+use Rattle.std.specs.List.{flat_map}
+use Rattle.hibitset_base.proofs.Bounds.{walk_is_bound}
 use Rattle.hibitset_base.specs.declared.util.TheConstants.{LAYERS}
 use Rattle.hibitset_base.proofs.Descending.{top_items, top_words, drawn_from_word}
 use Rattle.hibitset_base.proofs.iter.start.Goals as goal
@@ -20,3 +22,9 @@ pub returns-clause-ahead : goal.returns-clause-ahead
 returns-clause-ahead g c =
     let word : ℕ → ℕ → ℕ = g.T.BitSetLike.word c.args.set.now in
     rw (c.at_top.ensures, c.read.ensures.word) (ap (λ ws. (record { layer = LAYERS - 1; position = 0 }) ∷ ws) (sym (top_words (LAYERS - 1) word)))
+
+pub returns-clause-bound : goal.returns-clause-bound
+returns-clause-bound g c p a encloses =
+    let word : ℕ → ℕ → ℕ = g.T.BitSetLike.word c.args.set.now in
+    let bound : IsBoundBy LAYERS p (flat_map (words_under word (LAYERS - 1)) (bits_from 0 (word (LAYERS - 1) 0))) = walk_is_bound (LAYERS - 1) p a word encloses in
+    rw (c.at_top.ensures, c.read.ensures.word, top_words (LAYERS - 1) word) bound

@@ -1,6 +1,6 @@
 use Rattle.std.proofs.Common.{ap, ◌∙◌}
 use Rattle.hibitset.specs.BitSet.{word_of}
-use Rattle.hibitset.specs.Operators.{differ}
+use Rattle.hibitset_base.specs.Virtual.{differ}
 use Rattle.hibitset.proofs.Holding.{holds_same, OnErr-always}
 use Rattle.hibitset.proofs.set.BitSet.bitxor_assign.Goals as goal
 

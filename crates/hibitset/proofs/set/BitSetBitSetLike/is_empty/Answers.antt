@@ -1,0 +1,19 @@
+use Rattle.std.proofs.Common.{arith, ◌≡◌, ℕ, ◌==◌, ◌-◌, true, sym}
+use Rattle.std.proofs.lemmas.Bool.Decides.{nat_tests}
+use Rattle.hibitset_base.specs.declared.util.TheConstants.{LAYERS}
+use Rattle.hibitset_base.proofs.Bounds.{top_tells_empty}
+use Rattle.hibitset.specs.BitSet.{has, word_of}
+use Rattle.hibitset.specs.Stored.{stored_lawful, stored_exact}
+use Rattle.hibitset.proofs.set.BitSetBitSetLike.is_empty.Goals as goal
+
+zero_test : (x : ℕ) → (x == 0) ≡ true → x ≡ 0
+zero_test x h = grind (arith, nat_tests)
+
+test_zero : (x : ℕ) → x ≡ 0 → (x == 0) ≡ true
+test_zero x h = grind (arith, nat_tests)
+
+pub returns : goal.returns
+returns c =
+    let self = c.args.self.now in
+    let top = top_tells_empty (LAYERS - 1) (has self) (word_of self) (stored_lawful LAYERS self.stored) (stored_exact LAYERS self.stored) self.stored.shaped.words in
+    (λ h. top.0 (zero_test self.layer3 h), λ h. test_zero self.layer3 (top.1 h))

@@ -1,0 +1,9 @@
+use Rattle.std.proofs.Common.{◌≡◌, ℕ, ◌<◌, length, arith, rules}
+use Rattle.hibitset_base.proofs.Left.{left-none}
+use Rattle.hibitset_base.proofs.cursor.Cursor.take_lowest.Goals as goal
+
+pub returns-in_default-clause-taken : goal.returns-in_default-clause-taken
+returns-in_default-clause-taken g c =
+    let cursor = c.args.self.now in
+    let long = cursor.formed.long in
+    left-none 0 cursor.masks cursor.prefix (λ j below. c.in_default.ensures.none j (omega (arith, below, long)))

@@ -1,0 +1,71 @@
+//! Walks that take out of their set what they give.
+ghost use Rattle.std.specs.Prelude.{◌≡◌, ℕ, Bool};
+ghost use Rattle.std.specs.Iterator.{item_count};
+ghost use Rattle.hibitset_base.specs.Members.{members_below};
+ghost use Rattle.hibitset_base.specs.Places.{places_left, items_of, IsWellFormed};
+ghost use Rattle.hibitset_base.specs.Drain.{items_to_drain, drained, lender, DrainSteps};
+ghost use Rattle.hibitset_base.specs.declared.util.TheConstants.{LAYERS, MAX_EID};
+
+use crate::cursor::Cursor;
+use crate::iter::{cursor_of, start, step};
+use crate::like::{BitSetLike, DrainableBitSet};
+use crate::reads::Reads;
+use crate::util::{Index, LAYERS, MAX_EID};
+
+/// A walk over the members of a set, in ascending order, that takes each one out of the set as it gives it.
+///
+/// Where it is dropped early, the set has all members that were not given.
+#[derive(Drop)]
+pub struct DrainBitIter<'a, T> {
+    pub(crate) set: &'a mut T,
+    pub(crate) cursor: Cursor<LAYERS>,
+    pub(crate) reads: Reads,
+}
+
+impl<'a, T> DrainBitIter<'a, T> {
+    /// A drain of `set` that goes on from the given state: `masks` has the bits that are left of each layer from the lowest up, and `prefix` the position of each mask's first bit in its layer, below the top layer, where it is 0.
+    ///
+    /// The prefix of a mask that is not 0 is a multiple of 64 within the layer, and what is left in a layer lies before what is left above it.
+    #[inline]
+    pub fn new(set: &'a mut T, masks: [usize; LAYERS], prefix: [u32; LAYERS - 1]) -> Self
+        requires { IsWellFormed LAYERS masks prefix }
+        ensures lender { lender result ≡ set.entry.ghost_name }
+        ensures set { drained result ≡ set.old }
+        ensures items { (holds : T → ℕ → Bool) → items_to_drain holds result ≡ items_of (holds set.old) (places_left 0 masks prefix) }
+    {
+        DrainBitIter {
+            set,
+            cursor: cursor_of(masks, prefix),
+            reads: Reads::none(),
+        }
+    }
+}
+
+impl<'a, T: BitSetLike> DrainBitIter<'a, T> {
+    // Starts at the top of the set.
+    #[inline]
+    pub(crate) fn from_top(set: &'a mut T) -> Self
+        ensures lender { lender result ≡ set.entry.ghost_name }
+        ensures set { drained result ≡ set.old }
+        ensures items { items_to_drain T.holds result ≡ members_below MAX_EID (T.holds set.old) }
+    {
+        let mut reads = Reads::none();
+        let cursor = start(&*set, &mut reads);
+        DrainBitIter { set, cursor, reads }
+    }
+}
+
+impl<'a, T: DrainableBitSet> Iterator for DrainBitIter<'a, T> {
+    type Item = Index;
+
+    ghost next_gives = { DrainSteps T.holds };
+
+    ghost remaining = { item_count (items_to_drain T.holds) };
+
+    #[inline]
+    fn next(&mut self) -> Option<Index> {
+        let index = step(&*self.set, &mut self.cursor, &mut self.reads)?;
+        self.set.remove(index);
+        Some(index)
+    }
+}

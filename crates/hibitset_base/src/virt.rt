@@ -1,0 +1,293 @@
+//! Sets that are made of other sets without copying. Each word is made of the operands' words when it is asked for.
+//!
+//! A bit above layer 0 may stand over a word that is 0 in `BitSetAnd`, `BitSetXor`, `BitSetNot` and whatever is built over them.
+ghost use Rattle.std.specs.Prelude.{◌≡◌, ℕ, Bool, true, ◌==◌, ◌&&◌, ◌||◌, not, bit_and, bit_or, IfOk, IsOk};
+ghost use Rattle.hibitset_base.specs.Sets.{SameSet, ClonesToSame};
+ghost use Rattle.hibitset_base.specs.Virtual.{differ, xor_word, not_word, all_ones, and_lawful, or_lawful, xor_lawful, not_lawful, all_lawful};
+ghost use Rattle.hibitset_base.specs.declared.util.TheConstants.{LAYERS};
+
+use crate::like::{BitSetLike, DrainableBitSet};
+use crate::util::Index;
+use std::alloc::AllocError;
+
+/// The intersection of two sets: the indices that are in both.
+#[derive(Debug, Drop)]
+pub struct BitSetAnd<A: BitSetLike, B: BitSetLike>(pub A, pub B);
+
+impl<A: BitSetLike + Clone, B: BitSetLike + Clone> BitSetAnd<A, B> {
+    /// The same set over clones of the operands. It takes no memory but what cloning them takes.
+    ///
+    /// A clone of an operand is the same set.
+    pub fn clone(&self) -> Result<Self, AllocError>
+        requires first { ClonesToSame A.is_clone A.holds self.now.0 }
+        requires second { ClonesToSame B.is_clone B.holds self.now.1 }
+        ensures same { IfOk result (λ copy. SameSet (⟦<Self as BitSetLike>⟧.holds self.now) (⟦<Self as BitSetLike>⟧.holds copy)) }
+        ensures refused { A.is_infallible self.now.0 → B.is_infallible self.now.1 → IsOk result }
+    {
+        Ok(BitSetAnd(self.0.clone()?, self.1.clone()?))
+    }
+}
+
+impl<A: BitSetLike, B: BitSetLike> BitSetLike for BitSetAnd<A, B> {
+    ghost holds = { λ s i. A.holds s.0 i && B.holds s.1 i };
+
+    ghost word = { λ s l p. bit_and (A.word s.0 l p) (B.word s.1 l p) };
+
+    ghost lawful = { λ s. and_lawful LAYERS (A.lawful s.0) (B.lawful s.1) };
+
+    #[inline]
+    fn layer3(&self) -> usize {
+        self.0.layer3() & self.1.layer3()
+    }
+
+    #[inline]
+    fn layer2(&self, i: usize) -> usize {
+        self.0.layer2(i) & self.1.layer2(i)
+    }
+
+    #[inline]
+    fn layer1(&self, i: usize) -> usize {
+        self.0.layer1(i) & self.1.layer1(i)
+    }
+
+    #[inline]
+    fn layer0(&self, i: usize) -> usize {
+        self.0.layer0(i) & self.1.layer0(i)
+    }
+
+    #[inline]
+    fn contains(&self, i: Index) -> bool {
+        self.0.contains(i) && self.1.contains(i)
+    }
+}
+
+impl<A: DrainableBitSet, B: DrainableBitSet> DrainableBitSet for BitSetAnd<A, B> {
+    /// Takes an index out of both operands, if both have it.
+    #[inline]
+    fn remove(&mut self, i: Index) -> bool
+        ensures was { result ≡ (A.holds self.old.0 i && B.holds self.old.1 i) }
+        ensures removed { (j : ℕ) → (A.holds self.new.0 j && B.holds self.new.1 j) ≡ (A.holds self.old.0 j && B.holds self.old.1 j && not (j == i)) }
+        ensures first { (j : ℕ) → A.holds self.new.0 j ≡ (A.holds self.old.0 j && not (result && j == i)) }
+        ensures second { (j : ℕ) → B.holds self.new.1 j ≡ (B.holds self.old.1 j && not (result && j == i)) }
+    {
+        if !self.contains(i) {
+            return false;
+        }
+        self.0.remove(i);
+        self.1.remove(i);
+        true
+    }
+}
+
+/// The union of two sets: the indices that are in at least one.
+#[derive(Debug, Drop)]
+pub struct BitSetOr<A: BitSetLike, B: BitSetLike>(pub A, pub B);
+
+impl<A: BitSetLike + Clone, B: BitSetLike + Clone> BitSetOr<A, B> {
+    /// The same set over clones of the operands. It takes no memory but what cloning them takes.
+    ///
+    /// A clone of an operand is the same set.
+    pub fn clone(&self) -> Result<Self, AllocError>
+        requires first { ClonesToSame A.is_clone A.holds self.now.0 }
+        requires second { ClonesToSame B.is_clone B.holds self.now.1 }
+        ensures same { IfOk result (λ copy. SameSet (⟦<Self as BitSetLike>⟧.holds self.now) (⟦<Self as BitSetLike>⟧.holds copy)) }
+        ensures refused { A.is_infallible self.now.0 → B.is_infallible self.now.1 → IsOk result }
+    {
+        Ok(BitSetOr(self.0.clone()?, self.1.clone()?))
+    }
+}
+
+impl<A: BitSetLike, B: BitSetLike> BitSetLike for BitSetOr<A, B> {
+    ghost holds = { λ s i. A.holds s.0 i || B.holds s.1 i };
+
+    ghost word = { λ s l p. bit_or (A.word s.0 l p) (B.word s.1 l p) };
+
+    ghost lawful = { λ s. or_lawful LAYERS (A.lawful s.0) (B.lawful s.1) };
+
+    #[inline]
+    fn layer3(&self) -> usize {
+        self.0.layer3() | self.1.layer3()
+    }
+
+    #[inline]
+    fn layer2(&self, i: usize) -> usize {
+        self.0.layer2(i) | self.1.layer2(i)
+    }
+
+    #[inline]
+    fn layer1(&self, i: usize) -> usize {
+        self.0.layer1(i) | self.1.layer1(i)
+    }
+
+    #[inline]
+    fn layer0(&self, i: usize) -> usize {
+        self.0.layer0(i) | self.1.layer0(i)
+    }
+
+    #[inline]
+    fn contains(&self, i: Index) -> bool {
+        self.0.contains(i) || self.1.contains(i)
+    }
+}
+
+impl<A: DrainableBitSet, B: DrainableBitSet> DrainableBitSet for BitSetOr<A, B> {
+    /// Takes an index out of each operand that has it.
+    #[inline]
+    fn remove(&mut self, i: Index) -> bool
+        ensures was { result ≡ (A.holds self.old.0 i || B.holds self.old.1 i) }
+        ensures removed { (j : ℕ) → (A.holds self.new.0 j || B.holds self.new.1 j) ≡ ((A.holds self.old.0 j || B.holds self.old.1 j) && not (j == i)) }
+        ensures first { (j : ℕ) → A.holds self.new.0 j ≡ (A.holds self.old.0 j && not (j == i)) }
+        ensures second { (j : ℕ) → B.holds self.new.1 j ≡ (B.holds self.old.1 j && not (j == i)) }
+    {
+        let first = self.0.remove(i);
+        let second = self.1.remove(i);
+        first || second
+    }
+}
+
+/// The symmetric difference of two sets: the indices that are in one and not in the other.
+#[derive(Debug, Drop)]
+pub struct BitSetXor<A: BitSetLike, B: BitSetLike>(pub A, pub B);
+
+impl<A: BitSetLike + Clone, B: BitSetLike + Clone> BitSetXor<A, B> {
+    /// The same set over clones of the operands. It takes no memory but what cloning them takes.
+    ///
+    /// A clone of an operand is the same set.
+    pub fn clone(&self) -> Result<Self, AllocError>
+        requires first { ClonesToSame A.is_clone A.holds self.now.0 }
+        requires second { ClonesToSame B.is_clone B.holds self.now.1 }
+        ensures same { IfOk result (λ copy. SameSet (⟦<Self as BitSetLike>⟧.holds self.now) (⟦<Self as BitSetLike>⟧.holds copy)) }
+        ensures refused { A.is_infallible self.now.0 → B.is_infallible self.now.1 → IsOk result }
+    {
+        Ok(BitSetXor(self.0.clone()?, self.1.clone()?))
+    }
+}
+
+impl<A: BitSetLike, B: BitSetLike> BitSetLike for BitSetXor<A, B> {
+    ghost holds = { λ s i. differ (A.holds s.0 i) (B.holds s.1 i) };
+
+    ghost word = { λ s. xor_word (A.word s.0) (B.word s.1) };
+
+    ghost lawful = { λ s. xor_lawful LAYERS (A.lawful s.0) (B.lawful s.1) };
+
+    #[inline]
+    fn layer3(&self) -> usize {
+        self.0.layer3() | self.1.layer3()
+    }
+
+    #[inline]
+    fn layer2(&self, i: usize) -> usize {
+        self.0.layer2(i) | self.1.layer2(i)
+    }
+
+    #[inline]
+    fn layer1(&self, i: usize) -> usize {
+        self.0.layer1(i) | self.1.layer1(i)
+    }
+
+    #[inline]
+    fn layer0(&self, i: usize) -> usize {
+        self.0.layer0(i) ^ self.1.layer0(i)
+    }
+
+    #[inline]
+    fn contains(&self, i: Index) -> bool {
+        self.0.contains(i) != self.1.contains(i)
+    }
+}
+
+/// The complement of a set: the indices that are not in it. It has every index from `MAX_EID` on that its operand lacks, but a walk stops below.
+#[derive(Debug, Drop)]
+pub struct BitSetNot<A: BitSetLike>(pub A);
+
+impl<A: BitSetLike + Clone> BitSetNot<A> {
+    /// The same set over a clone of the operand. It takes no memory but what cloning it takes.
+    ///
+    /// A clone of the operand is the same set.
+    pub fn clone(&self) -> Result<Self, AllocError>
+        requires { ClonesToSame A.is_clone A.holds self.now.0 }
+        ensures same { IfOk result (λ copy. SameSet (⟦<Self as BitSetLike>⟧.holds self.now) (⟦<Self as BitSetLike>⟧.holds copy)) }
+        ensures refused { A.is_infallible self.now.0 → IsOk result }
+    {
+        Ok(BitSetNot(self.0.clone()?))
+    }
+}
+
+impl<A: BitSetLike> BitSetLike for BitSetNot<A> {
+    ghost holds = { λ s i. not (A.holds s.0 i) };
+
+    ghost word = { λ s. not_word (A.word s.0) };
+
+    ghost lawful = { λ s. not_lawful LAYERS (A.lawful s.0) };
+
+    #[inline]
+    fn layer3(&self) -> usize {
+        !0
+    }
+
+    #[inline]
+    fn layer2(&self, _i: usize) -> usize {
+        !0
+    }
+
+    #[inline]
+    fn layer1(&self, _i: usize) -> usize {
+        !0
+    }
+
+    #[inline]
+    fn layer0(&self, i: usize) -> usize {
+        !self.0.layer0(i)
+    }
+
+    #[inline]
+    fn contains(&self, i: Index) -> bool {
+        !self.0.contains(i)
+    }
+}
+
+/// The set of all indices. A walk stops below `MAX_EID`.
+#[derive(Debug, Drop)]
+pub struct BitSetAll;
+
+impl BitSetAll {
+    /// The same set. It takes no memory.
+    pub fn clone(&self) -> Result<Self, AllocError>
+        ensures { IsOk result }
+    {
+        Ok(BitSetAll)
+    }
+}
+
+impl BitSetLike for BitSetAll {
+    ghost holds = { λ s i. true };
+
+    ghost word = { λ s l p. all_ones };
+
+    ghost lawful = { λ s. all_lawful LAYERS };
+
+    #[inline]
+    fn layer3(&self) -> usize {
+        !0
+    }
+
+    #[inline]
+    fn layer2(&self, _i: usize) -> usize {
+        !0
+    }
+
+    #[inline]
+    fn layer1(&self, _i: usize) -> usize {
+        !0
+    }
+
+    #[inline]
+    fn layer0(&self, _i: usize) -> usize {
+        !0
+    }
+
+    #[inline]
+    fn contains(&self, _i: Index) -> bool {
+        true
+    }
+}
