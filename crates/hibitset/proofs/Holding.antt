@@ -1,11 +1,15 @@
 -- The members of a set whose words have changed.
-use Rattle.std.proofs.Common.{◌≡◌, ◌≢◌, ℕ, zero, suc, ◌+◌, ◌*◌, ◌/◌, ◌%◌, ◌^◌, ◌<◌, ◌≤◌, Bool, true, false, cond, ◌==◌, ◌||◌, ◌&&◌, not, List, [], ◌∷◌, get_or, length, refl, sym, ◌∙◌, ap, arith, inl, inr, Result, Ok, Err, OnErr}
+use Rattle.std.proofs.Common.{◌≡◌, ◌≢◌, ℕ, zero, suc, ◌-◌, ◌*◌, ◌/◌, ◌%◌, ◌^◌, ◌<◌, ◌≤◌, Bool, true, false, cond, ◌==◌, ◌||◌, ◌&&◌, not, List, [], ◌∷◌, get_or, length, refl, sym, ◌∙◌, ap, arith, lit<, inl, inr, Result, Ok, Err, OnErr}
 use Rattle.std.specs.Int.{bit_at}
+use Rattle.std.proofs.Math.Nat.{pow-suc}
 use Rattle.std.proofs.lemmas.Nat.Bits.{bit_at-zero}
 use Rattle.std.proofs.lemmas.Bool.{cases_lt}
 use Rattle.std.proofs.lemmas.Bool.Decides.{nat_tests}
 use Rattle.hibitset_base.specs.Sets.{bit_of}
-use Rattle.hibitset.specs.Words.{word_at, holds_at}
+use Rattle.hibitset_base.specs.declared.util.TheConstants.{LAYERS, MAX_EID}
+use Rattle.hibitset.specs.Words.{IsShaped, word_at, holds_at}
+use Rattle.hibitset.specs.BitSet.{layers, has}
+use Rattle.hibitset.specs.declared.set.BitSet.{BitSet}
 use Rattle.hibitset.proofs.Mending.{same_or_not, eq_other}
 
 pub eq_same : (a b : ℕ) → a ≡ b → (a == b) ≡ true
@@ -61,6 +65,25 @@ member_within layers i holds = elim (cases_lt (i / 64) (length (get_or layers 0 
       let wrong : true ≡ false = sym holds ∙ none in
       absurd (cc)
 ]
+
+-- no word of layer 0 lies past the range
+pub end_of_words : (n : ℕ) (lists : List (List ℕ)) → 0 < n → IsShaped n lists → (p : ℕ) → 64 ^ (n - 1) ≤ p → word_at lists 0 p ≡ 0
+end_of_words n lists some shaped p past =
+    let all : n - 1 - 0 ≡ n - 1 = omega arith in
+    let short : length (get_or lists 0 []) ≤ 64 ^ (n - 1) = rw all at (shaped.short 0 some) in
+    past_end (get_or lists 0 []) p (omega (arith, short, past))
+
+-- no number past the range is a member
+pub member_below : (n : ℕ) (lists : List (List ℕ)) → 0 < n → IsShaped n lists → (i : ℕ) → holds_at (word_at lists) i ≡ true → i < 64 ^ n
+member_below n lists some shaped i holds =
+    let size : 64 ^ n ≡ 64 ^ (n - 1) * 64 = (let s : n ≡ suc (n - 1) = omega arith in ap (λ x. 64 ^ x) s ∙ pow-suc 64 (n - 1)) in
+    let within : i / 64 < length (get_or lists 0 []) = member_within lists i holds in
+    let all : n - 1 - 0 ≡ n - 1 = omega arith in
+    let short : length (get_or lists 0 []) ≤ 64 ^ (n - 1) = rw all at (shaped.short 0 some) in
+    rw size (omega (arith, within, short))
+
+pub has_within : (set : BitSet) (i : ℕ) → has set i ≡ true → i < MAX_EID
+has_within set i holds = member_below LAYERS (layers set) (lit< tt) set.stored.shaped i holds
 
 pub OnErr-always : {A E : Type 0} {P : Type 0} (r : Result A E) → P → OnErr r P
 OnErr-always (Ok a) h = tt

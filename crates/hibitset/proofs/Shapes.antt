@@ -1,10 +1,10 @@
 -- The lengths of layers, where one of them gets another list.
-use Rattle.std.proofs.Common.{◌≡◌, ◌≢◌, ℕ, zero, suc, ◌+◌, ◌-◌, ◌*◌, ◌/◌, ◌%◌, ◌^◌, ◌<◌, ◌≤◌, ◌==◌, not, List, [], ◌∷◌, get_or, length, refl, sym, ◌∙◌, ap, subst, arith, ◌⊎◌, inl, inr, ◌↔◌}
+use Rattle.std.proofs.Common.{◌≡◌, ◌≢◌, ℕ, zero, suc, ◌+◌, ◌-◌, ◌*◌, ◌/◌, ◌%◌, ◌^◌, ◌<◌, ◌≤◌, ◌==◌, not, List, [], ◌∷◌, get_or, length, refl, ◌∙◌, ap, arith, inl, inr, ◌↔◌}
 use Rattle.std.specs.Int.{bit_at}
 use Rattle.std.proofs.Math.ListN.{set}
 use Rattle.std.proofs.lemmas.List.{get_or-set_same, get_or-set_other}
 use Rattle.hibitset_base.specs.Sets.{bit_of}
-use Rattle.hibitset.specs.Words.{IsSummed, IsShaped, IsStored, word_at, holds_at}
+use Rattle.hibitset.specs.Words.{IsSummed, IsShaped, IsStored, word_at}
 use Rattle.hibitset.proofs.Mending.{same_or_not, other_layer, MendedUpTo, mended_first, mended_next, mended_last}
 
 -- an element that is there does not depend on the default

@@ -1,5 +1,7 @@
 -- What a contract sees of a `BitSet`.
 use Rattle.std.specs.Prelude.{ℕ, Bool, List, [], ◌∷◌, get_or, length}
+use Rattle.hibitset_base.specs.Members.{members_below}
+use Rattle.hibitset_base.specs.declared.util.TheConstants.{MAX_EID}
 use Rattle.hibitset.specs.Words.{word_at, holds_at}
 use Rattle.hibitset.specs.declared.set.BitSet.{BitSet}
 
@@ -14,6 +16,10 @@ word_of set = word_at (layers set)
 -- the set has the number as a member
 abbrev pub has : BitSet → ℕ → Bool
 has set = holds_at (word_of set)
+
+-- the members, ascending
+abbrev pub members_of : BitSet → List ℕ
+members_of set = members_below MAX_EID (has set)
 
 -- how many words the slice of a layer has
 abbrev pub slice_len : BitSet → ℕ → ℕ

@@ -2,3 +2,8 @@ pub mod Words
 pub mod Stored
 pub mod BitSet
 pub mod Strangers
+pub mod Merging
+pub mod Operators
+pub mod Comparing
+pub mod Laws
+pub mod Building

@@ -1,7 +1,6 @@
 -- The words of a set that keeps them, in n layers from the lowest up.
-use Rattle.std.specs.Prelude.{◌≡◌, ◌≢◌, ℕ, ◌+◌, ◌-◌, ◌*◌, ◌/◌, ◌%◌, ◌^◌, ◌<◌, ◌≤◌, Bool, ◌==◌, ◌↔◌, List, [], ◌∷◌, get_or, length}
+use Rattle.std.specs.Prelude.{◌≡◌, ℕ, ◌+◌, ◌-◌, ◌*◌, ◌/◌, ◌%◌, ◌^◌, ◌<◌, ◌≤◌, Bool, ◌==◌, ◌↔◌, List, [], get_or, length}
 use Rattle.std.specs.Int.{bit_at}
-use Rattle.hibitset_base.specs.Sets.{IsExact}
 
 -- the word of a layer at a position, which is 0 past the layer's end
 abbrev pub word_at : List (List ℕ) → ℕ → ℕ → ℕ

@@ -103,7 +103,7 @@ impl BitSet {
     }
 
     // Makes room for the words over `id`, and changes no word.
-    fn extend(&mut self, id: Index) -> Result<(), AllocError>
+    pub(crate) fn extend(&mut self, id: Index) -> Result<(), AllocError>
         requires { id < MAX_EID }
         ensures same { (l p : ℕ) → word_of self.new l p ≡ word_of self.old l p }
         ensures keeps { slice_len self.old 0 ≤ slice_len self.new 0 }
@@ -277,5 +277,21 @@ impl DrainableBitSet for BitSet {
     #[inline]
     fn remove(&mut self, i: Index) -> bool {
         BitSet::remove(self, i)
+    }
+}
+
+/// A copy with the same members, and refused for memory only.
+impl Clone for BitSet {
+    ghost use Rattle.hibitset.specs.BitSet.{has};
+
+    ghost is_clone = { λ set copy. (i : ℕ) → has copy i ≡ has set i };
+
+    fn clone(&self) -> Result<BitSet, AllocError> {
+        Ok(BitSet {
+            layer3: self.layer3,
+            layer2: self.layer2.clone()?,
+            layer1: self.layer1.clone()?,
+            layer0: self.layer0.clone()?,
+        })
     }
 }

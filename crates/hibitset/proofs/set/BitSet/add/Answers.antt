@@ -1,4 +1,4 @@
-use Rattle.std.proofs.Common.{◌≡◌, ◌==◌, cond, true, ap, ◌∙◌}
+use Rattle.std.proofs.Common.{◌==◌, cond, true, ap, ◌∙◌}
 use Rattle.hibitset.specs.BitSet.{has, word_of}
 use Rattle.hibitset.proofs.Holding.{holds_same, put_in, OnErr-always}
 use Rattle.hibitset.proofs.set.BitSet.add.Goals as goal

@@ -1,4 +1,4 @@
-use Rattle.std.proofs.Common.{rules, ◌≡◌, ℕ, ◌+◌, ◌-◌, ◌*◌, ◌/◌, ◌^◌, ◌<◌, ◌≤◌, length, get_or, List, [], ◌∷◌, refl, arith, lit<, max, Result, Ok, Err, IsOk, ap, subst}
+use Rattle.std.proofs.Common.{◌≡◌, ℕ, ◌+◌, ◌/◌, ◌<◌, ◌≤◌, length, get_or, List, [], ◌∷◌, arith, lit<, max, IsOk}
 use Rattle.hibitset_base.specs.declared.util.TheConstants.{LAYERS}
 use Rattle.hibitset.specs.Words.{IsStored}
 use Rattle.hibitset.proofs.Shapes.{stored_longer, room_above}

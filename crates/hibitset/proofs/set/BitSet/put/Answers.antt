@@ -1,4 +1,4 @@
-use Rattle.std.proofs.Common.{◌≡◌, ℕ, ◌/◌, ◌%◌, ◌<◌, ◌≢◌, get_or, sym, ap, ◌∙◌}
+use Rattle.std.proofs.Common.{◌≡◌, ◌/◌, ◌%◌, get_or, ap, ◌∙◌}
 use Rattle.std.specs.Int.{bit_at}
 use Rattle.hibitset.specs.BitSet.{word_of}
 use Rattle.hibitset.proofs.Holding.{holds_put}

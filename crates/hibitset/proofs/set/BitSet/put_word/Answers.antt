@@ -1,8 +1,8 @@
-use Rattle.std.proofs.Common.{rules, ◌≡◌, ◌≢◌, ℕ, zero, suc, ◌+◌, ◌-◌, ◌*◌, ◌/◌, ◌%◌, ◌^◌, ◌<◌, ◌≤◌, ◌==◌, not, ◌↔◌, List, [], ◌∷◌, get_or, length, refl, sym, ◌∙◌, ap, arith, lit<}
+use Rattle.std.proofs.Common.{rules, ◌≡◌, ◌≢◌, ℕ, zero, suc, ◌/◌, ◌%◌, ◌^◌, ◌<◌, ◌==◌, not, List, [], ◌∷◌, get_or, length, refl, ◌∙◌, ap, arith, lit<}
 use Rattle.std.specs.Int.{bit_at}
 use Rattle.hibitset_base.specs.Sets.{bit_of}
 use Rattle.hibitset_base.specs.declared.util.TheConstants.{LAYERS}
-use Rattle.hibitset.specs.Words.{IsStored, word_at}
+use Rattle.hibitset.specs.Words.{IsStored}
 use Rattle.hibitset.proofs.Shapes.{get_or_any, PutUpTo, put_first, put_next, put_last}
 use Rattle.hibitset.proofs.set.BitSet.put_word.Goals as goal
 

@@ -1,0 +1,35 @@
+use Rattle.std.proofs.Common.{◌≡◌, ℕ, suc, ◌+◌, ◌-◌, ◌*◌, ◌/◌, ◌%◌, ◌^◌, ◌<◌, ap, ◌∙◌, arith}
+use Rattle.std.proofs.Math.Nat.{pow-suc}
+use Rattle.hibitset_base.specs.declared.util.TheConstants.{LAYERS}
+use Rattle.hibitset.specs.BitSet.{word_of, has}
+use Rattle.hibitset.specs.Merging.{Covers}
+use Rattle.hibitset.specs.Stored.{stored_lawful}
+use Rattle.hibitset.proofs.Merging.{past_step, under_after, bit_above, our_word, covers_below}
+use Rattle.hibitset.proofs.set.BitSet.+merge_under.Goals as goal
+
+pub loop-left-preserved : goal.loop-left-preserved
+loop-left-preserved g t c =
+    let bit = c.take_bit-bit.ensures in
+    record {
+      long = c.merge_under.ensures.length ∙ c.loop-left.invariant.long;
+      words = past_step _ _ _ _ _ (64 ^ (c.args.layer - 1)) _ _ _ _ _ bit.below bit.stood bit.gone bit.same c.loop-left.invariant.words c.merge_under.ensures.words;
+    }
+
+pub returns-clause-words : goal.returns-clause-words
+returns-clause-words g t c =
+    let self = c.args.self.now in
+    let layer : ℕ = c.args.layer in
+    let place : ℕ = c.args.place in
+    let words : ℕ → ℕ → ℕ = word_of self in
+    let ours : ℕ = c.get_from_layer-ours.result in
+    let within : layer < LAYERS = c.requires.layer.1 in
+    let above : layer - 1 + 1 ≡ layer = (let h = c.requires.layer.0 in omega arith) in
+    let whole : 64 ^ layer ≡ 64 ^ (layer - 1) * 64 = (let s : layer ≡ suc (layer - 1) = omega (arith, above) in ap (λ x. 64 ^ x) s ∙ pow-suc 64 (layer - 1)) in
+    let ours-is : ours ≡ words layer place = our_word words layer place ours within c.requires.place c.get_from_layer-ours.ensures.below c.get_from_layer-ours.ensures.top in
+    let range : place < 64 ^ (LAYERS - 1 - (layer - 1 + 1)) = rw above c.requires.place in
+    let inner : layer - 1 + 1 < LAYERS = rw above within in
+    let covers : Covers (words (layer - 1)) place ours = covers_below words layer place ours above within self.stored.summed ours-is in
+    under_after _ _ _ _ (64 ^ (layer - 1)) (64 ^ layer) place c.visit-visited.result c.loop-left.left whole c.loop-left-test.false c.loop-left.invariant.words
+    (λ p e off. g.met.O.Operator.keeps ours c.args.theirs (p / 64 ^ (layer - 1) % 64) (words 0 p) (g.B.BitSetLike.word c.args.other.now 0 p) (rw c.visit-visited.ensures at off)
+    (λ some. bit_above LAYERS (has self) words (stored_lawful LAYERS self.stored) (layer - 1) place p ours inner range e covers some)
+    (λ some. bit_above LAYERS (g.B.BitSetLike.holds c.args.other.now) (g.B.BitSetLike.word c.args.other.now) (g.met.B.BitSetLike.lawful c.args.other.now) (layer - 1) place p c.args.theirs inner range e c.requires.theirs some))

@@ -1,0 +1,10 @@
+use Rattle.std.proofs.Common.{◌||◌, ap, ◌∙◌}
+use Rattle.hibitset.specs.BitSet.{word_of}
+use Rattle.hibitset.proofs.Holding.{holds_same, OnErr-always}
+use Rattle.hibitset.proofs.set.BitSet.bitor_assign.Goals as goal
+
+pub returns-in_err-make_room-clause-refused : goal.returns-in_err-make_room-clause-refused
+returns-in_err-make_room-clause-refused g c = OnErr-always c.from_residual.result (λ i. holds_same (word_of c.args.self.now) (word_of c.make_room.new.self) i c.make_room.ensures.same)
+
+pub returns-clause-members : goal.returns-clause-members
+returns-clause-members g c = λ i below. c.merge_with.ensures.members i below ∙ ap (λ x. x || g.B.BitSetLike.holds c.args.other.now i) (holds_same (word_of c.args.self.now) (word_of c.make_room.new.self) i c.make_room.ensures.same)

@@ -1,0 +1,35 @@
+-- Sets that take the items of an iterator.
+use Rattle.std.specs.Prelude.{◌≡◌, ℕ, ◌-◌, ◌^◌, ◌<◌, ◌≤◌, ◌==◌, ◌||◌, min, Bool, List, length, Option, Some, All}
+use Rattle.std.specs.List.{list_any}
+use Rattle.std.specs.Iterator.{Drains, YieldsThen}
+use Rattle.hibitset_base.specs.declared.util.TheConstants.{MAX_EID}
+use Rattle.hibitset.specs.declared.build.BuildError.{BuildError}
+use Rattle.hibitset.specs.declared.build.BuildError.TheVariants.{OutOfRange, Memory}
+
+-- The new set has exactly the old members and the numbers of the items, which are all in range.
+pub record AddsItems {A : Type 0} (number : A → ℕ) (old new : ℕ → Bool) (items : List A) : Type 0 where
+  pub in_range : All (λ x. number x < MAX_EID) items
+  pub members : (i : ℕ) → new i ≡ (old i || list_any (λ x. number x == i) items)
+
+-- the place of an item after so many others, which stays at the greatest `usize`
+abbrev pub place_after : ℕ → ℕ
+place_after count = min count (2 ^ 64 - 1)
+
+-- The error tells of this item, after so many others: it is not in range, or else there was no memory for it.
+abbrev pub IsRefusal : BuildError → ℕ → ℕ → Type 0
+IsRefusal (OutOfRange place index) count item = (place ≡ place_after count) × (index ≡ item) × (MAX_EID ≤ item)
+IsRefusal (Memory place) count item = (place ≡ place_after count) × (item < MAX_EID)
+
+module _ {S A : Type 0} (steps : S → Option A → S → Type 0) (number : A → ℕ) (it : S) where
+  -- an item of an iterator was refused with this error, after items that are all in range, and no item was drawn after it
+  abbrev pub Refuses : BuildError → Type 0
+  Refuses error = (items : List A) × (refused : A) × (rest : S) × YieldsThen steps it items (Some refused) rest × All (λ x. number x < MAX_EID) items × IsRefusal error (length items) (number refused)
+
+  module _ (old new : ℕ → Bool) where
+    -- an iterator came to its end, and all its items were added
+    abbrev pub TakesAll : Type 0
+    TakesAll = (items : List A) × Drains steps it items × AddsItems number old new items
+
+    -- the items of an iterator were added up to one that was refused with this error, and no item was drawn after it
+    abbrev pub StopsAtRefused : BuildError → Type 0
+    StopsAtRefused error = (items : List A) × (refused : A) × (rest : S) × YieldsThen steps it items (Some refused) rest × AddsItems number old new items × IsRefusal error (length items) (number refused)

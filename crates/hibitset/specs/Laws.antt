@@ -1,0 +1,18 @@
+-- What holds of all sets.
+use Rattle.std.specs.Prelude.{◌≡◌, ℕ, ◌<◌, Bool, true}
+use Rattle.hibitset_base.specs.declared.util.TheConstants.{MAX_EID}
+use Rattle.hibitset.specs.BitSet.{has}
+use Rattle.hibitset_base.specs.Virtual.{differ}
+use Rattle.hibitset.specs.declared.set.BitSet.{BitSet}
+
+-- both have the same members
+abbrev pub HaveSameMembers : BitSet → BitSet → Type 0
+HaveSameMembers a b = (i : ℕ) → i < MAX_EID → has a i ≡ has b i
+
+-- each member of b is one of a
+abbrev pub ContainsSet : BitSet → BitSet → Type 0
+ContainsSet a b = (i : ℕ) → i < MAX_EID → has b i ≡ true → has a i ≡ true
+
+-- new has the members of old or of the other set alone, as after `bitxor_assign`
+abbrev pub IsExclusiveOr : BitSet → (ℕ → Bool) → BitSet → Type 0
+IsExclusiveOr old other new = (i : ℕ) → i < MAX_EID → has new i ≡ differ (has old i) (other i)

@@ -1,0 +1,272 @@
+//! Assignments: a set put together with any other, whole words at a time.
+ghost use Rattle.std.specs.Prelude.{◌≡◌, ◌≢◌, ℕ, ◌+◌, ◌-◌, ◌*◌, ◌/◌, ◌^◌, ◌<◌, ◌≤◌, ◌||◌, ◌&&◌, ◌↔◌, false, get_or, length, OnOk, OnErr};
+ghost use Rattle.std.specs.Int.{bit_at};
+ghost use Rattle.hibitset_base.specs.Sets.{bit_of};
+ghost use Rattle.hibitset.specs.BitSet.{has, word_of, slice_len};
+ghost use Rattle.hibitset.specs.Merging.{AreWords, MergedUnder, MergedAt, Summarizes, Covers};
+ghost use Rattle.hibitset_base.specs.Virtual.{differ};
+ghost use Rattle.hibitset.specs.Operators.{none_lawful};
+ghost use Rattle.hibitset_base.specs.declared.util.TheConstants.{LAYERS, MAX_EID};
+
+use crate::bits::{last_bit, take_bit};
+use crate::operator::{And, Operator, Or, Xor};
+use crate::set::{BitSet, with_bit};
+use hibitset_base::like::BitSetLike;
+use hibitset_base::util::{Index, LAYERS, MAX_EID};
+use std::alloc::AllocError;
+use std::ops::BitAndAssign;
+
+// The set with no members, which is merged in where the other has no word.
+#[derive(Drop)]
+struct Empty;
+
+impl BitSetLike for Empty {
+    ghost holds = { λ s i. false };
+
+    ghost word = { λ s l p. 0 };
+
+    ghost lawful = { λ s. none_lawful LAYERS };
+
+    #[inline]
+    fn layer3(&self) -> usize {
+        0
+    }
+
+    #[inline]
+    fn layer2(&self, _i: usize) -> usize {
+        0
+    }
+
+    #[inline]
+    fn layer1(&self, _i: usize) -> usize {
+        0
+    }
+
+    #[inline]
+    fn layer0(&self, _i: usize) -> usize {
+        0
+    }
+
+    #[inline]
+    fn contains(&self, _i: Index) -> bool {
+        false
+    }
+}
+
+// Merges one word, and tells whether it is not 0 then.
+#[inline]
+fn merge_word<O: Operator, B: BitSetLike>(words: &mut Vec<usize>, other: &B, place: usize) -> bool
+    requires fits { length words.old.items ≤ place → O.merged 0 (B.word other.now 0 place) ≡ 0 }
+    ensures length { length words.new.items ≡ length words.old.items }
+    ensures words { MergedUnder O.merged (B.word other.now 0) (λ p. get_or words.old.items p 0) (λ p. get_or words.new.items p 0) 1 place }
+    ensures some { (bit_of result ≡ 1) ↔ (0 < get_or words.new.items place 0) }
+    ensures bounded { AreWords (λ p. get_or words.old.items p 0) → AreWords (λ p. get_or words.new.items p 0) }
+{
+    if words.len() <= place {
+        return false;
+    }
+    let word = O::merge(words[place], other.layer0(place));
+    words[place] = word;
+    word != 0
+}
+
+// Merges the words below word `place` of layer 1 whose bits stand in `bits`, and answers the summary of all 64, which was `summary`.
+#[inline]
+fn merge_words<O: Operator, B: BitSetLike>(
+    words: &mut Vec<usize>,
+    other: &B,
+    place: usize,
+    bits: usize,
+    summary: usize,
+) -> usize
+    requires range { place < 64 ^ (LAYERS - 2) }
+    requires exact { Summarizes (λ p. get_or words.old.items p 0) place summary }
+    requires fits { (p : ℕ) → p < 64 ^ (LAYERS - 1) → length words.old.items ≤ p → O.merged 0 (B.word other.now 0 p) ≡ 0 }
+    ensures length { length words.new.items ≡ length words.old.items }
+    ensures words { MergedAt O.merged (B.word other.now 0) (λ p. get_or words.old.items p 0) (λ p. get_or words.new.items p 0) 1 place bits }
+    ensures exact { Summarizes (λ p. get_or words.new.items p 0) place result }
+    ensures bounded { AreWords (λ p. get_or words.old.items p 0) → AreWords (λ p. get_or words.new.items p 0) }
+{
+    let mut above = summary;
+    let mut left = bits;
+    while left != 0 {
+        let bit = take_bit(&mut left);
+        let stands = merge_word::<O, B>(words, other, 64 * place + bit);
+        above = with_bit(above, bit, stands);
+    }
+    above
+}
+
+// The other's word at place `64 * place + bit` of the layer below `layer`, which is read only where the word above, `theirs`, has the bit.
+#[inline]
+fn lower_word<B: BitSetLike>(
+    other: &B,
+    layer: usize,
+    place: usize,
+    theirs: usize,
+    bit: usize,
+) -> usize
+    requires layer { (0 < layer) × (layer + 1 < LAYERS) }
+    requires place { place < 64 ^ (LAYERS - 2 - layer) }
+    requires bit { bit < 64 }
+    requires theirs { Covers (B.word other.now layer) place theirs }
+    ensures { Covers (B.word other.now (layer - 1)) (64 * place + bit) result }
+{
+    if theirs >> bit & 1 == 1 {
+        other.get_from_layer(layer, 64 * place + bit)
+    } else {
+        0
+    }
+}
+
+// A place of the layer below `layer` from which on the other has no words, where it has none in `layer` from `end` on.
+#[inline]
+fn lower_end<B: BitSetLike>(other: &B, layer: usize, end: usize) -> usize
+    requires layer { (0 < layer) × (layer < LAYERS) }
+    requires within { end ≤ 64 ^ (LAYERS - 1 - layer) }
+    requires end { (p : ℕ) → p < 64 ^ (LAYERS - 1 - layer) → end ≤ p → B.word other.now layer p ≡ 0 }
+    ensures within { result ≤ 64 ^ (LAYERS - layer) }
+    ensures end { (p : ℕ) → p < 64 ^ (LAYERS - layer) → result ≤ p → B.word other.now (layer - 1) p ≡ 0 }
+{
+    if end == 0 {
+        return 0;
+    }
+    let last = end - 1;
+    let word = other.get_from_layer(layer, last);
+    if word == 0 {
+        64 * last
+    } else {
+        64 * last + last_bit(word) + 1
+    }
+}
+
+// A place of layer 0 from which on the other has no words, found by the last bit of each layer.
+fn end_of<B: BitSetLike>(other: &B) -> usize
+    ensures within { result ≤ 64 ^ (LAYERS - 1) }
+    ensures end { (p : ℕ) → p < 64 ^ (LAYERS - 1) → result ≤ p → B.word other.now 0 p ≡ 0 }
+{
+    let mut layer = LAYERS - 1;
+    let mut end = 1;
+    while layer > 0 {
+        end = lower_end(other, layer, end);
+        layer -= 1;
+    }
+    end
+}
+
+impl BitSet {
+    // Merges the words below word `place` of layer 1, where the other has the word `theirs`, and sets the summaries over them right.
+    fn merge_block<O: Operator, B: BitSetLike>(&mut self, other: &B, place: usize, theirs: usize)
+        requires range { place < 64 ^ (LAYERS - 2) }
+        requires theirs { Covers (B.word other.now 0) place theirs }
+        requires fits { (p : ℕ) → p < 64 ^ (LAYERS - 1) → slice_len self.old 0 ≤ p → O.merged 0 (B.word other.now 0 p) ≡ 0 }
+        ensures length { slice_len self.new 0 ≡ slice_len self.old 0 }
+        ensures words { MergedUnder O.merged (B.word other.now 0) (word_of self.old 0) (word_of self.new 0) 64 place }
+    {
+        if self.layer1.len() <= place {
+            return;
+        }
+        let ours = self.layer1[place];
+        let visited = O::visit(ours, theirs);
+        let kept = merge_words::<O, Empty>(
+            &mut self.layer0,
+            &Empty,
+            place,
+            visited & !theirs,
+            ours,
+        );
+        let word1 = merge_words::<O, B>(&mut self.layer0, other, place, visited & theirs, kept);
+        let word2 = with_bit(self.layer2[place / 64], place % 64, word1 != 0);
+        let word3 = with_bit(self.layer3, place / 64, word2 != 0);
+        self.layer1[place] = word1;
+        self.layer2[place / 64] = word2;
+        self.layer3 = word3;
+    }
+
+    // Merges what lies under word `place` of a layer, where the other has the word `theirs`.
+    fn merge_under<O: Operator, B: BitSetLike>(
+        &mut self,
+        other: &B,
+        layer: usize,
+        place: usize,
+        theirs: usize,
+    )
+        requires layer { (0 < layer) × (layer < LAYERS) }
+        requires place { place < 64 ^ (LAYERS - 1 - layer) }
+        requires theirs { Covers (B.word other.now (layer - 1)) place theirs }
+        requires fits { (p : ℕ) → p < 64 ^ (LAYERS - 1) → slice_len self.old 0 ≤ p → O.merged 0 (B.word other.now 0 p) ≡ 0 }
+        ensures length { slice_len self.new 0 ≡ slice_len self.old 0 }
+        ensures words { MergedUnder O.merged (B.word other.now 0) (word_of self.old 0) (word_of self.new 0) (64 ^ layer) place }
+    {
+        if layer == 1 {
+            self.merge_block::<O, B>(other, place, theirs);
+            return;
+        }
+        let ours = self.get_from_layer(layer, place);
+        let visited = O::visit(ours, theirs);
+        let mut left = visited;
+        while left != 0 {
+            let bit = take_bit(&mut left);
+            let lower = lower_word::<B>(other, layer - 1, place, theirs, bit);
+            self.merge_under::<O, B>(other, layer - 1, 64 * place + bit, lower);
+        }
+    }
+
+    // Merges the other in, where what the set has no room for comes to nothing.
+    fn merge_with<O: Operator, B: BitSetLike>(&mut self, other: &B)
+        requires fits { (p : ℕ) → p < 64 ^ (LAYERS - 1) → slice_len self.old 0 ≤ p → O.merged 0 (B.word other.now 0 p) ≡ 0 }
+        ensures members { (i : ℕ) → i < MAX_EID → has self.new i ≡ O.test (has self.old i) (B.holds other.now i) }
+        ensures length { slice_len self.new 0 ≡ slice_len self.old 0 }
+    {
+        let theirs = other.get_from_layer(LAYERS - 1, 0);
+        self.merge_under::<O, B>(other, LAYERS - 1, 0, theirs);
+    }
+
+    // Makes room for all words of the other.
+    fn make_room<B: BitSetLike>(&mut self, other: &B) -> Result<(), AllocError>
+        ensures same { (l p : ℕ) → word_of self.new l p ≡ word_of self.old l p }
+        ensures keeps { slice_len self.old 0 ≤ slice_len self.new 0 }
+        ensures fits { OnOk result ((p : ℕ) → p < 64 ^ (LAYERS - 1) → slice_len self.new 0 ≤ p → B.word other.now 0 p ≡ 0) }
+    {
+        let end = end_of(other);
+        if end == 0 {
+            return Ok(());
+        }
+        self.extend((64 * (end - 1)) as Index)
+    }
+
+    /// Adds the members of any other set. Where memory is refused the members stay.
+    ///
+    /// All room is made first. Words that the other has not are neither read nor changed.
+    pub fn bitor_assign<B: BitSetLike>(&mut self, other: &B) -> Result<(), AllocError>
+        ensures members { OnOk result ((i : ℕ) → i < MAX_EID → has self.new i ≡ (has self.old i || B.holds other.now i)) }
+        ensures refused { OnErr result ((i : ℕ) → has self.new i ≡ has self.old i) }
+        ensures keeps { slice_len self.old 0 ≤ slice_len self.new 0 }
+    {
+        self.make_room(other)?;
+        self.merge_with::<Or, B>(other);
+        Ok(())
+    }
+
+    /// Adds the members of any other set that were not there, and takes out those that were. Where memory is refused the members stay.
+    ///
+    /// All room is made first. Words that the other has not are neither read nor changed.
+    pub fn bitxor_assign<B: BitSetLike>(&mut self, other: &B) -> Result<(), AllocError>
+        ensures members { OnOk result ((i : ℕ) → i < MAX_EID → has self.new i ≡ differ (has self.old i) (B.holds other.now i)) }
+        ensures refused { OnErr result ((i : ℕ) → has self.new i ≡ has self.old i) }
+        ensures keeps { slice_len self.old 0 ≤ slice_len self.new 0 }
+    {
+        self.make_room(other)?;
+        self.merge_with::<Xor, B>(other);
+        Ok(())
+    }
+}
+
+/// Takes out the members that are not in the other set. It takes no memory.
+impl<B: BitSetLike> BitAndAssign<&B> for BitSet {
+    ghost bitand_assign_gives = { λ old other new. ((i : ℕ) → i < MAX_EID → has new i ≡ (has old i && B.holds other.now i)) × (slice_len new 0 ≡ slice_len old 0) };
+
+    fn bitand_assign(&mut self, other: &B) {
+        self.merge_with::<And, B>(other);
+    }
+}

@@ -1,0 +1,125 @@
+//! Comparisons of two sets, whole words at a time.
+ghost use Rattle.std.specs.Prelude.{◌≡◌, ℕ, ◌-◌, ◌/◌, ◌^◌, ◌<◌, ◌==◌, ◌↔◌, Bool, true, false, not, IsTrue, refl};
+ghost use Rattle.std.specs.Int.{bit_at};
+ghost use Rattle.std.specs.Ordering.{on};
+ghost use Rattle.std.specs.Cmp.{partial_equiv_from_equiv};
+ghost use Rattle.std.specs.Cmp.Lexicographic.{pointwise, on_texts_equal};
+ghost use Rattle.hibitset_base.specs.declared.util.TheConstants.{LAYERS, MAX_EID};
+ghost use Rattle.hibitset.specs.BitSet.{has, members_of, word_of};
+ghost use Rattle.hibitset.specs.Comparing.{BitsPass, includes, includes_rises, includes_alone, agree, agree_rises, agree_alone};
+
+use crate::bits::take_bit;
+use crate::set::BitSet;
+use hibitset_base::like::BitSetLike;
+use hibitset_base::util::{LAYERS, MAX_EID};
+
+// What may be in two sets beside each other.
+pub(crate) trait Comparison {
+    // Whether an index may be in ours or not, and in theirs or not.
+    ghost allowed: { Bool → Bool → Bool };
+
+    fn passes(ours: usize, theirs: usize) -> bool
+        ensures { IsTrue result ↔ BitsPass allowed ours theirs };
+
+    // Two sets with no members pass.
+    ghost none: { allowed false false ≡ true };
+
+    // Where the bits of two words pass, so do the bits over them.
+    ghost rises: { (x y : ℕ) → x < 2 ^ 64 → y < 2 ^ 64 → BitsPass allowed x y → allowed (not (x == 0)) (not (y == 0)) ≡ true };
+
+    // Under a bit that theirs lacks, each word of ours passes beside none of theirs.
+    ghost alone: { (a : Bool) (x b : ℕ) → allowed a false ≡ true → (0 < x → a ≡ true) → allowed (bit_at x b == 1) false ≡ true };
+}
+
+// Ours has each index that theirs has.
+pub(crate) struct Superset;
+
+impl Comparison for Superset {
+    ghost allowed = { includes };
+
+    ghost none = { refl };
+
+    ghost rises = { includes_rises };
+
+    ghost alone = { includes_alone };
+
+    #[inline]
+    fn passes(ours: usize, theirs: usize) -> bool {
+        theirs & !ours == 0
+    }
+}
+
+// Both have the same indices.
+pub(crate) struct Equality;
+
+impl Comparison for Equality {
+    ghost allowed = { agree };
+
+    ghost none = { refl };
+
+    ghost rises = { agree_rises };
+
+    ghost alone = { agree_alone };
+
+    #[inline]
+    fn passes(ours: usize, theirs: usize) -> bool {
+        ours == theirs
+    }
+}
+
+// Compares what lies under word `place` of a layer, that word first.
+fn compare_under<C: Comparison>(ours: &BitSet, theirs: &BitSet, layer: usize, place: usize) -> bool
+    requires layer { layer < LAYERS }
+    requires place { place < 64 ^ (LAYERS - 1 - layer) }
+    ensures yes { result ≡ true → (p : ℕ) → p / 64 ^ layer ≡ place → BitsPass C.allowed (word_of ours.now 0 p) (word_of theirs.now 0 p) }
+    ensures no { result ≡ false → ((p : ℕ) → BitsPass C.allowed (word_of ours.now 0 p) (word_of theirs.now 0 p)) → ⊥ }
+{
+    let word = theirs.get_from_layer(layer, place);
+    if !C::passes(ours.get_from_layer(layer, place), word) {
+        return false;
+    }
+    if layer == 0 {
+        return true;
+    }
+    let mut left = word;
+    while left != 0 {
+        let bit = take_bit(&mut left);
+        if !compare_under::<C>(ours, theirs, layer - 1, 64 * place + bit) {
+            return false;
+        }
+    }
+    true
+}
+
+// Compares two sets, from the top down to the first words that do not pass.
+pub(crate) fn compare<C: Comparison>(ours: &BitSet, theirs: &BitSet) -> bool
+    ensures { IsTrue result ↔ ((i : ℕ) → i < MAX_EID → C.allowed (has ours.now i) (has theirs.now i) ≡ true) }
+{
+    compare_under::<C>(ours, theirs, LAYERS - 1, 0)
+}
+
+impl BitSet {
+    /// Tells whether each member of the other set is one of this set. It takes no memory.
+    ///
+    /// Regions where the other set has no member are skipped.
+    pub fn contains_set(&self, other: &BitSet) -> bool
+        ensures { IsTrue result ↔ ((i : ℕ) → i < MAX_EID → has other.now i ≡ true → has self.now i ≡ true) }
+    {
+        compare::<Superset>(self, other)
+    }
+}
+
+/// Sets are equal where they have the same members. It takes no memory.
+impl PartialEq for BitSet {
+    ghost eq = { on members_of (pointwise ◌==◌) };
+
+    ghost laws = { partial_equiv_from_equiv (on_texts_equal members_of) };
+
+    fn eq(&self, other: &BitSet) -> bool {
+        compare::<Equality>(self, other)
+    }
+}
+
+impl Eq for BitSet {
+    ghost laws = { on_texts_equal members_of };
+}
