@@ -6,3 +6,4 @@ pub mod Operators
 pub mod Comparing
 pub mod Laws
 pub mod Building
+pub mod Strangers

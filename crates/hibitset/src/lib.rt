@@ -19,3 +19,6 @@ pub use hibitset_base::virt;
 pub use hibitset_base::{BitIter, BitSetLike, DrainBitIter, DrainableBitSet, Index};
 pub use hibitset_base::{BitSetAll, BitSetAnd, BitSetNot, BitSetOr, BitSetXor};
 pub use set::BitSet;
+
+#[cfg(test)]
+mod tests;

@@ -1,0 +1,106 @@
+//! A set from `new` to `clear`.
+use crate::tests::{list, set_of};
+use crate::{BitSet, BitSetLike};
+use hibitset_base::util::{LAYERS, MAX, MAX_EID, SHIFT0, SHIFT1, SHIFT2, SHIFT3};
+use std::test::Fail;
+
+#[test]
+fn constants(rt: HostRuntime) {
+    assert_eq!(rt; (LAYERS, MAX, MAX_EID), (4, 24, 16_777_216));
+    assert_eq!(rt; (SHIFT0, SHIFT1, SHIFT2, SHIFT3), (0, 6, 12, 18));
+    assert_eq!(rt; BitSet::BITS_PER_USIZE, 64);
+    assert_eq!(rt; BitSet::LAYER1_GRANULARITY, 64);
+    assert_eq!(rt; BitSet::LAYER2_GRANULARITY, 4_096);
+}
+
+#[test]
+fn an_empty_set(rt: HostRuntime) -> Result<(), Fail> {
+    let set = BitSet::new(rt.alloc());
+    assert!(rt; set.is_empty());
+    assert_eq!(rt; set.layer0_as_slice().len(), 0);
+    assert_eq!(rt; set.layer1_as_slice().len(), 0);
+    assert_eq!(rt; set.layer2_as_slice().len(), 0);
+    assert_eq!(rt; list(rt.alloc(), &set)?.len(), 0);
+    Ok(())
+}
+
+#[test]
+fn words_of_one_index(rt: HostRuntime) -> Result<(), Fail> {
+    let set = set_of(rt.alloc(), &[12345])?;
+    assert_eq!(rt; set.layer0_as_slice().get(192).copied(), Some(1 << 57));
+    assert_eq!(rt; set.layer1_as_slice().get(3).copied(), Some(1));
+    assert_eq!(rt; set.layer2_as_slice().get(0).copied(), Some(8));
+    assert_eq!(rt; (set.layer0(192), set.layer1(3), set.layer2(0), set.layer3()), (1 << 57, 1, 8, 1));
+    assert_eq!(rt; set.get_from_layer(0, 192), 1 << 57);
+    assert_eq!(rt; set.get_from_layer(3, 7), 1);
+    assert!(rt; !set.is_empty());
+    Ok(())
+}
+
+#[test]
+fn border_indices(rt: HostRuntime) -> Result<(), Fail> {
+    let mut set = BitSet::new(rt.alloc());
+    for id in [16777215, 262144, 262143, 4096, 4095, 64, 63, 0] {
+        assert!(rt; !set.add(id)?);
+    }
+    let all = list(rt.alloc(), &set)?;
+    assert_eq!(rt; all.as_slice(), [0, 63, 64, 4095, 4096, 262143, 262144, 16777215].as_slice());
+    Ok(())
+}
+
+#[test]
+fn adding_and_removing_twice(rt: HostRuntime) -> Result<(), Fail> {
+    let mut set = BitSet::new(rt.alloc());
+    assert!(rt; !set.add(5)?);
+    assert!(rt; set.add(5)?);
+    assert!(rt; set.contains(5));
+    assert!(rt; set.remove(5));
+    assert!(rt; !set.remove(5));
+    assert!(rt; !set.contains(5));
+    assert!(rt; !set.remove(16777216));
+    assert!(rt; !set.contains(16777216));
+    assert!(rt; !set.remove(4294967295));
+    Ok(())
+}
+
+#[test]
+fn removing_clears_summaries(rt: HostRuntime) -> Result<(), Fail> {
+    let mut set = set_of(rt.alloc(), &[0, 64, 4096, 262144])?;
+    assert!(rt; set.remove(64));
+    assert_eq!(rt; (set.layer0(1), set.layer1(0), set.layer2(0), set.layer3()), (0, 1, 3, 3));
+    assert!(rt; set.remove(4096));
+    assert_eq!(rt; (set.layer1(1), set.layer2(0), set.layer3()), (0, 1, 3));
+    assert!(rt; set.remove(262144));
+    assert_eq!(rt; (set.layer2(1), set.layer3()), (0, 1));
+    assert!(rt; set.remove(0));
+    assert!(rt; set.is_empty());
+    Ok(())
+}
+
+#[test]
+fn clearing(rt: HostRuntime) -> Result<(), Fail> {
+    let mut set = set_of(rt.alloc(), &[7, 70, 700_000])?;
+    set.clear();
+    assert!(rt; set.is_empty());
+    assert_eq!(rt; set.layer0_as_slice().len(), 0);
+    assert_eq!(rt; set.layer1_as_slice().len(), 0);
+    assert_eq!(rt; set.layer2_as_slice().len(), 0);
+    assert!(rt; !set.add(70)?);
+    let all = list(rt.alloc(), &set)?;
+    assert_eq!(rt; all.as_slice(), [70].as_slice());
+    Ok(())
+}
+
+// Where memory is refused in the middle, the members are those from before. A run under failing allocations takes the other branch.
+#[test]
+fn room_made_before(rt: HostRuntime) -> Result<(), Fail> {
+    let mut set = BitSet::with_capacity(rt.alloc(), 1000)?;
+    assert_eq!(rt; set.add(999), Ok(false));
+    let grown = set.add(5_000_000).is_ok();
+    assert!(rt; set.contains(999));
+    assert_eq!(rt; set.contains(5_000_000), grown);
+    assert_eq!(rt; set.add(998), Ok(false));
+    let none = BitSet::with_capacity(rt.alloc(), 0)?;
+    assert_eq!(rt; none.layer0_as_slice().len(), 0);
+    Ok(())
+}

@@ -1,0 +1,71 @@
+//! The reads of a walk, counted by the set that is read.
+use crate::tests::set_of;
+use crate::{BitSet, BitSetLike, Index};
+use std::cell::Cell;
+use std::test::Fail;
+
+// A set that counts the calls of its layer functions.
+#[derive(Drop)]
+struct Counting {
+    set: BitSet,
+    reads: Cell<usize>,
+}
+
+impl Counting {
+    fn count(&self) {
+        self.reads.set(self.reads.get().wrapping_add(1));
+    }
+}
+
+impl BitSetLike for Counting {
+    ghost use Rattle.hibitset.specs.BitSet.{has, word_of};
+    ghost use Rattle.hibitset.specs.Stored.{stored_lawful};
+    ghost use Rattle.hibitset_base.specs.declared.util.TheConstants.{LAYERS};
+
+    ghost holds = { λ s. has s.set };
+
+    ghost word = { λ s. word_of s.set };
+
+    ghost lawful = { λ s. stored_lawful LAYERS s.set.stored };
+
+    fn layer3(&self) -> usize {
+        self.count();
+        self.set.layer3()
+    }
+
+    fn layer2(&self, i: usize) -> usize {
+        self.count();
+        self.set.layer2(i)
+    }
+
+    fn layer1(&self, i: usize) -> usize {
+        self.count();
+        self.set.layer1(i)
+    }
+
+    fn layer0(&self, i: usize) -> usize {
+        self.count();
+        self.set.layer0(i)
+    }
+
+    fn contains(&self, i: Index) -> bool {
+        self.set.contains(i)
+    }
+}
+
+#[test]
+fn one_word_and_then_three_a_step(rt: HostRuntime) -> Result<(), Fail> {
+    let counting = Counting {
+        set: set_of(rt.alloc(), &[0, 16777215])?,
+        reads: Cell::new(0),
+    };
+    let mut walk = (&counting).iter();
+    assert_eq!(rt; counting.reads.replace(0), 1);
+    assert_eq!(rt; walk.next(), Some(0));
+    assert_eq!(rt; counting.reads.replace(0), 3);
+    assert_eq!(rt; walk.next(), Some(16777215));
+    assert_eq!(rt; counting.reads.replace(0), 3);
+    assert_eq!(rt; walk.next(), None);
+    assert_eq!(rt; counting.reads.replace(0), 0);
+    Ok(())
+}

@@ -1,0 +1,87 @@
+//! Lawful sets that the library doesn't know.
+use crate::tests::{list, set_of};
+use crate::{BitSet, BitSetAnd, BitSetLike, BitSetNot, BitSetOr, BitSetXor, Index};
+use std::test::Fail;
+
+// The set that it has, with all bits in the layers above the lowest.
+#[derive(Drop)]
+struct Everywhere {
+    set: BitSet,
+}
+
+impl BitSetLike for Everywhere {
+    ghost use Rattle.hibitset.specs.BitSet.{has, word_of};
+    ghost use Rattle.hibitset.specs.Stored.{stored_lawful};
+    ghost use Rattle.hibitset.specs.Strangers.{full_word, full_lawful};
+    ghost use Rattle.hibitset_base.specs.declared.util.TheConstants.{LAYERS};
+
+    ghost holds = { λ s. has s.set };
+
+    ghost word = { λ s. full_word (word_of s.set) };
+
+    ghost lawful = { λ s. full_lawful LAYERS (stored_lawful LAYERS s.set.stored) };
+
+    fn layer3(&self) -> usize {
+        !0
+    }
+
+    fn layer2(&self, _i: usize) -> usize {
+        !0
+    }
+
+    fn layer1(&self, _i: usize) -> usize {
+        !0
+    }
+
+    fn layer0(&self, i: usize) -> usize {
+        self.set.layer0(i)
+    }
+
+    fn contains(&self, i: Index) -> bool {
+        self.set.contains(i)
+    }
+}
+
+#[test]
+fn a_stranger_is_walked(rt: HostRuntime) -> Result<(), Fail> {
+    let some = Everywhere {
+        set: set_of(rt.alloc(), &[0, 4096])?,
+    };
+    assert_eq!(rt; list(rt.alloc(), &some)?.as_slice(), [0, 4096].as_slice());
+    assert!(rt; !some.is_empty());
+    let none = Everywhere {
+        set: BitSet::new(rt.alloc()),
+    };
+    assert!(rt; none.is_empty());
+    Ok(())
+}
+
+#[test]
+fn strangers_nested_four_deep(rt: HostRuntime) -> Result<(), Fail> {
+    let some = Everywhere {
+        set: set_of(rt.alloc(), &[0, 9, 4096])?,
+    };
+    let other = set_of(rt.alloc(), &[9, 300000])?;
+    let nested = BitSetAnd(BitSetOr(BitSetXor(BitSetNot(&some), &other), &some), &other);
+    assert_eq!(rt; list(rt.alloc(), &nested)?.as_slice(), [9].as_slice());
+    assert!(rt; nested.contains(9) && !nested.contains(0) && !nested.contains(300000));
+    Ok(())
+}
+
+#[test]
+fn a_stranger_is_put_in(rt: HostRuntime) -> Result<(), Fail> {
+    let stranger = Everywhere {
+        set: set_of(rt.alloc(), &[0, 4096])?,
+    };
+    let mut or = BitSet::new(rt.alloc());
+    or.bitor_assign(&stranger)?;
+    assert_eq!(rt; list(rt.alloc(), &or)?.as_slice(), [0, 4096].as_slice());
+    assert_eq!(rt; (or.layer3(), or.layer2(0)), (1, 3));
+    let mut and = set_of(rt.alloc(), &[0, 9])?;
+    and &= &stranger;
+    assert_eq!(rt; list(rt.alloc(), &and)?.as_slice(), [0].as_slice());
+    let mut xor = set_of(rt.alloc(), &[0, 9])?;
+    xor.bitxor_assign(&stranger)?;
+    assert_eq!(rt; list(rt.alloc(), &xor)?.as_slice(), [9, 4096].as_slice());
+    Ok(())
+}
