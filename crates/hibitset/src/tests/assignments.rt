@@ -6,7 +6,12 @@ use std::test::Fail;
 #[test]
 fn intersections(rt: HostRuntime) -> Result<(), Fail> {
     let rows: [(&[Index], &[Index], &[Index], usize); 6] = [
-        (&[1, 3, 5, 15, 200, 50001], &[1, 3, 50000, 50001], &[1, 3, 50001], 1),
+        (
+            &[1, 3, 5, 15, 200, 50001],
+            &[1, 3, 50000, 50001],
+            &[1, 3, 50001],
+            1,
+        ),
         (&[0, 262144], &[0], &[0], 1),
         (&[16515072], &[], &[], 0),
         (&[0, 262144, 262208], &[262144, 262272], &[262144], 2),
@@ -16,7 +21,11 @@ fn intersections(rt: HostRuntime) -> Result<(), Fail> {
     for (ours, theirs, left, layer3) in rows {
         let mut set = set_of(rt.alloc(), ours)?;
         set &= &set_of(rt.alloc(), theirs)?;
-        assert_eq!(rt; list(rt.alloc(), &set)?.as_slice(), left, "{ours:?} and {theirs:?}");
+        assert_eq!(rt;
+            list(rt.alloc(), &set)?.as_slice(),
+            left,
+            "{ours:?} and {theirs:?}"
+        );
         assert_eq!(rt; set.layer3(), layer3, "{ours:?} and {theirs:?}");
         assert_eq!(rt; set.is_empty(), left.is_empty(), "{ours:?} and {theirs:?}");
     }
@@ -29,10 +38,16 @@ fn unions_and_differences(rt: HostRuntime) -> Result<(), Fail> {
     let theirs = set_of(rt.alloc(), &[1, 3, 50000, 50001])?;
     let mut or = set_of(rt.alloc(), &ours)?;
     or.bitor_assign(&theirs)?;
-    assert_eq!(rt; list(rt.alloc(), &or)?.as_slice(), [1, 3, 5, 15, 200, 50000, 50001].as_slice());
+    assert_eq!(rt;
+        list(rt.alloc(), &or)?.as_slice(),
+        [1, 3, 5, 15, 200, 50000, 50001].as_slice()
+    );
     let mut xor = set_of(rt.alloc(), &ours)?;
     xor.bitxor_assign(&theirs)?;
-    assert_eq!(rt; list(rt.alloc(), &xor)?.as_slice(), [5, 15, 200, 50000].as_slice());
+    assert_eq!(rt;
+        list(rt.alloc(), &xor)?.as_slice(),
+        [5, 15, 200, 50000].as_slice()
+    );
     Ok(())
 }
 
@@ -52,9 +67,15 @@ fn exclusive_or_twice(rt: HostRuntime) -> Result<(), Fail> {
     let mut set = set_of(rt.alloc(), &[0, 262144, 266240])?;
     let other = set_of(rt.alloc(), &[262144, 270336])?;
     set.bitxor_assign(&other)?;
-    assert_eq!(rt; list(rt.alloc(), &set)?.as_slice(), [0, 266240, 270336].as_slice());
+    assert_eq!(rt;
+        list(rt.alloc(), &set)?.as_slice(),
+        [0, 266240, 270336].as_slice()
+    );
     set.bitxor_assign(&other)?;
-    assert_eq!(rt; list(rt.alloc(), &set)?.as_slice(), [0, 262144, 266240].as_slice());
+    assert_eq!(rt;
+        list(rt.alloc(), &set)?.as_slice(),
+        [0, 262144, 266240].as_slice()
+    );
     Ok(())
 }
 

@@ -17,7 +17,11 @@ fn equal_and_contained(rt: HostRuntime) -> Result<(), Fail> {
         let ours = set_of(rt.alloc(), a)?;
         let theirs = set_of(rt.alloc(), b)?;
         assert_eq!(rt; ours.contains_set(&theirs), contains, "{a:?} and {b:?}");
-        assert_eq!(rt; theirs.contains_set(&ours) && contains, same, "{a:?} and {b:?}");
+        assert_eq!(rt;
+            theirs.contains_set(&ours) && contains,
+            same,
+            "{a:?} and {b:?}"
+        );
         assert_eq!(rt; ours == theirs, same, "{a:?} and {b:?}");
         assert_eq!(rt; theirs == ours, same, "{a:?} and {b:?}");
     }
@@ -42,6 +46,9 @@ fn a_copy_stands_alone(rt: HostRuntime) -> Result<(), Fail> {
     let copy = set.clone()?;
     assert!(rt; set == copy);
     assert!(rt; set.remove(70));
-    assert_eq!(rt; list(rt.alloc(), &copy)?.as_slice(), [1, 70, 300000].as_slice());
+    assert_eq!(rt;
+        list(rt.alloc(), &copy)?.as_slice(),
+        [1, 70, 300000].as_slice()
+    );
     Ok(())
 }
