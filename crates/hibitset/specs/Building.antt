@@ -20,16 +20,19 @@ abbrev pub IsRefusal : BuildError → ℕ → ℕ → Type 0
 IsRefusal (OutOfRange place index) count item = (place ≡ place_after count) × (index ≡ item) × (MAX_EID ≤ item)
 IsRefusal (Memory place) count item = (place ≡ place_after count) × (item < MAX_EID)
 
-module _ {S A : Type 0} (steps : S → Option A → S → Type 0) (number : A → ℕ) (it : S) where
-  -- an item of an iterator was refused with this error, after items that are all in range, and no item was drawn after it
+-- U is what is iterated over, S its iterator and A an item, of which `number` reads the index.
+module _ {U S A : Type 0} (becomes : U → S → Type 0) (steps : S → Option A → S → Type 0) (number : A → ℕ) (iter : U) where
+  -- an item was refused with this error, after items that are all in range, and no item was drawn after it
   abbrev pub Refuses : BuildError → Type 0
-  Refuses error = (items : List A) × (refused : A) × (rest : S) × YieldsThen steps it items (Some refused) rest × All (λ x. number x < MAX_EID) items × IsRefusal error (length items) (number refused)
+  Refuses error = (it : S) × (items : List A) × (refused : A) × (rest : S) × becomes iter it × YieldsThen steps it items (Some refused) rest
+      × All (λ x. number x < MAX_EID) items × IsRefusal error (length items) (number refused)
 
   module _ (old new : ℕ → Bool) where
-    -- an iterator came to its end, and all its items were added
+    -- the iterator came to its end, and all its items were added
     abbrev pub TakesAll : Type 0
-    TakesAll = (items : List A) × Drains steps it items × AddsItems number old new items
+    TakesAll = (it : S) × (items : List A) × becomes iter it × Drains steps it items × AddsItems number old new items
 
-    -- the items of an iterator were added up to one that was refused with this error, and no item was drawn after it
+    -- the items were added up to one that was refused with this error, and no item was drawn after it
     abbrev pub StopsAtRefused : BuildError → Type 0
-    StopsAtRefused error = (items : List A) × (refused : A) × (rest : S) × YieldsThen steps it items (Some refused) rest × AddsItems number old new items × IsRefusal error (length items) (number refused)
+    StopsAtRefused error = (it : S) × (items : List A) × (refused : A) × (rest : S) × becomes iter it × YieldsThen steps it items (Some refused) rest
+        × AddsItems number old new items × IsRefusal error (length items) (number refused)

@@ -7,3 +7,4 @@ pub mod Operators
 pub mod Comparing
 pub mod Laws
 pub mod Building
+pub mod Strangers

@@ -1,6 +1,6 @@
 //! Sets made of the items of an iterator, or extended by them.
 ghost use Rattle.std.specs.Prelude.{◌≡◌, ℕ, ◌<◌, ◌≤◌, ◌==◌, ◌||◌, Bool, false, OnOk, IfOk, IfErr};
-ghost use Rattle.std.specs.Iterator.{IsFinite};
+ghost use Rattle.std.specs.Iterator.{IsFiniteIterable};
 ghost use Rattle.hibitset_base.specs.declared.util.TheConstants.{MAX_EID};
 ghost use Rattle.hibitset.specs.BitSet.{has, slice_len};
 ghost use Rattle.hibitset.specs.Building.{IsRefusal, Refuses, TakesAll, StopsAtRefused};
@@ -56,10 +56,13 @@ impl BitSet {
     /// Adds the items of an iterator, each of which is to be below `MAX_EID`.
     ///
     /// It stops at the first item that is not, and where memory is refused: then the set has its old members and the items before that one, and no later item is drawn.
-    pub fn extend_indices<U: IntoIterator<Item = Index>>(&mut self, iter: U) -> Result<(), BuildError>
-        requires { (it : U.IntoIter) → U.into_iter_gives iter it → U.IntoIter.can_next it × IsFinite (U.IntoIter.remaining it) }
-        ensures all { OnOk result ((it : U.IntoIter) × U.into_iter_gives iter it × TakesAll U.IntoIter.next_gives (λ i. i) it (has self.old) (has self.new)) }
-        ensures stops { IfErr result (λ error. (it : U.IntoIter) × U.into_iter_gives iter it × StopsAtRefused U.IntoIter.next_gives (λ i. i) it (has self.old) (has self.new) error) }
+    pub fn extend_indices<U: IntoIterator<Item = Index>>(
+        &mut self,
+        iter: U,
+    ) -> Result<(), BuildError>
+        requires { IsFiniteIterable U.into_iter_gives U.IntoIter.can_next U.IntoIter.remaining iter }
+        ensures all { OnOk result (TakesAll U.into_iter_gives U.IntoIter.next_gives (λ i. i) iter (has self.old) (has self.new)) }
+        ensures stops { IfErr result (StopsAtRefused U.into_iter_gives U.IntoIter.next_gives (λ i. i) iter (has self.old) (has self.new)) }
         ensures keeps { slice_len self.old 0 ≤ slice_len self.new 0 }
     {
         let mut place = 0usize;
@@ -71,10 +74,13 @@ impl BitSet {
     }
 
     /// Adds the items that an iterator gives by reference, as `extend_indices` does.
-    pub fn extend_index_refs<'a, U: IntoIterator<Item = &'a Index>>(&mut self, iter: U) -> Result<(), BuildError>
-        requires { (it : U.IntoIter) → U.into_iter_gives iter it → U.IntoIter.can_next it × IsFinite (U.IntoIter.remaining it) }
-        ensures all { OnOk result ((it : U.IntoIter) × U.into_iter_gives iter it × TakesAll U.IntoIter.next_gives (λ i. i.now) it (has self.old) (has self.new)) }
-        ensures stops { IfErr result (λ error. (it : U.IntoIter) × U.into_iter_gives iter it × StopsAtRefused U.IntoIter.next_gives (λ i. i.now) it (has self.old) (has self.new) error) }
+    pub fn extend_index_refs<'a, U: IntoIterator<Item = &'a Index>>(
+        &mut self,
+        iter: U,
+    ) -> Result<(), BuildError>
+        requires { IsFiniteIterable U.into_iter_gives U.IntoIter.can_next U.IntoIter.remaining iter }
+        ensures all { OnOk result (TakesAll U.into_iter_gives U.IntoIter.next_gives (λ i. i.now) iter (has self.old) (has self.new)) }
+        ensures stops { IfErr result (StopsAtRefused U.into_iter_gives U.IntoIter.next_gives (λ i. i.now) iter (has self.old) (has self.new)) }
         ensures keeps { slice_len self.old 0 ≤ slice_len self.new 0 }
     {
         let mut place = 0usize;
@@ -88,10 +94,13 @@ impl BitSet {
     /// A set of the items of an iterator, each of which is to be below `MAX_EID`.
     ///
     /// It stops at the first item that is not, and where memory is refused: then no later item is drawn.
-    pub fn from_indices<U: IntoIterator<Item = Index>>(alloc: Global, iter: U) -> Result<BitSet, BuildError>
-        requires { (it : U.IntoIter) → U.into_iter_gives iter it → U.IntoIter.can_next it × IsFinite (U.IntoIter.remaining it) }
-        ensures all { IfOk result (λ set. (it : U.IntoIter) × U.into_iter_gives iter it × TakesAll U.IntoIter.next_gives (λ i. i) it (λ i. false) (has set)) }
-        ensures stops { IfErr result (λ error. (it : U.IntoIter) × U.into_iter_gives iter it × Refuses U.IntoIter.next_gives (λ i. i) it error) }
+    pub fn from_indices<U: IntoIterator<Item = Index>>(
+        alloc: Global,
+        iter: U,
+    ) -> Result<BitSet, BuildError>
+        requires { IsFiniteIterable U.into_iter_gives U.IntoIter.can_next U.IntoIter.remaining iter }
+        ensures all { IfOk result (λ set. TakesAll U.into_iter_gives U.IntoIter.next_gives (λ i. i) iter (λ _. false) (has set)) }
+        ensures stops { IfErr result (Refuses U.into_iter_gives U.IntoIter.next_gives (λ i. i) iter) }
     {
         let mut set = BitSet::new(alloc);
         set.extend_indices(iter)?;
@@ -99,10 +108,13 @@ impl BitSet {
     }
 
     /// A set of the items that an iterator gives by reference, as `from_indices` makes it.
-    pub fn from_index_refs<'a, U: IntoIterator<Item = &'a Index>>(alloc: Global, iter: U) -> Result<BitSet, BuildError>
-        requires { (it : U.IntoIter) → U.into_iter_gives iter it → U.IntoIter.can_next it × IsFinite (U.IntoIter.remaining it) }
-        ensures all { IfOk result (λ set. (it : U.IntoIter) × U.into_iter_gives iter it × TakesAll U.IntoIter.next_gives (λ i. i.now) it (λ i. false) (has set)) }
-        ensures stops { IfErr result (λ error. (it : U.IntoIter) × U.into_iter_gives iter it × Refuses U.IntoIter.next_gives (λ i. i.now) it error) }
+    pub fn from_index_refs<'a, U: IntoIterator<Item = &'a Index>>(
+        alloc: Global,
+        iter: U,
+    ) -> Result<BitSet, BuildError>
+        requires { IsFiniteIterable U.into_iter_gives U.IntoIter.can_next U.IntoIter.remaining iter }
+        ensures all { IfOk result (λ set. TakesAll U.into_iter_gives U.IntoIter.next_gives (λ i. i.now) iter (λ _. false) (has set)) }
+        ensures stops { IfErr result (Refuses U.into_iter_gives U.IntoIter.next_gives (λ i. i.now) iter) }
     {
         let mut set = BitSet::new(alloc);
         set.extend_index_refs(iter)?;

@@ -11,13 +11,10 @@ pub mod ops;
 pub mod set;
 
 pub use build::BuildError;
-pub use hibitset_base::drain;
-pub use hibitset_base::iter;
-pub use hibitset_base::like;
-pub use hibitset_base::util;
-pub use hibitset_base::virt;
-pub use hibitset_base::{BitIter, BitSetLike, DrainBitIter, DrainableBitSet, Index};
-pub use hibitset_base::{BitSetAll, BitSetAnd, BitSetNot, BitSetOr, BitSetXor};
+pub use hibitset_base::{
+    BitIter, BitSetAll, BitSetAnd, BitSetLike, BitSetNot, BitSetOr, BitSetXor, DrainBitIter,
+    DrainableBitSet, Index, drain, iter, like, util, virt,
+};
 pub use set::BitSet;
 
 #[cfg(test)]

@@ -30,7 +30,10 @@ fn words_of_one_index(rt: HostRuntime) -> Result<(), Fail> {
     assert_eq!(rt; set.layer0_as_slice().get(192).copied(), Some(1 << 57));
     assert_eq!(rt; set.layer1_as_slice().get(3).copied(), Some(1));
     assert_eq!(rt; set.layer2_as_slice().get(0).copied(), Some(8));
-    assert_eq!(rt; (set.layer0(192), set.layer1(3), set.layer2(0), set.layer3()), (1 << 57, 1, 8, 1));
+    assert_eq!(rt;
+        (set.layer0(192), set.layer1(3), set.layer2(0), set.layer3()),
+        (1 << 57, 1, 8, 1)
+    );
     assert_eq!(rt; set.get_from_layer(0, 192), 1 << 57);
     assert_eq!(rt; set.get_from_layer(3, 7), 1);
     assert!(rt; !set.is_empty());
@@ -44,7 +47,10 @@ fn border_indices(rt: HostRuntime) -> Result<(), Fail> {
         assert!(rt; !set.add(id)?);
     }
     let all = list(rt.alloc(), &set)?;
-    assert_eq!(rt; all.as_slice(), [0, 63, 64, 4095, 4096, 262143, 262144, 16777215].as_slice());
+    assert_eq!(rt;
+        all.as_slice(),
+        [0, 63, 64, 4095, 4096, 262143, 262144, 16777215].as_slice()
+    );
     Ok(())
 }
 
@@ -67,7 +73,10 @@ fn adding_and_removing_twice(rt: HostRuntime) -> Result<(), Fail> {
 fn removing_clears_summaries(rt: HostRuntime) -> Result<(), Fail> {
     let mut set = set_of(rt.alloc(), &[0, 64, 4096, 262144])?;
     assert!(rt; set.remove(64));
-    assert_eq!(rt; (set.layer0(1), set.layer1(0), set.layer2(0), set.layer3()), (0, 1, 3, 3));
+    assert_eq!(rt;
+        (set.layer0(1), set.layer1(0), set.layer2(0), set.layer3()),
+        (0, 1, 3, 3)
+    );
     assert!(rt; set.remove(4096));
     assert_eq!(rt; (set.layer1(1), set.layer2(0), set.layer3()), (0, 1, 3));
     assert!(rt; set.remove(262144));

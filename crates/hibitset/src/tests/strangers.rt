@@ -67,3 +67,21 @@ fn strangers_nested_four_deep(rt: HostRuntime) -> Result<(), Fail> {
     assert!(rt; nested.contains(9) && !nested.contains(0) && !nested.contains(300000));
     Ok(())
 }
+
+#[test]
+fn a_stranger_is_put_in(rt: HostRuntime) -> Result<(), Fail> {
+    let stranger = Everywhere {
+        set: set_of(rt.alloc(), &[0, 4096])?,
+    };
+    let mut or = BitSet::new(rt.alloc());
+    or.bitor_assign(&stranger)?;
+    assert_eq!(rt; list(rt.alloc(), &or)?.as_slice(), [0, 4096].as_slice());
+    assert_eq!(rt; (or.layer3(), or.layer2(0)), (1, 3));
+    let mut and = set_of(rt.alloc(), &[0, 9])?;
+    and &= &stranger;
+    assert_eq!(rt; list(rt.alloc(), &and)?.as_slice(), [0].as_slice());
+    let mut xor = set_of(rt.alloc(), &[0, 9])?;
+    xor.bitxor_assign(&stranger)?;
+    assert_eq!(rt; list(rt.alloc(), &xor)?.as_slice(), [9, 4096].as_slice());
+    Ok(())
+}

@@ -1,6 +1,8 @@
 //! Walks, drains and virtual sets over sets that keep their words.
 use crate::tests::{list, set_of};
-use crate::{BitIter, BitSetAll, BitSetAnd, BitSetLike, BitSetNot, BitSetOr, BitSetXor, DrainableBitSet};
+use crate::{
+    BitIter, BitSetAll, BitSetAnd, BitSetLike, BitSetNot, BitSetOr, BitSetXor, DrainableBitSet,
+};
 use std::test::Fail;
 
 #[test]

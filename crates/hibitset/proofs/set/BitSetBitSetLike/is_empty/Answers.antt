@@ -1,4 +1,4 @@
-use Rattle.std.proofs.Common.{arith, ◌≡◌, ℕ, ◌==◌, ◌-◌, true, sym}
+use Rattle.std.proofs.Common.{arith, ◌≡◌, ℕ, ◌==◌, ◌-◌, true}
 use Rattle.std.proofs.lemmas.Bool.Decides.{nat_tests}
 use Rattle.hibitset_base.specs.declared.util.TheConstants.{LAYERS}
 use Rattle.hibitset_base.proofs.Bounds.{top_tells_empty}

@@ -1,0 +1,135 @@
+//! Assignments, by sets that keep their words and by virtual ones.
+use crate::tests::{list, set_of};
+use crate::{BitSet, BitSetAll, BitSetAnd, BitSetLike, Index};
+use std::test::Fail;
+
+#[test]
+fn intersections(rt: HostRuntime) -> Result<(), Fail> {
+    let rows: [(&[Index], &[Index], &[Index], usize); 6] = [
+        (
+            &[1, 3, 5, 15, 200, 50001],
+            &[1, 3, 50000, 50001],
+            &[1, 3, 50001],
+            1,
+        ),
+        (&[0, 262144], &[0], &[0], 1),
+        (&[16515072], &[], &[], 0),
+        (&[0, 262144, 262208], &[262144, 262272], &[262144], 2),
+        (&[0, 1], &[2], &[], 0),
+        (&[532544], &[532545], &[], 0),
+    ];
+    for (ours, theirs, left, layer3) in rows {
+        let mut set = set_of(rt.alloc(), ours)?;
+        set &= &set_of(rt.alloc(), theirs)?;
+        assert_eq!(rt;
+            list(rt.alloc(), &set)?.as_slice(),
+            left,
+            "{ours:?} and {theirs:?}"
+        );
+        assert_eq!(rt; set.layer3(), layer3, "{ours:?} and {theirs:?}");
+        assert_eq!(rt; set.is_empty(), left.is_empty(), "{ours:?} and {theirs:?}");
+    }
+    Ok(())
+}
+
+#[test]
+fn unions_and_differences(rt: HostRuntime) -> Result<(), Fail> {
+    let ours = [1, 3, 5, 15, 200, 50001];
+    let theirs = set_of(rt.alloc(), &[1, 3, 50000, 50001])?;
+    let mut or = set_of(rt.alloc(), &ours)?;
+    or.bitor_assign(&theirs)?;
+    assert_eq!(rt;
+        list(rt.alloc(), &or)?.as_slice(),
+        [1, 3, 5, 15, 200, 50000, 50001].as_slice()
+    );
+    let mut xor = set_of(rt.alloc(), &ours)?;
+    xor.bitxor_assign(&theirs)?;
+    assert_eq!(rt;
+        list(rt.alloc(), &xor)?.as_slice(),
+        [5, 15, 200, 50000].as_slice()
+    );
+    Ok(())
+}
+
+#[test]
+fn a_union_with_a_phantom(rt: HostRuntime) -> Result<(), Fail> {
+    let a = set_of(rt.alloc(), &[4096])?;
+    let b = set_of(rt.alloc(), &[4097])?;
+    let mut set = BitSet::new(rt.alloc());
+    set.bitor_assign(&BitSetAnd(&a, &b))?;
+    assert_eq!(rt; list(rt.alloc(), &set)?.len(), 0);
+    assert_eq!(rt; set.layer3(), 0);
+    Ok(())
+}
+
+#[test]
+fn exclusive_or_twice(rt: HostRuntime) -> Result<(), Fail> {
+    let mut set = set_of(rt.alloc(), &[0, 262144, 266240])?;
+    let other = set_of(rt.alloc(), &[262144, 270336])?;
+    set.bitxor_assign(&other)?;
+    assert_eq!(rt;
+        list(rt.alloc(), &set)?.as_slice(),
+        [0, 266240, 270336].as_slice()
+    );
+    set.bitxor_assign(&other)?;
+    assert_eq!(rt;
+        list(rt.alloc(), &set)?.as_slice(),
+        [0, 262144, 266240].as_slice()
+    );
+    Ok(())
+}
+
+#[test]
+fn two_combs(rt: HostRuntime) -> Result<(), Fail> {
+    let mut comb = BitSet::new(rt.alloc());
+    let mut other = BitSet::new(rt.alloc());
+    for n in 0..10_000u32 {
+        comb.add(448 * n)?;
+        other.add(832 * n)?;
+    }
+    let mut or = comb.clone()?;
+    or.bitor_assign(&other)?;
+    assert_eq!(rt; list(rt.alloc(), &or)?.len(), 19230);
+    let mut xor = comb.clone()?;
+    xor.bitxor_assign(&other)?;
+    assert_eq!(rt; list(rt.alloc(), &xor)?.len(), 18460);
+    comb &= &other;
+    assert_eq!(rt; list(rt.alloc(), &comb)?.len(), 770);
+    Ok(())
+}
+
+#[test]
+fn a_union_with_all_indices(rt: HostRuntime) -> Result<(), Fail> {
+    let mut set = BitSet::new(rt.alloc());
+    set.bitor_assign(&BitSetAll)?;
+    let mut count = 0usize;
+    for _ in &set {
+        count = count.wrapping_add(1);
+    }
+    assert_eq!(rt; count, 16777216);
+    assert!(rt; !set.contains(16777216));
+    Ok(())
+}
+
+#[test]
+fn adding_after_an_intersection(rt: HostRuntime) -> Result<(), Fail> {
+    let mut set = set_of(rt.alloc(), &[0, 4096])?;
+    set &= &set_of(rt.alloc(), &[0])?;
+    assert!(rt; !set.add(4160)?);
+    assert_eq!(rt; list(rt.alloc(), &set)?.as_slice(), [0, 4160].as_slice());
+    Ok(())
+}
+
+// Where memory is refused, the members are those from before. A run under failing allocations takes the other branch.
+#[test]
+fn a_union_that_grows(rt: HostRuntime) -> Result<(), Fail> {
+    let mut set = set_of(rt.alloc(), &[0])?;
+    let other = set_of(rt.alloc(), &[1000000])?;
+    let grown = set.bitor_assign(&other).is_ok();
+    assert!(rt; set.contains(0));
+    assert_eq!(rt; set.contains(1000000), grown);
+    let added = set.bitxor_assign(&set_of(rt.alloc(), &[2000000])?).is_ok();
+    assert_eq!(rt; set.contains(2000000), added);
+    assert_eq!(rt; set.contains(1000000), grown);
+    Ok(())
+}

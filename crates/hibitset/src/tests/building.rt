@@ -1,0 +1,104 @@
+//! Sets made of the items of an iterator.
+use crate::tests::{list, set_of};
+use crate::{BitSet, BuildError};
+use std::test::Fail;
+
+#[test]
+fn building(rt: HostRuntime) -> Result<(), Fail> {
+    let set = BitSet::from_indices(rt.alloc(), [9u32, 3, 16777215, 3].iter().copied())?;
+    assert_eq!(rt;
+        list(rt.alloc(), &set)?.as_slice(),
+        [3, 9, 16777215].as_slice()
+    );
+    let refs = BitSet::from_index_refs(rt.alloc(), &[5u32, 5, 3])?;
+    assert_eq!(rt; list(rt.alloc(), &refs)?.as_slice(), [3, 5].as_slice());
+    let other = BitSet::from_indices(rt.alloc(), &refs)?;
+    assert!(rt; other == refs);
+    Ok(())
+}
+
+#[test]
+fn building_past_the_range(rt: HostRuntime) {
+    let refused = BitSet::from_indices(rt.alloc(), [16777216u32].iter().copied());
+    assert!(rt;
+        refused
+            == Err(BuildError::OutOfRange {
+                place: 0,
+                index: 16777216
+            })
+    );
+    let refused = BitSet::from_index_refs(rt.alloc(), &[7u32, 4294967295]);
+    assert!(rt;
+        refused
+            == Err(BuildError::OutOfRange {
+                place: 1,
+                index: 4294967295
+            })
+    );
+}
+
+#[test]
+fn extending_past_the_range(rt: HostRuntime) -> Result<(), Fail> {
+    let items = [3u32, 9, 16777216, 4];
+    let mut set = BitSet::new(rt.alloc());
+    let mut iter = items.iter().copied();
+    let ended = set.extend_indices(&mut iter);
+    assert_eq!(rt;
+        ended,
+        Err(BuildError::OutOfRange {
+            place: 2,
+            index: 16777216
+        })
+    );
+    assert_eq!(rt; iter.next(), Some(4));
+    assert_eq!(rt; list(rt.alloc(), &set)?.as_slice(), [3, 9].as_slice());
+    let ended = set.extend_index_refs(&items);
+    assert_eq!(rt;
+        ended,
+        Err(BuildError::OutOfRange {
+            place: 2,
+            index: 16777216
+        })
+    );
+    assert_eq!(rt; set.extend_indices(10..12), Ok(()));
+    assert_eq!(rt;
+        list(rt.alloc(), &set)?.as_slice(),
+        [3, 9, 10, 11].as_slice()
+    );
+    Ok(())
+}
+
+// Where memory is refused, the items before that place are in. A run under failing allocations takes the other branch.
+#[test]
+fn extending_with_little_memory(rt: HostRuntime) -> Result<(), Fail> {
+    let mut set = set_of(rt.alloc(), &[5])?;
+    match set.extend_indices([6u32, 5000000, 7].iter().copied()) {
+        Ok(()) => assert_eq!(rt;
+            list(rt.alloc(), &set)?.as_slice(),
+            [5, 6, 7, 5000000].as_slice()
+        ),
+        Err(error) => {
+            assert_eq!(rt; error, BuildError::Memory { place: 1 });
+            assert_eq!(rt; list(rt.alloc(), &set)?.as_slice(), [5, 6].as_slice());
+        }
+    }
+    Ok(())
+}
+
+#[test]
+fn errors_are_told(rt: HostRuntime) -> Result<(), Fail> {
+    let out = BuildError::OutOfRange {
+        place: 2,
+        index: 16777216,
+    };
+    let memory = BuildError::Memory { place: 1 };
+    assert_eq!(rt;
+        format!(in rt.alloc(); "{out}")?.as_str(),
+        "index 16777216 at place 2 is out of range"
+    );
+    assert_eq!(rt;
+        format!(in rt.alloc(); "{memory}")?.as_str(),
+        "no memory for the index at place 1"
+    );
+    Ok(())
+}
