@@ -7,4 +7,3 @@ pub mod Operators
 pub mod Comparing
 pub mod Laws
 pub mod Building
-pub mod Strangers

@@ -1,0 +1,4 @@
+pub mod Members
+pub mod Kept
+pub mod Steps
+pub mod Runs

@@ -1,0 +1,38 @@
+-- What one command does to one of the sets that are kept is its step.
+use Rattle.std.proofs.Common.{◌≡◌, ℕ, ◌/◌, ◌<◌, ◌≤◌, Bool, true, false, nat_lt, ◌||◌, ◌&&◌, ◌==◌, List, length, get_or, set, refl, sym, ◌∙◌, ap, arith, inl, inr}
+use Rattle.std.proofs.lemmas.Bool.{cases_lt, false≢true}
+use Rattle.std.proofs.lemmas.Bool.Decides.{nat_tests}
+use Rattle.hibitset.specs.declared.set.BitSet.{BitSet}
+use Rattle.hibitset.specs.BitSet.{has, slice_len}
+use Rattle.hibitset_base.specs.Members.{members_below}
+use Rattle.hibitset_base.specs.declared.util.TheConstants.{MAX_EID}
+use Rattle.hibitset_run.specs.declared.script.Slot.{Slot}
+use Rattle.hibitset_run.specs.declared.script.Command.TheVariants as command
+use Rattle.hibitset_run.specs.Script.{bool, list, no_memory, sets_of, slot_number, IsStep}
+use Rattle.hibitset_run.proofs.Members.{has-past, has-in_range}
+use Rattle.hibitset_run.proofs.Kept.{sets_of-at, sets_of-set, sets_of-set_same}
+
+module _ (kept : List BitSet) (slot : Slot) (d : BitSet) (long : length kept ≡ 8) where
+  pub added : (id : ℕ) (new : BitSet) (was : Bool) → id < MAX_EID → was ≡ has (get_or kept (slot_number slot) d) id
+      → ((i : ℕ) → has new i ≡ (has (get_or kept (slot_number slot) d) i || i == id))
+      → IsStep (command.Add slot id) (sets_of kept) (bool was) (sets_of (set kept (slot_number slot) new))
+  added id new was below told members =
+      let test : nat_lt id MAX_EID ≡ true = grind (arith, nat_tests) in
+      let at = sets_of-at kept slot d long in
+      rw test (ap bool (told ∙ ap (λ f. f id) (sym at)), sets_of-set kept slot d long new _ (λ i. members i ∙ ap (λ f. f i || i == id) (sym at)))
+
+  pub refused : (id : ℕ) (new : BitSet) → id < MAX_EID → (id / 64 < slice_len (get_or kept (slot_number slot) d) 0 → false ≡ true)
+      → ((i : ℕ) → has new i ≡ has (get_or kept (slot_number slot) d) i)
+      → IsStep (command.Add slot id) (sets_of kept) no_memory (sets_of (set kept (slot_number slot) new))
+  refused id new below room same =
+      let test : nat_lt id MAX_EID ≡ true = grind (arith, nat_tests) in
+      let past : slice_len (get_or kept (slot_number slot) d) 0 ≤ id / 64 = elim (cases_lt (id / 64) (slice_len (get_or kept (slot_number slot) d) 0)) [ inl lt ↦ absurd (false≢true (room lt)) | inr ge ↦ ge ] in
+      let none : sets_of kept slot id ≡ false = ap (λ f. f id) (sets_of-at kept slot d long) ∙ has-past (get_or kept (slot_number slot) d) id past in
+      rw (test, none) (refl, sets_of-set_same kept slot d long new same)
+
+  pub told : (id : ℕ) (holds : Bool) → holds ≡ has (get_or kept (slot_number slot) d) id → IsStep (command.Has slot id) (sets_of kept) (bool holds) (sets_of kept)
+  told id holds is =
+      (ap bool (is ∙ (sym (has-in_range (get_or kept (slot_number slot) d) id) ∙ ap (λ f. nat_lt id MAX_EID && f id) (sym (sets_of-at kept slot d long)))), refl)
+
+  pub listed : (items : List ℕ) → items ≡ members_below MAX_EID (has (get_or kept (slot_number slot) d)) → IsStep (command.List slot) (sets_of kept) (list items) (sets_of kept)
+  listed items is = (ap list (is ∙ ap (members_below MAX_EID) (sym (sets_of-at kept slot d long))), refl)

@@ -1,0 +1,5 @@
+use Rattle.hibitset_run.proofs.Steps.{listed}
+use Rattle.hibitset_run.proofs.script.list.Goals as goal
+
+pub returns-in-Ok : goal.returns-in-Ok
+returns-in-Ok c = listed c.args.sets.now c.args.slot c.index-sets-number.result c.type_inv.sets c.in-Ok.indices.items (rw c.number.ensures at c.in-Ok.ensures)

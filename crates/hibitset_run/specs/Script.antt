@@ -1,0 +1,79 @@
+-- What commands do to eight sets, and what they reply.
+use Rattle.std.specs.Prelude.{◌≡◌, ℕ, Bool, true, false, not, ◌&&◌, ◌||◌, ◌==◌, nat_lt, if◌then◌else◌, IsTrue, List, [], ◌∷◌, slice_get}
+use Rattle.std.specs.Option.{option_map_or}
+use Rattle.hibitset.specs.declared.set.BitSet.{BitSet}
+use Rattle.hibitset.specs.BitSet.{has}
+use Rattle.hibitset_base.specs.Members.{members_below}
+use Rattle.hibitset_base.specs.declared.util.TheConstants.{MAX_EID}
+use Rattle.hibitset_run.specs.declared.script.Slot.{Slot}
+use Rattle.hibitset_run.specs.declared.script.Slot.TheVariants.{A, B, C, D, E, F, G, H}
+use Rattle.hibitset_run.specs.declared.script.Command.{Command}
+use Rattle.hibitset_run.specs.declared.script.Command.TheVariants as command
+use Rattle.hibitset_run.specs.declared.script.Reply.{Reply}
+use Rattle.hibitset_run.specs.declared.script.Reply.TheVariants as reply
+
+-- which of the eight a slot is
+abbrev pub slot_number : Slot → ℕ
+slot_number A = 0
+slot_number B = 1
+slot_number C = 2
+slot_number D = 3
+slot_number E = 4
+slot_number F = 5
+slot_number G = 6
+slot_number H = 7
+
+-- the eight sets, each as a test of numbers
+abbrev pub Sets : Type 0
+Sets = Slot → ℕ → Bool
+
+-- the sets that are kept in a list
+abbrev pub sets_of : List BitSet → Sets
+sets_of kept slot i = option_map_or (λ set. has set i) (slice_get kept (slot_number slot)) false
+
+-- the sets with another in the place of one
+abbrev pub with_set : Sets → Slot → (ℕ → Bool) → Sets
+with_set sets slot set other i = if slot_number other == slot_number slot then set i else sets other i
+
+-- a reply, with the indices as a list
+pub data Answer : Type 0 where
+  bool : Bool → Answer
+  list : List ℕ → Answer
+  out_of_range : Answer
+  no_memory : Answer
+
+abbrev pub answer_of : Reply → Answer
+answer_of (reply.Bool holds) = bool holds
+answer_of (reply.List indices) = list indices.items
+answer_of reply.OutOfRange = out_of_range
+answer_of reply.NoMemory = no_memory
+
+-- what a command answers where it is not refused memory
+abbrev pub answer : Command → Sets → Answer
+answer (command.Add slot id) sets = if nat_lt id MAX_EID then bool (sets slot id) else out_of_range
+answer (command.Has slot id) sets = bool (nat_lt id MAX_EID && sets slot id)
+answer (command.List slot) sets = list (members_below MAX_EID (sets slot))
+
+-- the sets after a command that is not refused memory
+abbrev pub effect : Command → Sets → Sets
+effect (command.Add slot id) sets = if nat_lt id MAX_EID then with_set sets slot (λ i. sets slot i || i == id) else sets
+effect (command.Has slot id) sets = sets
+effect (command.List slot) sets = sets
+
+-- The command may be refused memory: an `Add` of an index that is in range and not there, and a `List`.
+abbrev pub may_lack_memory : Command → Sets → Bool
+may_lack_memory (command.Add slot id) sets = nat_lt id MAX_EID && not (sets slot id)
+may_lack_memory (command.Has slot id) sets = false
+may_lack_memory (command.List slot) sets = true
+
+-- From the old sets the command gives this answer, and leaves the new sets. One that is refused memory changes nothing.
+abbrev pub IsStep : Command → Sets → Answer → Sets → Type 0
+IsStep command old no_memory new = IsTrue (may_lack_memory command old) × (new ≡ old)
+IsStep command old given new = (given ≡ answer command old) × (new ≡ effect command old)
+
+-- The commands, one after the other, each on the sets that the ones before it left, and one answer to each.
+abbrev pub IsRun : List Command → Sets → List Answer → Sets → Type 0
+IsRun [] old [] new = new ≡ old
+IsRun (command ∷ commands) old (given ∷ answers) new = (between : Sets) × IsStep command old given between × IsRun commands between answers new
+IsRun [] old (given ∷ answers) new = ⊥
+IsRun (command ∷ commands) old [] new = ⊥

@@ -1,0 +1,15 @@
+//! Runs a script of commands on eight sets, from standard input to standard output.
+#![tactic(auto)]
+
+mod script;
+
+use script::Ended;
+use std::process::ExitCode;
+
+fn main(rt: HostRuntime) -> ExitCode {
+    let ended = script::run_text(rt.alloc(), rt.stdin(), rt.stdout());
+    if ended != Ended::Done {
+        let _ = eprintln!(rt; "{ended}");
+    }
+    ExitCode::from(ended.status())
+}

@@ -1,0 +1,265 @@
+use super::*;
+use std::array;
+use std::io::{self, ErrorKind, Read, Write};
+use std::test::Fail;
+
+// What a script prints, and how it ends.
+fn printed(alloc: Global, script: &str) -> (Vec<u8>, Ended) {
+    let mut output = Vec::new(alloc);
+    let ended = run_text(alloc, script.as_bytes(), &mut output);
+    (output, ended)
+}
+
+// Gives its bytes, at most three at a time, and then fails each read.
+#[derive(Drop)]
+struct Breaking<'a> {
+    bytes: &'a [u8],
+    kind: ErrorKind,
+}
+
+impl Read for Breaking<'_> {
+    fn read(&mut self, buf: &mut [u8]) -> io::Result<usize> {
+        if self.bytes.is_empty() {
+            return Err(io::Error::new(self.kind, "broken"));
+        }
+        let count = buf.len().min(3);
+        self.bytes.read(&mut buf[..count])
+    }
+}
+
+// Gives its bytes, with an interruption before each read.
+#[derive(Drop)]
+struct Halting<'a> {
+    bytes: &'a [u8],
+    halted: bool,
+}
+
+impl Read for Halting<'_> {
+    fn read(&mut self, buf: &mut [u8]) -> io::Result<usize> {
+        self.halted = !self.halted;
+        if self.halted {
+            return Err(io::Error::new(ErrorKind::Interrupted, "halted"));
+        }
+        self.bytes.read(buf)
+    }
+}
+
+// Fails each write, or each flush.
+#[derive(Drop)]
+struct Full {
+    kind: ErrorKind,
+    writes: usize,
+    takes_text: bool,
+}
+
+impl Write for Full {
+    fn write(&mut self, buf: &[u8]) -> io::Result<usize> {
+        self.writes = self.writes.saturating_add(1);
+        if self.takes_text {
+            return Ok(buf.len());
+        }
+        Err(io::Error::new(self.kind, "full"))
+    }
+
+    fn flush(&mut self) -> io::Result<()> {
+        Err(io::Error::new(self.kind, "full"))
+    }
+}
+
+#[test]
+fn prints_one_line_a_reply(rt: HostRuntime) {
+    let rows = [
+        (
+            "add a 5\nadd a 5\nhas a 5\nhas a 6\nlist a\n",
+            "false\ntrue\ntrue\nfalse\n5\n",
+        ),
+        ("add a 16777216\nlist a\n", "out of range\n\n"),
+        ("", ""),
+        ("add a 5\nadd a 3\nlist a", "false\nfalse\n3 5\n"),
+        (
+            "add a 16777215\nadd h 0\nhas h 16777215\nhas a 4294967295\nlist a\nlist h\n",
+            "false\nfalse\nfalse\nfalse\n16777215\n0\n",
+        ),
+    ];
+    for (script, text) in rows {
+        let (output, ended) = printed(rt.alloc(), script);
+        assert_eq!(rt; ended, Ended::Done, "after {script:?}");
+        assert_eq!(rt; output.as_slice(), text.as_bytes(), "after {script:?}");
+    }
+}
+
+#[test]
+fn takes_a_line_as_it_is_written(rt: HostRuntime) {
+    let good = [
+        "add a 0",
+        "add h 16777215",
+        "has b 4294967295",
+        "add c 1000000000",
+        "list d",
+        "add e 16777216",
+    ];
+    for line in good {
+        assert_eq!(rt; printed(rt.alloc(), line).1, Ended::Done, "after {line:?}");
+    }
+}
+
+#[test]
+fn refuses_every_other_line(rt: HostRuntime) {
+    let bad = [
+        "\n",
+        " ",
+        "add",
+        "add a",
+        "add a ",
+        "add a 5 ",
+        " add a 5",
+        "add  a 5",
+        "add a  5",
+        "add a 5 6",
+        "add 5 a",
+        "add\ta\t5",
+        "add i 5",
+        "add A 5",
+        "add ab 5",
+        "Add a 5",
+        "addd a 5",
+        "add a 05",
+        "add a 00",
+        "add a +5",
+        "add a -5",
+        "add a 5x",
+        "add a 4294967296",
+        "add a 10000000000",
+        "add a 5\r\n",
+        "has a",
+        "list",
+        "list a ",
+        "list a b",
+        "lists a",
+        "remove a 5",
+        "count a",
+        "add a \u{665}",
+    ];
+    for line in bad {
+        let (output, ended) = printed(rt.alloc(), line);
+        assert_eq!(rt; ended, Ended::BadLine(1), "after {line:?}");
+        assert_eq!(rt; output.len(), 0, "after {line:?}");
+    }
+}
+
+#[test]
+fn names_the_first_bad_line(rt: HostRuntime) {
+    let rows = [
+        ("add a 05\n", 1),
+        ("add a 5\n\nadd a 5\n", 2),
+        ("add a 5\nadd a 6\n\n", 3),
+        ("list a\nlist\nlist\n", 2),
+    ];
+    for (script, number) in rows {
+        let (output, ended) = printed(rt.alloc(), script);
+        assert_eq!(rt; ended, Ended::BadLine(number), "after {script:?}");
+        assert_eq!(rt; output.len(), 0, "after {script:?}");
+    }
+}
+
+#[test]
+fn ends_where_a_read_fails(rt: HostRuntime) {
+    for kind in [ErrorKind::Other, ErrorKind::OutOfMemory] {
+        let reader = Breaking {
+            bytes: b"add a 5\n",
+            kind,
+        };
+        let mut output = Vec::new(rt.alloc());
+        let ended = run_text(rt.alloc(), reader, &mut output);
+        assert_eq!(rt; ended, Ended::InputFailed);
+        assert_eq!(rt; output.len(), 0);
+    }
+}
+
+#[test]
+fn reads_on_after_an_interruption(rt: HostRuntime) {
+    let reader = Halting {
+        bytes: b"add a 5\n",
+        halted: false,
+    };
+    let mut output = Vec::new(rt.alloc());
+    assert_eq!(rt; run_text(rt.alloc(), reader, &mut output), Ended::Done);
+    assert_eq!(rt; output.as_slice(), b"false\n".as_slice());
+}
+
+#[test]
+fn ends_where_a_write_fails(rt: HostRuntime) {
+    for (kind, takes_text) in [
+        (ErrorKind::Other, false),
+        (ErrorKind::OutOfMemory, false),
+        (ErrorKind::Other, true),
+    ] {
+        let mut writer = Full {
+            kind,
+            writes: 0,
+            takes_text,
+        };
+        let ended = run_text(rt.alloc(), b"add a 5\n".as_slice(), &mut writer);
+        assert_eq!(rt; ended, Ended::OutputFailed);
+        assert_eq!(rt; writer.writes, 1);
+    }
+}
+
+#[test]
+fn writes_nothing_where_nothing_is_asked(rt: HostRuntime) {
+    let mut writer = Full {
+        kind: ErrorKind::Other,
+        writes: 0,
+        takes_text: false,
+    };
+    let ended = run_text(rt.alloc(), b"".as_slice(), &mut writer);
+    assert_eq!(rt; ended, Ended::Done);
+    assert_eq!(rt; writer.writes, 0);
+}
+
+#[test]
+fn says_how_it_ended(rt: HostRuntime) -> Result<(), Fail> {
+    let rows = [
+        (Ended::Done, 0, ""),
+        (Ended::BadLine(17), 2, "bad line 17"),
+        (Ended::NoMemory, 3, "no memory"),
+        (Ended::InputFailed, 4, "input failed"),
+        (Ended::OutputFailed, 5, "output failed"),
+    ];
+    for (ended, status, text) in rows {
+        assert_eq!(rt; ended.status(), status);
+        assert_eq!(rt; ended.to_string(rt.alloc())?.as_str(), text);
+    }
+    Ok(())
+}
+
+#[test]
+fn runs_commands_on_the_sets_that_are_there(rt: HostRuntime) -> Result<(), Fail> {
+    let alloc = rt.alloc();
+    let mut sets = array::from_fn(|_| BitSet::new(alloc));
+    let set = Slot::C;
+    let commands = [Command::Add { set, id: 70 }, Command::Add { set, id: 7 }];
+    let replies = run(alloc, &mut sets, &commands)?;
+    assert_eq!(rt;
+        replies.as_slice(),
+        [Reply::Bool(false), Reply::Bool(false)].as_slice()
+    );
+    let commands = [
+        Command::Has { set, id: 7 },
+        Command::List { set },
+        Command::Has {
+            set: Slot::D,
+            id: 7,
+        },
+        Command::Add { set, id: 1 << 24 },
+    ];
+    let replies = run(alloc, &mut sets, &commands)?;
+    let wanted = [
+        Reply::Bool(true),
+        Reply::List(vec![in alloc; 7, 70]?),
+        Reply::Bool(false),
+        Reply::OutOfRange,
+    ];
+    assert_eq!(rt; replies.as_slice(), wanted.as_slice());
+    Ok(())
+}
