@@ -1,7 +1,7 @@
 -- What holds of all sets.
-use Rattle.std.specs.Prelude.{◌≡◌, ℕ, ◌<◌, Bool, true}
+use Rattle.std.specs.Prelude.{◌≡◌, ℕ, ◌<◌, Bool, true, bit_and}
 use Rattle.hibitset_base.specs.declared.util.TheConstants.{MAX_EID}
-use Rattle.hibitset.specs.BitSet.{has}
+use Rattle.hibitset.specs.BitSet.{has, word_of}
 use Rattle.hibitset_base.specs.Virtual.{differ}
 use Rattle.hibitset.specs.declared.set.BitSet.{BitSet}
 
@@ -16,3 +16,7 @@ ContainsSet a b = (i : ℕ) → i < MAX_EID → has b i ≡ true → has a i ≡
 -- new has the members of old or of the other set alone, as after `bitxor_assign`
 abbrev pub IsExclusiveOr : BitSet → (ℕ → Bool) → BitSet → Type 0
 IsExclusiveOr old other new = (i : ℕ) → i < MAX_EID → has new i ≡ differ (has old i) (other i)
+
+-- the words of `BitSetAnd` over both
+abbrev pub intersected : BitSet → BitSet → ℕ → ℕ → ℕ
+intersected a b l p = bit_and (word_of a l p) (word_of b l p)

@@ -205,12 +205,13 @@ some_length xs e some = let h : length xs ≡ 0 = ap length e in absurd (omega (
 pub top_tells_empty : (d : ℕ) (p : ℕ → Bool) (a : ℕ → ℕ → ℕ) → IsLawful (suc d) p a → IsExact (suc d) a → ((l q : ℕ) → a l q < 2 ^ 64) → (a d 0 ≡ 0) ↔ (members_below (64 ^ suc d) p ≡ [])
 top_tells_empty d p a lawful exact words =
     let start : 0 * 64 ^ suc d ≡ 0 = omega arith in
-    let encloses : Encloses (suc d) p a a = record { lawful = lawful; exact = exact; words = words; inside = λ l q b h. h } in
-    (λ none. rw start at (no_members (suc d) p a lawful d 0 0 (omega arith) (lit< tt) none),
-    λ empty. elim (zero_or_above (a d 0)) [
-      | inl none ↦ none
-      | inr some ↦
-          let f = some_under (suc d) p a a encloses d 0 0 (omega arith) (lit< tt) some in
-          let below : f.at < 0 + 64 ^ suc d = (let h = f.below in rw start at h) in
-          absurd (some_length (members_below (64 ^ suc d) p) empty (some-members p 0 (64 ^ suc d) f.at (omega arith) below f.holds))
-    ])
+    let encloses : Encloses (suc d) p a a = record { lawful = lawful; exact = exact; words = words; inside = λ l q b h. h } in (
+      λ none. rw start at (no_members (suc d) p a lawful d 0 0 (omega arith) (lit< tt) none),
+      λ empty. elim (zero_or_above (a d 0)) [
+        | inl none ↦ none
+        | inr some ↦
+            let f = some_under (suc d) p a a encloses d 0 0 (omega arith) (lit< tt) some in
+            let below : f.at < 0 + 64 ^ suc d = (let h = f.below in rw start at h) in
+            absurd (some_length (members_below (64 ^ suc d) p) empty (some-members p 0 (64 ^ suc d) f.at (omega arith) below f.holds))
+      ],
+    )

@@ -62,4 +62,3 @@ or_is_sum a t word small =
     let l : bit_or a t ≡ bit_or (x * 64 + 0) (0 * 64 + t) = ap (λ y. bit_or y t) a-is ∙ ap (λ y. bit_or (x * 64 + 0) y) t-is in
     let z : bit_or x 0 ≡ x = or_zero_r x in
     l ∙ (h ∙ rw z (omega arith))
-

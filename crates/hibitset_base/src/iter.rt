@@ -90,7 +90,12 @@ pub(crate) fn start<T: BitSetLike>(set: &T, reads: &mut Reads) -> Cursor<LAYERS>
 
 // Reads the word under the first bit of `layer`, to go on from there. False where no bit is left in `layer`.
 #[inline]
-fn descend<T: BitSetLike>(set: &T, cursor: &mut Cursor<LAYERS>, reads: &mut Reads, layer: usize) -> bool
+fn descend<T: BitSetLike>(
+    set: &T,
+    cursor: &mut Cursor<LAYERS>,
+    reads: &mut Reads,
+    layer: usize,
+) -> bool
     requires layer { layer < LAYERS }
     requires above { 0 < layer }
     requires lowest { IsEmptyBelow cursor.old layer }
@@ -122,7 +127,11 @@ fn refill<T: BitSetLike>(set: &T, cursor: &mut Cursor<LAYERS>, reads: &mut Reads
 
 // The first index that is left, which is taken.
 #[inline]
-pub(crate) fn step<T: BitSetLike>(set: &T, cursor: &mut Cursor<LAYERS>, reads: &mut Reads) -> Option<Index>
+pub(crate) fn step<T: BitSetLike>(
+    set: &T,
+    cursor: &mut Cursor<LAYERS>,
+    reads: &mut Reads,
+) -> Option<Index>
     ensures end { result ≡ None → (left cursor.new ≡ []) }
     ensures goes { MatchOption result (GoesOn LAYERS (T.holds set.now) (T.word set.now) reads.old.count (left cursor.old) reads.new.count (left cursor.new)) (λ i. GoesOn LAYERS (T.holds set.now) (T.word set.now) reads.old.count (left cursor.old) reads.new.count ((record { layer = 0; position = i }) ∷ left cursor.new)) }
     ensures before { MatchOption result ⊤ (λ i. MayGoOn cursor.new 0 i) }

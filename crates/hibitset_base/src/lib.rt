@@ -4,6 +4,7 @@
 pub mod cursor;
 pub mod drain;
 pub mod iter;
+pub mod laws;
 pub mod like;
 pub mod ops;
 pub mod reads;
@@ -15,3 +16,6 @@ pub use iter::BitIter;
 pub use like::{BitSetLike, DrainableBitSet};
 pub use util::Index;
 pub use virt::{BitSetAll, BitSetAnd, BitSetNot, BitSetOr, BitSetXor};
+
+#[cfg(test)]
+mod tests;

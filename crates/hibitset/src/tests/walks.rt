@@ -1,8 +1,18 @@
 //! Walks, drains and virtual sets over sets that keep their words.
+ghost use Rattle.std.specs.Prelude.{◌≡◌};
+ghost use Rattle.hibitset_base.specs.Reading.{IsBoundBy};
+ghost use Rattle.hibitset_base.specs.Walk.{words_read, words_ahead};
+ghost use Rattle.hibitset_base.specs.declared.util.TheConstants.{LAYERS};
+ghost use Rattle.hibitset.specs.BitSet.{has};
+ghost use Rattle.hibitset.specs.Laws.{intersected};
+
+use crate::laws::laws;
 use crate::tests::{list, set_of};
 use crate::{
-    BitIter, BitSetAll, BitSetAnd, BitSetLike, BitSetNot, BitSetOr, BitSetXor, DrainableBitSet,
+    BitIter, BitSet, BitSetAll, BitSetAnd, BitSetLike, BitSetNot, BitSetOr, BitSetXor,
+    DrainableBitSet,
 };
+use hibitset_base::util::LAYERS;
 use std::test::Fail;
 
 #[test]
@@ -141,5 +151,23 @@ fn walks_by_value(rt: HostRuntime) -> Result<(), Fail> {
     assert!(rt; (&mut a).remove(3));
     let owned: Vec<u32> = a.into_iter().collect(rt.alloc())?;
     assert_eq!(rt; owned.as_slice(), [1, 70].as_slice());
+    Ok(())
+}
+
+// A walk over an intersection, whose words all lie over members of the first set, and are at most three for each.
+fn walk_both<'a>(a: &'a BitSet, b: &'a BitSet) -> BitIter<BitSetAnd<&'a BitSet, &'a BitSet>>
+    ensures read { words_read result ≡ 1 }
+    ensures bound { IsBoundBy LAYERS (has a.now) (words_ahead (λ both. intersected both.0.now both.1.now) result) }
+{
+    laws();
+    (a & b).iter()
+}
+
+#[test]
+fn a_walk_over_both(rt: HostRuntime) -> Result<(), Fail> {
+    let a = set_of(rt.alloc(), &[3, 70])?;
+    let b = set_of(rt.alloc(), &[70, 71])?;
+    let both: Vec<u32> = walk_both(&a, &b).collect(rt.alloc())?;
+    assert_eq!(rt; both.as_slice(), [70].as_slice());
     Ok(())
 }

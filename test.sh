@@ -1,0 +1,5 @@
+#!/usr/bin/env bash
+# Proves every crate from nothing, tries the wrong bodies, runs the tests and the program.
+set -euo pipefail
+cd "$(dirname "$0")"
+rt ci
