@@ -1,15 +1,14 @@
 -- A walk reads the word under its next place, and goes on from that word's bits.
-use Rattle.std.proofs.Common.{◌≡◌, ℕ, zero, suc, ◌+◌, ◌-◌, ◌*◌, ◌/◌, ◌%◌, ◌^◌, ◌<◌, ◌≤◌, Bool, true, false, cond, ◌==◌, List, [], ◌∷◌, ◌++◌, All, map, length, refl, sym, ◌∙◌, ap, arith, inl, inr, append_assoc}
+use Rattle.std.proofs.Common.{◌≡◌, ℕ, zero, suc, ◌+◌, ◌-◌, ◌*◌, ◌/◌, ◌%◌, ◌^◌, ◌<◌, ◌≤◌, Bool, true, false, cond, ◌==◌, List, [], ◌∷◌, ◌++◌, All, length, refl, sym, ◌∙◌, ap, arith}
 use Rattle.std.proofs.Math.Nat.{pow-succ'}
 use Rattle.std.proofs.lemmas.List.Folds.{flat_map-map}
 use Rattle.std.proofs.lemmas.Grind.{flat_map-append}
 use Rattle.std.proofs.lemmas.List.Elements.{All-nil, All-cons, All-head, All-tail, All-append}
 use Rattle.std.proofs.lemmas.Bool.Decides.{nat_tests}
-use Rattle.std.proofs.lemmas.Nat.Bits.{bit_at-lt}
 use Rattle.std.specs.List.{flat_map}
 use Rattle.std.specs.Int.{bit_at, trailing_zeros, w64}
 use Rattle.hibitset_base.specs.Members.{members}
-use Rattle.hibitset_base.specs.Sets.{IsLawful, IsExact}
+use Rattle.hibitset_base.specs.Sets.{IsLawful}
 use Rattle.hibitset_base.specs.Places.{Place, places_in, places_left, bits_from, items_under, items_of}
 use Rattle.hibitset_base.specs.Reading.{words_under, words_of, Stands, AllStand, depth, GoesOn}
 use Rattle.hibitset_base.proofs.Left.{bits-first}

@@ -1,9 +1,8 @@
 -- What a walk has left does not change when its last item is taken out of the set.
-use Rattle.std.proofs.Common.{◌≡◌, ◌≢◌, ℕ, zero, suc, ◌+◌, ◌-◌, ◌*◌, ◌/◌, ◌%◌, ◌^◌, ◌<◌, ◌≤◌, ◌==◌, Bool, List, [], ◌∷◌, ◌++◌, All, length, get_or, refl, sym, ◌∙◌, ap, subst, arith, lit<}
+use Rattle.std.proofs.Common.{◌≡◌, ◌≢◌, ℕ, zero, suc, ◌+◌, ◌-◌, ◌*◌, ◌/◌, ◌^◌, ◌<◌, ◌≤◌, ◌==◌, Bool, List, [], ◌∷◌, ◌++◌, All, length, get_or, refl, ◌∙◌, ap, arith, lit<}
 use Rattle.std.specs.Int.{bit_at}
 use Rattle.std.proofs.Math.Nat.{lt-mul-div-succ, mul-le-mul_left, one-le-pow}
 use Rattle.std.proofs.lemmas.List.Elements.{All-nil, All-head, All-tail, All-append}
-use Rattle.hibitset_base.specs.Members.{members}
 use Rattle.hibitset_base.specs.Places.{Place, places_in, places_left, bits_from, items_under, items_of, ComesBefore}
 use Rattle.hibitset_base.proofs.Members.{members-same}
 use Rattle.hibitset_base.proofs.Descending.{all-members, one_of}

@@ -1,7 +1,7 @@
 -- A walk goes on in several steps.
-use Rattle.std.proofs.Common.{◌≡◌, ℕ, ◌+◌, ◌≤◌, ◌<◌, Bool, List, [], ◌++◌, refl, sym, ◌∙◌, ap, arith, length, length-append, append_assoc}
+use Rattle.std.proofs.Common.{ℕ, Bool, List, [], ◌++◌, refl, sym, ◌∙◌, ap, arith, length-append, append_assoc}
 use Rattle.hibitset_base.specs.Places.{Place}
-use Rattle.hibitset_base.specs.Reading.{GoesOn, words_of}
+use Rattle.hibitset_base.specs.Reading.{GoesOn}
 
 module _ {n : ℕ} {holds : ℕ → Bool} {word : ℕ → ℕ → ℕ} where
   pub goes_nowhere : (r : ℕ) (ps : List Place) → GoesOn n holds word r ps r ps

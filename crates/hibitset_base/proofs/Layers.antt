@@ -1,5 +1,5 @@
 -- The words of a lawful set, of any number of layers, and the members under them.
-use Rattle.std.proofs.Common.{◌≡◌, ℕ, zero, suc, ◌+◌, ◌-◌, ◌*◌, ◌/◌, ◌%◌, ◌^◌, ◌<◌, ◌≤◌, Bool, true, false, cond, ◌==◌, List, [], ◌∷◌, ◌++◌, refl, sym, ◌∙◌, ap, arith, ◌⊎◌, inl, inr}
+use Rattle.std.proofs.Common.{◌≡◌, ℕ, zero, suc, ◌+◌, ◌-◌, ◌*◌, ◌/◌, ◌%◌, ◌^◌, ◌<◌, ◌≤◌, Bool, true, false, cond, ◌==◌, [], ◌∷◌, refl, sym, ◌∙◌, ap, arith, ◌⊎◌, inl, inr}
 use Rattle.std.proofs.Math.Nat.{pow-succ'}
 use Rattle.std.proofs.lemmas.Nat.Bits.{bit_at-lt, bit_at-zero}
 use Rattle.std.proofs.lemmas.List.Folds.{flat_map-map}
@@ -7,8 +7,8 @@ use Rattle.std.specs.List.{flat_map}
 use Rattle.std.specs.Int.{bit_at}
 use Rattle.hibitset_base.specs.Members.{members}
 use Rattle.hibitset_base.specs.Sets.{IsLawful, bit_of}
-use Rattle.hibitset_base.specs.Places.{Place, places_in, bits_from, items_under, items_of}
-use Rattle.hibitset_base.proofs.Members.{members-none, members-same, members-blocks, true_or_false}
+use Rattle.hibitset_base.specs.Places.{places_in, bits_from, items_under, items_of}
+use Rattle.hibitset_base.proofs.Members.{members-none, members-blocks}
 
 -- a number is 0 or above
 pub zero_or_above : (x : ℕ) → (x ≡ 0) ⊎ (0 < x)

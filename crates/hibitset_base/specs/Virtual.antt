@@ -1,10 +1,10 @@
 -- Sets that are made of other sets, a word at a time. They are lawful where their operands are.
-use Rattle.std.specs.Prelude.{◌≡◌, ℕ, zero, suc, ◌+◌, ◌-◌, ◌*◌, ◌/◌, ◌%◌, ◌^◌, ◌<◌, ◌≤◌, Bool, true, false, cond, ◌&&◌, ◌||◌, not, bit_and, bit_or, bit_xor, min, max, refl, ◌⊎◌}
+use Rattle.std.specs.Prelude.{◌≡◌, ℕ, zero, suc, ◌+◌, ◌-◌, ◌*◌, ◌/◌, ◌%◌, ◌^◌, ◌<◌, Bool, true, false, ◌&&◌, ◌||◌, not, bit_and, bit_or, bit_xor, min, max, refl, ◌⊎◌}
 use Rattle.std.specs.Int.{bit_at, bit_not, w64}
-use Rattle.std.specs.Int.Bits.{or_zero_l, or_zero_r}
-use Rattle.std.proofs.Common.{arith, ap, sym, ◌∙◌, inl, inr, lit<}
+use Rattle.std.specs.Int.Bits.{or_zero_l}
+use Rattle.std.proofs.Common.{arith, ap, sym, ◌∙◌, inl, inr}
 use Rattle.std.proofs.lemmas.Nat.{and_le_l, and_le_r, and_mask}
-use Rattle.std.proofs.lemmas.Nat.Bits.{bit_at-zero, bit_at_and, bit_at_or, bit_at_xor, bit_at_not, bit_at_ones, bit_at-lt}
+use Rattle.std.proofs.lemmas.Nat.Bits.{bit_at_and, bit_at_or, bit_at_xor, bit_at_not, bit_at_ones, bit_at-lt}
 use Rattle.hibitset_base.specs.Sets.{IsLawful, bit_of}
 
 -- one of the two holds, and not both

@@ -1,4 +1,4 @@
-use Rattle.std.proofs.Common.{◌≡◌, ℕ, suc, ◌+◌, ◌-◌, ◌*◌, ◌^◌, ◌<◌, Bool, List, length, arith, subst}
+use Rattle.std.proofs.Common.{◌≡◌, ℕ, ◌+◌, ◌-◌, ◌^◌, ◌<◌, Bool, List, arith, subst}
 use Rattle.hibitset_base.specs.Places.{Place}
 use Rattle.hibitset_base.specs.Cursor.{left}
 use Rattle.hibitset_base.specs.declared.util.TheConstants.{LAYERS}

@@ -1,6 +1,6 @@
-use Rattle.std.proofs.Common.{◌≡◌, ℕ, suc, ◌+◌, ◌-◌, ◌∷◌, Bool, List, sym, ap, ◌∙◌}
-use Rattle.hibitset_base.specs.Places.{places_in, bits_from, items_of}
-use Rattle.hibitset_base.specs.Reading.{AllStand, words_under, words_of, IsBoundBy}
+use Rattle.std.proofs.Common.{ℕ, ◌-◌, ◌∷◌, Bool, sym, ap}
+use Rattle.hibitset_base.specs.Places.{bits_from}
+use Rattle.hibitset_base.specs.Reading.{words_under, IsBoundBy}
 use Rattle.std.specs.List.{flat_map}
 use Rattle.hibitset_base.proofs.Bounds.{walk_is_bound}
 use Rattle.hibitset_base.specs.declared.util.TheConstants.{LAYERS}

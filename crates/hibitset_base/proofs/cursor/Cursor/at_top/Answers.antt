@@ -1,7 +1,7 @@
-use Rattle.std.proofs.Common.{◌≡◌, ℕ, zero, suc, ◌+◌, ◌-◌, ◌*◌, ◌^◌, ◌<◌, ◌≤◌, List, [], ◌++◌, length, get_or, refl, arith, sym, ap, subst, ◌∙◌, replicate}
+use Rattle.std.proofs.Common.{◌≡◌, ℕ, suc, ◌-◌, ◌<◌, List, length, get_or, arith, sym, ap, subst, ◌∙◌, replicate}
 use Rattle.std.proofs.Math.ListN.{set}
-use Rattle.std.proofs.lemmas.List.{get_or-set_same, length-set, length-replicate}
-use Rattle.hibitset_base.specs.Places.{IsWellFormed, places_in, places_left, bits_from}
+use Rattle.std.proofs.lemmas.List.{length-set, length-replicate}
+use Rattle.hibitset_base.specs.Places.{IsWellFormed}
 use Rattle.hibitset_base.proofs.Starting.{top_formed, top_below, none_left, top_left}
 use Rattle.hibitset_base.proofs.cursor.Cursor.at_top.Goals as goal
 

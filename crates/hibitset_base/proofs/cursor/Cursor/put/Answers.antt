@@ -1,4 +1,4 @@
-use Rattle.std.proofs.Common.{◌≡◌, ℕ, ◌+◌, ◌-◌, ◌*◌, ◌/◌, ◌%◌, ◌^◌, ◌<◌, ◌≤◌, ◌++◌, length, get_or, List, arith}
+use Rattle.std.proofs.Common.{ℕ, ◌*◌, arith}
 use Rattle.hibitset_base.proofs.Putting.{shifted, formed_after}
 use Rattle.hibitset_base.proofs.Left.{left-put}
 use Rattle.hibitset_base.proofs.cursor.Cursor.put.Goals as goal

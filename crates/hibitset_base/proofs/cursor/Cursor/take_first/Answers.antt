@@ -1,4 +1,4 @@
-use Rattle.std.proofs.Common.{◌≡◌, ℕ, ◌+◌, ◌-◌, ◌*◌, ◌/◌, ◌%◌, ◌^◌, ◌<◌, ◌≤◌, ◌∷◌, length, get_or, List, arith, bit_and, bit_or}
+use Rattle.std.proofs.Common.{◌≡◌, ℕ, ◌+◌, ◌-◌, ◌^◌, ◌<◌, get_or, List, arith, bit_and, bit_or}
 use Rattle.std.specs.Int.{w64, trailing_zeros}
 use Rattle.hibitset_base.specs.Places.{IsWellFormed}
 use Rattle.hibitset_base.proofs.Masks.{takes_first, TakesFirst, or_is_sum}

@@ -1,4 +1,4 @@
-use Rattle.std.proofs.Common.{◌≡◌, ℕ, ◌<◌, length, arith, rules}
+use Rattle.std.proofs.Common.{arith}
 use Rattle.hibitset_base.proofs.Left.{left-none}
 use Rattle.hibitset_base.proofs.cursor.Cursor.take_lowest.Goals as goal
 

@@ -1,8 +1,7 @@
-use Rattle.std.proofs.Common.{◌≡◌, ℕ, suc, ◌+◌, ◌-◌, ◌*◌, ◌^◌, ◌<◌, ◌++◌, Bool, List, length, arith, sym, ap, ◌∙◌}
-use Rattle.hibitset_base.specs.Members.{members_below}
+use Rattle.std.proofs.Common.{◌≡◌, ℕ, suc, ◌+◌, ◌-◌, ◌^◌, ◌<◌, ◌++◌, Bool, List, arith, sym, ap, ◌∙◌}
 use Rattle.hibitset_base.specs.Places.{Place, items_of, items_under}
 use Rattle.hibitset_base.specs.Cursor.{left}
-use Rattle.hibitset_base.specs.declared.util.TheConstants.{LAYERS, MAX_EID}
+use Rattle.hibitset_base.specs.declared.util.TheConstants.{LAYERS}
 use Rattle.hibitset_base.proofs.Descending.{steps_down, items_after, fewer_after, top_items}
 use Rattle.hibitset_base.proofs.like.BitSetLike.is_empty.Goals as goal
 
