@@ -41,6 +41,14 @@ with_set sets slot set other i = if slot_number other == slot_number slot then s
 abbrev pub members_of : (ℕ → Bool) → List ℕ
 members_of = members_below MAX_EID
 
+-- both have the same members
+abbrev pub are_same : (ℕ → Bool) → (ℕ → Bool) → Bool
+are_same p q = pointwise ◌==◌ (members_of p) (members_of q)
+
+-- no member of p is missing from q
+abbrev pub is_within : (ℕ → Bool) → (ℕ → Bool) → Bool
+is_within p q = length (members_of (λ i. p i && not (q i))) == 0
+
 -- a reply, with the indices as a list
 pub data Answer : Type 0 where
   bool : Bool → Answer
@@ -69,8 +77,8 @@ answer (command.And slot other) sets = done
 answer (command.Or slot other) sets = done
 answer (command.Xor slot other) sets = done
 answer (command.Clear slot) sets = done
-answer (command.Same slot other) sets = bool (pointwise ◌==◌ (members_of (sets slot)) (members_of (sets other)))
-answer (command.Within slot other) sets = bool (length (members_of (λ i. sets slot i && not (sets other i))) == 0)
+answer (command.Same slot other) sets = bool (are_same (sets slot) (sets other))
+answer (command.Within slot other) sets = bool (is_within (sets slot) (sets other))
 
 -- the sets after a command that is not refused memory
 abbrev pub effect : Command → Sets → Sets

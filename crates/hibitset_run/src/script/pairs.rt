@@ -11,12 +11,14 @@ use std::mem;
 pub(super) fn and(alloc: Global, sets: &mut [BitSet; 8], slot: Slot, other: Slot) -> Reply
     ensures { IsStep (Command.And slot other) (sets_of sets.old) (answer_of result) (sets_of sets.new) }
 {
-    if slot == other {
+    let place = slot.number();
+    let other_place = other.number();
+    if place == other_place {
         return Reply::Done;
     }
-    let mut set = mem::replace(&mut sets[slot.number()], BitSet::new(alloc));
-    set &= &sets[other.number()];
-    sets[slot.number()] = set;
+    let mut set = mem::replace(&mut sets[place], BitSet::new(alloc));
+    set &= &sets[other_place];
+    sets[place] = set;
     Reply::Done
 }
 
@@ -24,12 +26,14 @@ pub(super) fn and(alloc: Global, sets: &mut [BitSet; 8], slot: Slot, other: Slot
 pub(super) fn or(alloc: Global, sets: &mut [BitSet; 8], slot: Slot, other: Slot) -> Reply
     ensures { IsStep (Command.Or slot other) (sets_of sets.old) (answer_of result) (sets_of sets.new) }
 {
-    if slot == other {
+    let place = slot.number();
+    let other_place = other.number();
+    if place == other_place {
         return Reply::Done;
     }
-    let mut set = mem::replace(&mut sets[slot.number()], BitSet::new(alloc));
-    let joined = set.bitor_assign(&sets[other.number()]);
-    sets[slot.number()] = set;
+    let mut set = mem::replace(&mut sets[place], BitSet::new(alloc));
+    let joined = set.bitor_assign(&sets[other_place]);
+    sets[place] = set;
     match joined {
         Ok(()) => Reply::Done,
         Err(AllocError) => Reply::NoMemory,
@@ -40,13 +44,15 @@ pub(super) fn or(alloc: Global, sets: &mut [BitSet; 8], slot: Slot, other: Slot)
 pub(super) fn xor(alloc: Global, sets: &mut [BitSet; 8], slot: Slot, other: Slot) -> Reply
     ensures { IsStep (Command.Xor slot other) (sets_of sets.old) (answer_of result) (sets_of sets.new) }
 {
-    if slot == other {
-        sets[slot.number()].clear();
+    let place = slot.number();
+    let other_place = other.number();
+    if place == other_place {
+        sets[place].clear();
         return Reply::Done;
     }
-    let mut set = mem::replace(&mut sets[slot.number()], BitSet::new(alloc));
-    let joined = set.bitxor_assign(&sets[other.number()]);
-    sets[slot.number()] = set;
+    let mut set = mem::replace(&mut sets[place], BitSet::new(alloc));
+    let joined = set.bitxor_assign(&sets[other_place]);
+    sets[place] = set;
     match joined {
         Ok(()) => Reply::Done,
         Err(AllocError) => Reply::NoMemory,
