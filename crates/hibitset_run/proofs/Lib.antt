@@ -1,4 +1,5 @@
 pub mod Members
 pub mod Kept
 pub mod Steps
+pub mod Pairs
 pub mod Runs

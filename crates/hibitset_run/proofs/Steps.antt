@@ -1,5 +1,5 @@
 -- What one command does to one of the sets that are kept is its step.
-use Rattle.std.proofs.Common.{◌≡◌, ℕ, ◌/◌, ◌<◌, ◌≤◌, Bool, true, false, nat_lt, ◌||◌, ◌&&◌, ◌==◌, List, length, get_or, set, refl, sym, ◌∙◌, ap, arith, inl, inr}
+use Rattle.std.proofs.Common.{◌≡◌, ℕ, ◌/◌, ◌<◌, ◌≤◌, Bool, true, false, not, nat_lt, ◌||◌, ◌&&◌, ◌==◌, List, length, get_or, set, refl, sym, ◌∙◌, ap, arith, inl, inr}
 use Rattle.std.proofs.lemmas.Bool.{cases_lt, false≢true}
 use Rattle.std.proofs.lemmas.Bool.Decides.{nat_tests}
 use Rattle.hibitset.specs.declared.set.BitSet.{BitSet}
@@ -8,7 +8,7 @@ use Rattle.hibitset_base.specs.Members.{members_below}
 use Rattle.hibitset_base.specs.declared.util.TheConstants.{MAX_EID}
 use Rattle.hibitset_run.specs.declared.script.Slot.{Slot}
 use Rattle.hibitset_run.specs.declared.script.Command.TheVariants as command
-use Rattle.hibitset_run.specs.Script.{bool, list, no_memory, sets_of, slot_number, IsStep}
+use Rattle.hibitset_run.specs.Script.{bool, list, count, done, no_memory, sets_of, slot_number, IsStep}
 use Rattle.hibitset_run.proofs.Members.{has-past, has-in_range}
 use Rattle.hibitset_run.proofs.Kept.{sets_of-at, sets_of-set, sets_of-set_same}
 
@@ -36,3 +36,14 @@ module _ (kept : List BitSet) (slot : Slot) (d : BitSet) (long : length kept ≡
 
   pub listed : (items : List ℕ) → items ≡ members_below MAX_EID (has (get_or kept (slot_number slot) d)) → IsStep (command.List slot) (sets_of kept) (list items) (sets_of kept)
   listed items is = (ap list (is ∙ ap (members_below MAX_EID) (sym (sets_of-at kept slot d long))), refl)
+
+  pub removed : (id : ℕ) (new : BitSet) (was : Bool) → was ≡ has (get_or kept (slot_number slot) d) id → ((i : ℕ) → has new i ≡ (has (get_or kept (slot_number slot) d) i && not (i == id)))
+      → IsStep (command.Remove slot id) (sets_of kept) (bool was) (sets_of (set kept (slot_number slot) new))
+  removed id new was is members =
+      ((told id was is).0, sets_of-set kept slot d long new _ (λ i. members i ∙ ap (λ f. f i && not (i == id)) (sym (sets_of-at kept slot d long))))
+
+  pub counted : (number : ℕ) → number ≡ length (members_below MAX_EID (has (get_or kept (slot_number slot) d))) → IsStep (command.Count slot) (sets_of kept) (count number) (sets_of kept)
+  counted number is = (ap count (is ∙ ap (λ f. length (members_below MAX_EID f)) (sym (sets_of-at kept slot d long))), refl)
+
+  pub cleared : (new : BitSet) → ((i : ℕ) → has new i ≡ false) → IsStep (command.Clear slot) (sets_of kept) done (sets_of (set kept (slot_number slot) new))
+  cleared new empty = (refl, sets_of-set kept slot d long new _ empty)

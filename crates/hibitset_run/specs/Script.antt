@@ -1,9 +1,11 @@
 -- What commands do to eight sets, and what they reply.
-use Rattle.std.specs.Prelude.{◌≡◌, ℕ, Bool, true, false, not, ◌&&◌, ◌||◌, ◌==◌, nat_lt, if◌then◌else◌, IsTrue, List, [], ◌∷◌, slice_get}
+use Rattle.std.specs.Prelude.{◌≡◌, ℕ, Bool, true, false, not, ◌&&◌, ◌||◌, ◌==◌, nat_lt, if◌then◌else◌, IsTrue, List, [], ◌∷◌, length, slice_get}
 use Rattle.std.specs.Option.{option_map_or}
+use Rattle.std.specs.Cmp.Lexicographic.{pointwise}
 use Rattle.hibitset.specs.declared.set.BitSet.{BitSet}
 use Rattle.hibitset.specs.BitSet.{has}
 use Rattle.hibitset_base.specs.Members.{members_below}
+use Rattle.hibitset_base.specs.Virtual.{differ}
 use Rattle.hibitset_base.specs.declared.util.TheConstants.{MAX_EID}
 use Rattle.hibitset_run.specs.declared.script.Slot.{Slot}
 use Rattle.hibitset_run.specs.declared.script.Slot.TheVariants.{A, B, C, D, E, F, G, H}
@@ -35,36 +37,76 @@ sets_of kept slot i = option_map_or (λ set. has set i) (slice_get kept (slot_nu
 abbrev pub with_set : Sets → Slot → (ℕ → Bool) → Sets
 with_set sets slot set other i = if slot_number other == slot_number slot then set i else sets other i
 
+-- the members of a set, ascending
+abbrev pub members_of : (ℕ → Bool) → List ℕ
+members_of = members_below MAX_EID
+
+-- both have the same members
+abbrev pub are_same : (ℕ → Bool) → (ℕ → Bool) → Bool
+are_same p q = pointwise ◌==◌ (members_of p) (members_of q)
+
+-- no member of p is missing from q
+abbrev pub is_within : (ℕ → Bool) → (ℕ → Bool) → Bool
+is_within p q = length (members_of (λ i. p i && not (q i))) == 0
+
 -- a reply, with the indices as a list
 pub data Answer : Type 0 where
   bool : Bool → Answer
   list : List ℕ → Answer
+  count : ℕ → Answer
+  done : Answer
   out_of_range : Answer
   no_memory : Answer
 
 abbrev pub answer_of : Reply → Answer
 answer_of (reply.Bool holds) = bool holds
 answer_of (reply.List indices) = list indices.items
+answer_of (reply.Count number) = count number
+answer_of reply.Done = done
 answer_of reply.OutOfRange = out_of_range
 answer_of reply.NoMemory = no_memory
 
 -- what a command answers where it is not refused memory
 abbrev pub answer : Command → Sets → Answer
 answer (command.Add slot id) sets = if nat_lt id MAX_EID then bool (sets slot id) else out_of_range
+answer (command.Remove slot id) sets = bool (nat_lt id MAX_EID && sets slot id)
 answer (command.Has slot id) sets = bool (nat_lt id MAX_EID && sets slot id)
-answer (command.List slot) sets = list (members_below MAX_EID (sets slot))
+answer (command.List slot) sets = list (members_of (sets slot))
+answer (command.Count slot) sets = count (length (members_of (sets slot)))
+answer (command.And slot other) sets = done
+answer (command.Or slot other) sets = done
+answer (command.Xor slot other) sets = done
+answer (command.Clear slot) sets = done
+answer (command.Same slot other) sets = bool (are_same (sets slot) (sets other))
+answer (command.Within slot other) sets = bool (is_within (sets slot) (sets other))
 
 -- the sets after a command that is not refused memory
 abbrev pub effect : Command → Sets → Sets
 effect (command.Add slot id) sets = if nat_lt id MAX_EID then with_set sets slot (λ i. sets slot i || i == id) else sets
+effect (command.Remove slot id) sets = with_set sets slot (λ i. sets slot i && not (i == id))
 effect (command.Has slot id) sets = sets
 effect (command.List slot) sets = sets
+effect (command.Count slot) sets = sets
+effect (command.And slot other) sets = with_set sets slot (λ i. sets slot i && sets other i)
+effect (command.Or slot other) sets = with_set sets slot (λ i. sets slot i || sets other i)
+effect (command.Xor slot other) sets = with_set sets slot (λ i. differ (sets slot i) (sets other i))
+effect (command.Clear slot) sets = with_set sets slot (λ i. false)
+effect (command.Same slot other) sets = sets
+effect (command.Within slot other) sets = sets
 
--- The command may be refused memory: an `Add` of an index that is in range and not there, and a `List`.
+-- The command may be refused memory: an `Add` of an index that is in range and not there, a `List`, an `Or`, a `Xor`.
 abbrev pub may_lack_memory : Command → Sets → Bool
 may_lack_memory (command.Add slot id) sets = nat_lt id MAX_EID && not (sets slot id)
+may_lack_memory (command.Remove slot id) sets = false
 may_lack_memory (command.Has slot id) sets = false
 may_lack_memory (command.List slot) sets = true
+may_lack_memory (command.Count slot) sets = false
+may_lack_memory (command.And slot other) sets = false
+may_lack_memory (command.Or slot other) sets = true
+may_lack_memory (command.Xor slot other) sets = true
+may_lack_memory (command.Clear slot) sets = false
+may_lack_memory (command.Same slot other) sets = false
+may_lack_memory (command.Within slot other) sets = false
 
 -- From the old sets the command gives this answer, and leaves the new sets. One that is refused memory changes nothing.
 abbrev pub IsStep : Command → Sets → Answer → Sets → Type 0

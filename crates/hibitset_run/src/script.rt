@@ -1,9 +1,10 @@
 //! Scripts: commands on eight sets, and the replies to them.
-ghost use Rattle.std.specs.Prelude.{◌≡◌, IfOk, OnErr, map};
+ghost use Rattle.std.specs.Prelude.{◌≡◌, IfOk, OnErr, length, map};
 ghost use Rattle.hibitset.specs.BitSet.{has};
 ghost use Rattle.hibitset_base.specs.Members.{members_below};
 ghost use Rattle.hibitset_run.specs.Script.{IsRun, IsStep, answer_of, sets_of, slot_number};
 
+mod pairs;
 mod parse;
 mod print;
 mod text;
@@ -40,19 +41,39 @@ impl Slot {
 pub enum Command {
     /// Puts an index into a set.
     Add { set: Slot, id: Index },
+    /// Takes an index out of a set.
+    Remove { set: Slot, id: Index },
     /// Asks whether an index is in a set.
     Has { set: Slot, id: Index },
     /// Asks for the indices of a set.
     List { set: Slot },
+    /// Asks how many indices a set has.
+    Count { set: Slot },
+    /// Takes out of a set what is not in the other.
+    And { set: Slot, other: Slot },
+    /// Puts into a set what is in the other.
+    Or { set: Slot, other: Slot },
+    /// Puts into a set what is in the other alone, and takes out what is in both.
+    Xor { set: Slot, other: Slot },
+    /// Takes all indices out of a set.
+    Clear { set: Slot },
+    /// Asks whether two sets have the same indices.
+    Same { set: Slot, other: Slot },
+    /// Asks whether each index of a set is in the other.
+    Within { set: Slot, other: Slot },
 }
 
 /// What is answered to one command.
 #[derive(Debug, PartialEq, Eq, Drop)]
 pub enum Reply {
-    /// To `Add`: the index was there. To `Has`: it is there.
+    /// To `Add`: the index was there. To `Remove`: it was removed. To `Has`, `Same` and `Within`: it is so.
     Bool(bool),
     /// The indices of a set, ascending.
     List(Vec<Index>),
+    /// How many indices a set has.
+    Count(usize),
+    /// The set has changed as was asked.
+    Done,
     /// The index is not below `MAX_EID`, and nothing has changed.
     OutOfRange,
     /// The command was refused memory, and nothing has changed.
@@ -85,8 +106,16 @@ fn step(alloc: Global, sets: &mut [BitSet; 8], command: Command) -> Reply
 {
     match command {
         Command::Add { set, id } => add(sets, set, id),
+        Command::Remove { set, id } => remove(sets, set, id),
         Command::Has { set, id } => has(sets, set, id),
         Command::List { set } => list(alloc, sets, set),
+        Command::Count { set } => count(sets, set),
+        Command::And { set, other } => pairs::and(alloc, sets, set, other),
+        Command::Or { set, other } => pairs::or(alloc, sets, set, other),
+        Command::Xor { set, other } => pairs::xor(alloc, sets, set, other),
+        Command::Clear { set } => clear(sets, set),
+        Command::Same { set, other } => pairs::same(sets, set, other),
+        Command::Within { set, other } => pairs::within(sets, set, other),
     }
 }
 
@@ -101,6 +130,13 @@ fn add(sets: &mut [BitSet; 8], slot: Slot, id: Index) -> Reply
         Ok(was) => Reply::Bool(was),
         Err(AllocError) => Reply::NoMemory,
     }
+}
+
+// Takes an index out of a set.
+fn remove(sets: &mut [BitSet; 8], slot: Slot, id: Index) -> Reply
+    ensures { IsStep (Command.Remove slot id) (sets_of sets.old) (answer_of result) (sets_of sets.new) }
+{
+    Reply::Bool(sets[slot.number()].remove(id))
 }
 
 // Tells whether an index is in a set.
@@ -129,6 +165,32 @@ fn indices_of(alloc: Global, set: &BitSet) -> Result<Vec<Index>, AllocError>
         indices.push(index)?;
     }
     Ok(indices)
+}
+
+// Tells how many indices a set has.
+fn count(sets: &[BitSet; 8], slot: Slot) -> Reply
+    ensures { IsStep (Command.Count slot) (sets_of sets.now) (answer_of result) (sets_of sets.now) }
+{
+    Reply::Count(count_of(&sets[slot.number()]))
+}
+
+// How many indices a set has.
+fn count_of(set: &BitSet) -> usize
+    ensures { result ≡ length (members_below MAX_EID (has set.now)) }
+{
+    let mut count = 0;
+    for _ in set.iter() {
+        count += 1;
+    }
+    count
+}
+
+// Takes all indices out of a set.
+fn clear(sets: &mut [BitSet; 8], slot: Slot) -> Reply
+    ensures { IsStep (Command.Clear slot) (sets_of sets.old) (answer_of result) (sets_of sets.new) }
+{
+    sets[slot.number()].clear();
+    Reply::Done
 }
 
 #[cfg(test)]

@@ -32,11 +32,37 @@ fn command_of(line: &[u8]) -> Option<Command> {
             set,
             id: id_of(id)?,
         }),
+        (b"remove", Some(id)) => Some(Command::Remove {
+            set,
+            id: id_of(id)?,
+        }),
         (b"has", Some(id)) => Some(Command::Has {
             set,
             id: id_of(id)?,
         }),
         (b"list", None) => Some(Command::List { set }),
+        (b"count", None) => Some(Command::Count { set }),
+        (b"and", Some(other)) => Some(Command::And {
+            set,
+            other: slot_of(other)?,
+        }),
+        (b"or", Some(other)) => Some(Command::Or {
+            set,
+            other: slot_of(other)?,
+        }),
+        (b"xor", Some(other)) => Some(Command::Xor {
+            set,
+            other: slot_of(other)?,
+        }),
+        (b"clear", None) => Some(Command::Clear { set }),
+        (b"same", Some(other)) => Some(Command::Same {
+            set,
+            other: slot_of(other)?,
+        }),
+        (b"within", Some(other)) => Some(Command::Within {
+            set,
+            other: slot_of(other)?,
+        }),
         _ => None,
     }
 }

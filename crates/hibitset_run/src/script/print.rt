@@ -43,6 +43,8 @@ fn put_line(text: &mut String, reply: &Reply) -> Result<(), AllocError> {
     match reply {
         Reply::Bool(holds) => writeln!(text, "{holds}"),
         Reply::List(indices) => put_indices(text, indices),
+        Reply::Count(count) => writeln!(text, "{count}"),
+        Reply::Done => text.push_str("ok\n"),
         Reply::OutOfRange => text.push_str("out of range\n"),
         Reply::NoMemory => text.push_str("no memory\n"),
     }

@@ -80,6 +80,30 @@ fn prints_one_line_a_reply(rt: HostRuntime) {
             "add a 16777215\nadd h 0\nhas h 16777215\nhas a 4294967295\nlist a\nlist h\n",
             "false\nfalse\nfalse\nfalse\n16777215\n0\n",
         ),
+        (
+            "add a 5\nremove a 5\nremove a 5\nremove a 16777216\ncount a\n",
+            "false\ntrue\nfalse\nfalse\n0\n",
+        ),
+        (
+            "add a 0\nadd a 262144\nadd b 0\nwithin a b\nand a b\nlist a\nsame a b\nwithin b a\nxor a b\nlist a\ncount b\n",
+            "false\nfalse\nfalse\nfalse\nok\n0\ntrue\ntrue\nok\n\n1\n",
+        ),
+        (
+            "add a 5\nxor a a\ncount a\nor a a\nsame a b\n",
+            "false\nok\n0\nok\ntrue\n",
+        ),
+        (
+            "add a 5\nand a a\nor a a\nlist a\nsame a a\nwithin a a\n",
+            "false\nok\nok\n5\ntrue\ntrue\n",
+        ),
+        (
+            "add a 1\nadd a 3\nadd b 3\nadd b 70\nor a b\nlist a\nlist b\ncount a\nclear a\nlist a\nlist b\nsame a b\nwithin a b\nwithin b a\n",
+            "false\nfalse\nfalse\nfalse\nok\n1 3 70\n3 70\n3\nok\n\n3 70\nfalse\ntrue\nfalse\n",
+        ),
+        (
+            "add h 1\nadd h 3\nadd g 3\nadd g 70\nxor h g\nlist h\nlist g\n",
+            "false\nfalse\nfalse\nfalse\nok\n1 70\n3 70\n",
+        ),
     ];
     for (script, text) in rows {
         let (output, ended) = printed(rt.alloc(), script);
@@ -97,6 +121,15 @@ fn takes_a_line_as_it_is_written(rt: HostRuntime) {
         "add c 1000000000",
         "list d",
         "add e 16777216",
+        "remove f 0",
+        "remove f 4294967295",
+        "count g",
+        "and h a",
+        "or a h",
+        "xor b b",
+        "clear c",
+        "same d e",
+        "within e d",
     ];
     for line in good {
         assert_eq!(rt; printed(rt.alloc(), line).1, Ended::Done, "after {line:?}");
@@ -136,9 +169,28 @@ fn refuses_every_other_line(rt: HostRuntime) {
         "list a ",
         "list a b",
         "lists a",
-        "remove a 5",
-        "count a",
         "add a \u{665}",
+        "remove a",
+        "remove a 05",
+        "remove a b",
+        "count",
+        "count a 5",
+        "counts a",
+        "and a",
+        "and a 5",
+        "and a i",
+        "and a b ",
+        "or a",
+        "or a b c",
+        "xor a",
+        "xor  a b",
+        "clear",
+        "clear a b",
+        "same a",
+        "same a B",
+        "within a",
+        "within a bb",
+        "split a 2",
     ];
     for line in bad {
         let (output, ended) = printed(rt.alloc(), line);
@@ -252,6 +304,9 @@ fn runs_commands_on_the_sets_that_are_there(rt: HostRuntime) -> Result<(), Fail>
             id: 7,
         },
         Command::Add { set, id: 1 << 24 },
+        Command::Remove { set, id: 7 },
+        Command::Count { set },
+        Command::Clear { set },
     ];
     let replies = run(alloc, &mut sets, &commands)?;
     let wanted = [
@@ -259,6 +314,9 @@ fn runs_commands_on_the_sets_that_are_there(rt: HostRuntime) -> Result<(), Fail>
         Reply::List(vec![in alloc; 7, 70]?),
         Reply::Bool(false),
         Reply::OutOfRange,
+        Reply::Bool(true),
+        Reply::Count(1),
+        Reply::Done,
     ];
     assert_eq!(rt; replies.as_slice(), wanted.as_slice());
     Ok(())
