@@ -1,5 +1,5 @@
 //! Comparisons of two sets, whole words at a time.
-ghost use Rattle.std.specs.Prelude.{◌≡◌, ℕ, ◌-◌, ◌/◌, ◌^◌, ◌<◌, ◌==◌, ◌↔◌, Bool, true, false, not, IsTrue, refl};
+ghost use Rattle.std.specs.Prelude.{◌≡◌, ℕ, ◌-◌, ◌/◌, ◌%◌, ◌^◌, ◌<◌, ◌==◌, ◌↔◌, Bool, true, false, not, IsTrue, refl};
 ghost use Rattle.std.specs.Int.{bit_at};
 ghost use Rattle.std.specs.Ordering.{on};
 ghost use Rattle.std.specs.Cmp.{partial_equiv_from_equiv};
@@ -67,9 +67,26 @@ impl Comparison for Equality {
     }
 }
 
-// Compares what lies under word `place` of a layer, that word first.
+// Compares the words below word `place` of layer 1 whose bits stand in `bits`.
+#[inline]
+fn compare_words<C: Comparison>(ours: &BitSet, theirs: &BitSet, place: usize, bits: usize) -> bool
+    requires { place < 64 ^ (LAYERS - 2) }
+    ensures yes { result ≡ true → (p : ℕ) → p / 64 ≡ place → bit_at bits (p % 64) ≡ 1 → BitsPass C.allowed (word_of ours.now 0 p) (word_of theirs.now 0 p) }
+    ensures no { result ≡ false → ((p : ℕ) → BitsPass C.allowed (word_of ours.now 0 p) (word_of theirs.now 0 p)) → ⊥ }
+{
+    let mut left = bits;
+    while left != 0 {
+        let lower = 64 * place + take_bit(&mut left);
+        if !C::passes(ours.layer0(lower), theirs.layer0(lower)) {
+            return false;
+        }
+    }
+    true
+}
+
+// Compares word `place` of a layer above layer 0, and then what lies under it.
 fn compare_under<C: Comparison>(ours: &BitSet, theirs: &BitSet, layer: usize, place: usize) -> bool
-    requires layer { layer < LAYERS }
+    requires layer { (0 < layer) × (layer < LAYERS) }
     requires place { place < 64 ^ (LAYERS - 1 - layer) }
     ensures yes { result ≡ true → (p : ℕ) → p / 64 ^ layer ≡ place → BitsPass C.allowed (word_of ours.now 0 p) (word_of theirs.now 0 p) }
     ensures no { result ≡ false → ((p : ℕ) → BitsPass C.allowed (word_of ours.now 0 p) (word_of theirs.now 0 p)) → ⊥ }
@@ -78,8 +95,8 @@ fn compare_under<C: Comparison>(ours: &BitSet, theirs: &BitSet, layer: usize, pl
     if !C::passes(ours.get_from_layer(layer, place), word) {
         return false;
     }
-    if layer == 0 {
-        return true;
+    if layer == 1 {
+        return compare_words::<C>(ours, theirs, place, word);
     }
     let mut left = word;
     while left != 0 {

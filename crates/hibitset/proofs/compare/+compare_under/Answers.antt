@@ -1,11 +1,14 @@
-use Rattle.std.proofs.Common.{◌≡◌, ℕ, suc, ◌+◌, ◌-◌, ◌*◌, ◌/◌, ◌^◌, ◌<◌, IsTrue, true, false, sym, ap, ◌∙◌, arith}
+use Rattle.std.proofs.Common.{◌≡◌, ℕ, suc, ◌+◌, ◌-◌, ◌*◌, ◌/◌, ◌%◌, ◌^◌, ◌<◌, ◌==◌, Bool, IsTrue, true, false, refl, sym, ap, ◌∙◌, arith}
+use Rattle.std.specs.Int.{bit_at}
 use Rattle.std.proofs.Math.Nat.{pow-suc, div-div-eq-div-mul}
+use Rattle.std.proofs.lemmas.Nat.Bits.{bit_at-zero}
 use Rattle.hibitset_base.specs.declared.util.TheConstants.{LAYERS}
 use Rattle.hibitset.specs.BitSet.{has, word_of}
+use Rattle.hibitset.specs.declared.set.BitSet.{BitSet}
 use Rattle.hibitset.specs.Stored.{stored_lawful}
 use Rattle.hibitset.specs.Comparing.{BitsPass}
 use Rattle.hibitset.proofs.Merging.{our_word, covers_below}
-use Rattle.hibitset.proofs.Comparing.{all_pass, passed_step, passed_under}
+use Rattle.hibitset.proofs.Comparing.{PassedPast, all_pass, passed_step, passed_under}
 use Rattle.hibitset.proofs.compare.+compare_under.Goals as goal
 
 pub returns-then-not-passes-clause-no : goal.returns-then-not-passes-clause-no
@@ -14,10 +17,10 @@ returns-then-not-passes-clause-no g t c = λ _ all.
     let theirs = c.args.theirs.now in
     let layer : ℕ = c.args.layer in
     let place : ℕ = c.args.place in
-    let x-is : c.get_from_layer.result ≡ word_of ours layer place = our_word (word_of ours) layer place c.get_from_layer.result c.requires.layer c.requires.place c.get_from_layer.ensures.below c.get_from_layer.ensures.top in
-    let y-is : c.get_from_layer-word.result ≡ word_of theirs layer place = our_word (word_of theirs) layer place c.get_from_layer-word.result c.requires.layer c.requires.place c.get_from_layer-word.ensures.below c.get_from_layer-word.ensures.top in
+    let x-is : c.get_from_layer.result ≡ word_of ours layer place = our_word (word_of ours) layer place c.get_from_layer.result c.requires.layer.1 c.requires.place c.get_from_layer.ensures.below c.get_from_layer.ensures.top in
+    let y-is : c.get_from_layer-word.result ≡ word_of theirs layer place = our_word (word_of theirs) layer place c.get_from_layer-word.result c.requires.layer.1 c.requires.place c.get_from_layer-word.ensures.below c.get_from_layer-word.ensures.top in
     let here : BitsPass (g.C.Comparison.allowed) (word_of ours layer place) (word_of theirs layer place) =
-    all_pass LAYERS (g.C.Comparison.allowed) (g.met.C.Comparison.rises) (word_of ours) (word_of theirs) ours.stored.summed theirs.stored.summed ours.stored.shaped.words theirs.stored.shaped.words all layer place c.requires.layer in
+    all_pass LAYERS (g.C.Comparison.allowed) (g.met.C.Comparison.rises) (word_of ours) (word_of theirs) ours.stored.summed theirs.stored.summed ours.stored.shaped.words theirs.stored.shaped.words all layer place c.requires.layer.1 in
     let passes : IsTrue c.passes.result = c.passes.ensures.1 (rw (x-is, y-is) here) in
     let wrong : true ≡ false = sym passes ∙ c.if-not-passes.true in
     absurd (cc)
@@ -27,21 +30,45 @@ loop-left-preserved g t c =
     let bit = c.take_bit-bit.ensures in
     passed_step _ (64 ^ (c.args.layer - 1)) c.args.place _ _ _ _ bit.below bit.gone bit.same (c.compare_under.ensures.yes c.if-not-compare_under.false) c.loop-left.invariant
 
-pub returns-clause-yes : goal.returns-clause-yes
-returns-clause-yes g t c = λ _ i e.
-    let ours = c.args.ours.now in
-    let theirs = c.args.theirs.now in
+-- the words of two sets at a place pass, and all under the bits of theirs
+module _ (allowed : Bool → Bool → Bool) (alone : (a : Bool) (x b : ℕ) → allowed a false ≡ true → (0 < x → a ≡ true) → allowed (bit_at x b == 1) false ≡ true) (ours theirs : BitSet) (layer place x y : ℕ)
+    (some : 0 < layer) (within : layer < LAYERS) (range : place < 64 ^ (LAYERS - 1 - layer)) (x-is : x ≡ word_of ours layer place) (y-is : y ≡ word_of theirs layer place) (pass : BitsPass allowed x y) where
+  above : layer - 1 + 1 ≡ layer
+  above = omega arith
+
+  whole : 64 ^ layer ≡ 64 ^ (layer - 1) * 64
+  whole = let s : layer ≡ suc (layer - 1) = omega arith in ap (λ z. 64 ^ z) s ∙ pow-suc 64 (layer - 1)
+
+  all_under : (left : ℕ) → left ≡ 0 → PassedPast (λ p. BitsPass allowed (word_of ours 0 p) (word_of theirs 0 p)) (64 ^ (layer - 1)) place y left → (p : ℕ) → p / 64 ^ layer ≡ place → BitsPass allowed (word_of ours 0 p) (word_of theirs 0 p)
+  all_under left none past p e = passed_under LAYERS allowed alone (has ours) (has theirs) (word_of ours) (word_of theirs) (stored_lawful LAYERS ours.stored) (stored_lawful LAYERS theirs.stored) (layer - 1) place x y left
+      (rw above within) (rw above range) (covers_below (word_of ours) layer place x above within ours.stored.summed x-is) (covers_below (word_of theirs) layer place y above within theirs.stored.summed y-is) pass none past p
+      (div-div-eq-div-mul p (64 ^ (layer - 1)) 64 ∙ (ap (λ z. p / z) (sym whole) ∙ e))
+
+-- where the words under the bits have been compared one by one
+past_words : (pass : ℕ → Type 0) (layer place word : ℕ) → layer ≡ 1 → ((p : ℕ) → p / 64 ≡ place → bit_at word (p % 64) ≡ 1 → pass p) → PassedPast pass (64 ^ (layer - 1)) place word 0
+past_words pass layer place word first all = record {
+  within = λ b small on. absurd (let z = bit_at-zero b in omega (arith, z, on));
+  passed = λ p e on off.
+      let zero_layers : layer - 1 ≡ 0 = omega arith in
+      let one : p / 64 ^ (layer - 1) ≡ p = rw zero_layers (omega arith) in
+      all p (rw one at e) (rw one at on);
+}
+
+pub returns-then-layer-eq1-clause-yes : goal.returns-then-layer-eq1-clause-yes
+returns-then-layer-eq1-clause-yes g t c = λ e.
     let layer : ℕ = c.args.layer in
     let place : ℕ = c.args.place in
-    let within : layer < LAYERS = c.requires.layer in
-    let above : layer - 1 + 1 ≡ layer = (let h = c.if-layer-eq0.false in omega arith) in
-    let inner : layer - 1 + 1 < LAYERS = rw above within in
-    let range : place < 64 ^ (LAYERS - 1 - (layer - 1 + 1)) = rw above c.requires.place in
-    let whole : 64 ^ layer ≡ 64 ^ (layer - 1) * 64 = (let s : layer ≡ suc (layer - 1) = omega (arith, above) in ap (λ x. 64 ^ x) s ∙ pow-suc 64 (layer - 1)) in
-    let x-is : c.get_from_layer.result ≡ word_of ours layer place = our_word (word_of ours) layer place c.get_from_layer.result within c.requires.place c.get_from_layer.ensures.below c.get_from_layer.ensures.top in
-    let y-is : c.get_from_layer-word.result ≡ word_of theirs layer place = our_word (word_of theirs) layer place c.get_from_layer-word.result within c.requires.place c.get_from_layer-word.ensures.below c.get_from_layer-word.ensures.top in
-    passed_under LAYERS (g.C.Comparison.allowed) (g.met.C.Comparison.alone) (has ours) (has theirs) (word_of ours) (word_of theirs) (stored_lawful LAYERS ours.stored) (stored_lawful LAYERS theirs.stored) (layer - 1) place c.get_from_layer.result c.get_from_layer-word.result c.loop-left.left inner range
-    (covers_below (word_of ours) layer place c.get_from_layer.result above within ours.stored.summed x-is) (covers_below (word_of theirs) layer place c.get_from_layer-word.result above within theirs.stored.summed y-is)
-    (c.passes.ensures.0 c.if-not-passes.false)
-    c.loop-left-test.false c.loop-left.invariant i
-    (div-div-eq-div-mul i (64 ^ (layer - 1)) 64 ∙ (ap (λ x. i / x) (sym whole) ∙ e))
+    all_under (g.C.Comparison.allowed) (g.met.C.Comparison.alone) c.args.ours.now c.args.theirs.now layer place c.get_from_layer.result c.get_from_layer-word.result c.requires.layer.0 c.requires.layer.1 c.requires.place
+    (our_word (word_of c.args.ours.now) layer place c.get_from_layer.result c.requires.layer.1 c.requires.place c.get_from_layer.ensures.below c.get_from_layer.ensures.top)
+    (our_word (word_of c.args.theirs.now) layer place c.get_from_layer-word.result c.requires.layer.1 c.requires.place c.get_from_layer-word.ensures.below c.get_from_layer-word.ensures.top)
+    (c.passes.ensures.0 c.if-not-passes.false) 0 refl
+    (past_words (λ p. BitsPass (g.C.Comparison.allowed) (word_of c.args.ours.now 0 p) (word_of c.args.theirs.now 0 p)) layer place c.get_from_layer-word.result (omega arith) (c.compare_words.ensures.yes e))
+
+pub returns-clause-yes : goal.returns-clause-yes
+returns-clause-yes g t c = λ _.
+    let layer : ℕ = c.args.layer in
+    let place : ℕ = c.args.place in
+    all_under (g.C.Comparison.allowed) (g.met.C.Comparison.alone) c.args.ours.now c.args.theirs.now layer place c.get_from_layer.result c.get_from_layer-word.result c.requires.layer.0 c.requires.layer.1 c.requires.place
+    (our_word (word_of c.args.ours.now) layer place c.get_from_layer.result c.requires.layer.1 c.requires.place c.get_from_layer.ensures.below c.get_from_layer.ensures.top)
+    (our_word (word_of c.args.theirs.now) layer place c.get_from_layer-word.result c.requires.layer.1 c.requires.place c.get_from_layer-word.ensures.below c.get_from_layer-word.ensures.top)
+    (c.passes.ensures.0 c.if-not-passes.false) c.loop-left.left c.loop-left-test.false c.loop-left.invariant
