@@ -55,10 +55,10 @@ module _ (kept : List BitSet) (slot other : Slot) (one : slot_number other ≡ s
 
 -- One set is taken out while the other is merged into it, and put back.
 module _ (kept : List BitSet) (slot other : Slot) (d e left new : BitSet) (long : length kept ≡ 8) (apart : slot_number other ≢ slot_number slot) where
-  abbrev pub ours : BitSet
+  abbrev ours : BitSet
   ours = get_or kept (slot_number slot) d
 
-  abbrev pub others : BitSet
+  abbrev others : BitSet
   others = get_or (set kept (slot_number slot) left) (slot_number other) e
 
   merged : (f : Bool → Bool → Bool) → f false false ≡ false → ((i : ℕ) → i < MAX_EID → has new i ≡ f (has ours i) (has others i))
@@ -104,9 +104,10 @@ none_alone false b h = refl
 within-Decides : (p q : ℕ → Bool) → Decides (is_within p q) ((i : ℕ) → i < MAX_EID → p i ≡ true → q i ≡ true)
 within-Decides p q =
     let alone : ℕ → Bool = λ i. p i && not (q i) in
-    let tested = no_length (members_of alone) in
-    (λ e i below on. and_not (p i) (q i) (same_list alone (λ j. false) 0 MAX_EID (tested.0 e ∙ sym (members-none (λ j. false) 0 MAX_EID (λ j from end. refl))) i (omega arith) (omega arith)) on,
-     λ all. tested.1 (members-none alone 0 MAX_EID (λ i from below. none_alone (p i) (q i) (all i (omega arith)))))
+    let tested = no_length (members_of alone) in (
+      λ e i below on. and_not (p i) (q i) (same_list alone (λ j. false) 0 MAX_EID (tested.0 e ∙ sym (members-none (λ j. false) 0 MAX_EID (λ j from end. refl))) i (omega arith) (omega arith)) on,
+      λ all. tested.1 (members-none alone 0 MAX_EID (λ i from below. none_alone (p i) (q i) (all i (omega arith)))),
+    )
 
 module _ (kept : List BitSet) (slot other : Slot) (d e : BitSet) (long : length kept ≡ 8) where
   abbrev p : ℕ → Bool
