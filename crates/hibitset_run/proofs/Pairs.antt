@@ -1,7 +1,6 @@
 -- What a command on two sets that are kept does is its step.
-use Rattle.std.proofs.Common.{◌≡◌, ◌≢◌, ℕ, zero, suc, ◌<◌, Bool, true, false, not, ◌||◌, ◌&&◌, ◌==◌, List, [], ◌∷◌, length, get_or, set, refl, sym, ◌∙◌, ap, arith, inl, inr}
+use Rattle.std.proofs.Common.{◌≡◌, ◌≢◌, ℕ, suc, ◌<◌, Bool, true, false, not, ◌||◌, ◌&&◌, ◌==◌, List, [], ◌∷◌, length, get_or, set, refl, sym, ◌∙◌, ap, arith, inl, inr}
 use Rattle.std.specs.Bool.{Decides, one_answer}
-use Rattle.std.proofs.Math.Path.{fun_ext}
 use Rattle.std.proofs.lemmas.Bool.{cases_lt}
 use Rattle.hibitset.specs.declared.set.BitSet.{BitSet}
 use Rattle.hibitset.specs.BitSet.{has}
@@ -9,10 +8,10 @@ use Rattle.hibitset.proofs.Comparing.{same_of_test}
 use Rattle.hibitset.proofs.Equality.{same_list}
 use Rattle.hibitset_base.specs.Virtual.{differ}
 use Rattle.hibitset_base.specs.declared.util.TheConstants.{MAX_EID}
-use Rattle.hibitset_base.proofs.Members.{members-none, true_or_false}
+use Rattle.hibitset_base.proofs.Members.{members-none}
 use Rattle.hibitset_run.specs.declared.script.Slot.{Slot}
 use Rattle.hibitset_run.specs.declared.script.Command.TheVariants as command
-use Rattle.hibitset_run.specs.Script.{Sets, bool, done, no_memory, members_of, are_same, is_within, sets_of, with_set, slot_number, IsStep}
+use Rattle.hibitset_run.specs.Script.{bool, done, no_memory, members_of, are_same, is_within, sets_of, with_set, slot_number, IsStep}
 use Rattle.hibitset_run.proofs.Members.{has-out_of_range}
 use Rattle.hibitset_run.proofs.Kept.{sets_of-at, sets_of-other, sets_of-alike, sets_of-set, sets_of-put_back, sets_of-put_back_same, with_set-same}
 
