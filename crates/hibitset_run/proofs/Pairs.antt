@@ -1,7 +1,6 @@
 -- What a command on two sets that are kept does is its step.
-use Rattle.std.proofs.Common.{◌≡◌, ◌≢◌, ℕ, zero, suc, ◌<◌, Bool, true, false, not, ◌||◌, ◌&&◌, ◌==◌, List, [], ◌∷◌, length, get_or, set, refl, sym, ◌∙◌, ap, arith, inl, inr}
+use Rattle.std.proofs.Common.{◌≡◌, ◌≢◌, ℕ, suc, ◌<◌, Bool, true, false, not, ◌||◌, ◌&&◌, ◌==◌, List, [], ◌∷◌, length, get_or, set, refl, sym, ◌∙◌, ap, arith, inl, inr}
 use Rattle.std.specs.Bool.{Decides, one_answer}
-use Rattle.std.proofs.Math.Path.{fun_ext}
 use Rattle.std.proofs.lemmas.Bool.{cases_lt}
 use Rattle.hibitset.specs.declared.set.BitSet.{BitSet}
 use Rattle.hibitset.specs.BitSet.{has}
@@ -9,10 +8,10 @@ use Rattle.hibitset.proofs.Comparing.{same_of_test}
 use Rattle.hibitset.proofs.Equality.{same_list}
 use Rattle.hibitset_base.specs.Virtual.{differ}
 use Rattle.hibitset_base.specs.declared.util.TheConstants.{MAX_EID}
-use Rattle.hibitset_base.proofs.Members.{members-none, true_or_false}
+use Rattle.hibitset_base.proofs.Members.{members-none}
 use Rattle.hibitset_run.specs.declared.script.Slot.{Slot}
 use Rattle.hibitset_run.specs.declared.script.Command.TheVariants as command
-use Rattle.hibitset_run.specs.Script.{Sets, bool, done, no_memory, members_of, are_same, is_within, sets_of, with_set, slot_number, IsStep}
+use Rattle.hibitset_run.specs.Script.{bool, done, no_memory, members_of, are_same, is_within, sets_of, with_set, slot_number, IsStep}
 use Rattle.hibitset_run.proofs.Members.{has-out_of_range}
 use Rattle.hibitset_run.proofs.Kept.{sets_of-at, sets_of-other, sets_of-alike, sets_of-set, sets_of-put_back, sets_of-put_back_same, with_set-same}
 
@@ -55,10 +54,10 @@ module _ (kept : List BitSet) (slot other : Slot) (one : slot_number other ≡ s
 
 -- One set is taken out while the other is merged into it, and put back.
 module _ (kept : List BitSet) (slot other : Slot) (d e left new : BitSet) (long : length kept ≡ 8) (apart : slot_number other ≢ slot_number slot) where
-  abbrev pub ours : BitSet
+  abbrev ours : BitSet
   ours = get_or kept (slot_number slot) d
 
-  abbrev pub others : BitSet
+  abbrev others : BitSet
   others = get_or (set kept (slot_number slot) left) (slot_number other) e
 
   merged : (f : Bool → Bool → Bool) → f false false ≡ false → ((i : ℕ) → i < MAX_EID → has new i ≡ f (has ours i) (has others i))
@@ -104,9 +103,10 @@ none_alone false b h = refl
 within-Decides : (p q : ℕ → Bool) → Decides (is_within p q) ((i : ℕ) → i < MAX_EID → p i ≡ true → q i ≡ true)
 within-Decides p q =
     let alone : ℕ → Bool = λ i. p i && not (q i) in
-    let tested = no_length (members_of alone) in
-    (λ e i below on. and_not (p i) (q i) (same_list alone (λ j. false) 0 MAX_EID (tested.0 e ∙ sym (members-none (λ j. false) 0 MAX_EID (λ j from end. refl))) i (omega arith) (omega arith)) on,
-     λ all. tested.1 (members-none alone 0 MAX_EID (λ i from below. none_alone (p i) (q i) (all i (omega arith)))))
+    let tested = no_length (members_of alone) in (
+      λ e i below on. and_not (p i) (q i) (same_list alone (λ j. false) 0 MAX_EID (tested.0 e ∙ sym (members-none (λ j. false) 0 MAX_EID (λ j from end. refl))) i (omega arith) (omega arith)) on,
+      λ all. tested.1 (members-none alone 0 MAX_EID (λ i from below. none_alone (p i) (q i) (all i (omega arith)))),
+    )
 
 module _ (kept : List BitSet) (slot other : Slot) (d e : BitSet) (long : length kept ≡ 8) where
   abbrev p : ℕ → Bool

@@ -1,5 +1,4 @@
 use Rattle.std.proofs.Common.{◌≡◌, ◌≢◌, arith}
-use Rattle.std.proofs.lemmas.Bool.Decides.{nat_tests}
 use Rattle.hibitset_run.specs.Script.{slot_number}
 use Rattle.hibitset_run.proofs.Pairs.{and_one, and_two}
 use Rattle.hibitset_run.proofs.script.pairs.and.Goals as goal
