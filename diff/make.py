@@ -1,0 +1,150 @@
+#!/usr/bin/env python3
+"""make.py OUT SCRIPTS ORACLE STAGE: writes the files of the folder OUT, of scripts that lie in the folder SCRIPTS as *.in,
+of those of recipes.py and of a few runs with other arguments, input or output, each with the answer of the program
+ORACLE at the stage. make.sh calls it.
+"""
+import re
+import sys
+from pathlib import Path
+
+sys.dont_write_bytecode = True
+import bundle
+import recipes
+import runs
+
+ALL = 10_000
+LIMIT = 1_000_000  # bytes of all files together
+PLAIN = 40_000  # bytes of output that are kept as they are
+NAMES = {"row": "example"}  # kinds that have other names here
+
+
+def kinds(stage):
+    """How many scripts of each kind are kept, spread over all that there are. Of those with none recipes.py has its own."""
+    splits, stores = stage >= 7, stage >= 15
+    return {
+        "row": ALL,
+        "basic-dense": 6,
+        "basic-borders": 6,
+        "basic-everywhere": 6,
+        "mixed-dense": 8,
+        "mixed-borders": 12,
+        "mixed-everywhere": 8,
+        "mixed-clusters": 3,
+        "assign-blocks": 14,
+        "assign-borders": 7,
+        "aliased-dense": 8,
+        "aliased-blocks": 8,
+        "split-dense": 5 if splits else 1,
+        "split-blocks": 8 if splits else 1,
+        "split-everywhere": 6 if splits else 1,
+        "split-four": 6 if splits else 1,
+        "bad": ALL,
+        "bad-mutated": ALL,
+        "bad-store": ALL if stores else 16,
+        "good": ALL,
+        "store-dense": 6 if stores else 1,
+        "store-borders": 6 if stores else 1,
+        "store-everywhere": 6 if stores else 1,
+        "store-long": 0,
+        "long-basic": 0,
+        "long-mixed": 0,
+        "full-range": 0,
+        "pairs": 0,
+    }
+
+
+def kind_of(name):
+    for kind in ("row", "good", "bad-store", "bad-mutated", "bad"):
+        if name == kind or name.startswith(kind + "-"):
+            return kind
+    return re.sub(r"-\d+$", "", name)
+
+
+def spread(names, count):
+    """So many of the names, at equal distances."""
+    count = min(count, len(names))
+    return [names[at * len(names) // count] for at in range(count)]
+
+
+def name_of(kind, number, path):
+    return f"{NAMES[kind]}-{number:02}" if kind in NAMES else path.stem
+
+
+def with_text(name, text):
+    script = bundle.Script(name)
+    script.text = text
+    return script
+
+
+def of_recipes():
+    scripts = []
+    for name in recipes.RECIPES:
+        text = recipes.made(name)
+        script = with_text(name, text)
+        script.digest = bundle.digest(text)
+        scripts.append(script)
+    return scripts
+
+
+def other_runs():
+    """Runs that are told apart by more than their script."""
+    scripts = []
+    for name, text in [("arguments-are-not-looked-at", b"add a 5\n"), ("arguments-beside-a-bad-line", b"list\n")]:
+        script = with_text(name, text)
+        script.args = ["--help", "x"]
+        scripts.append(script)
+    script = with_text("input-is-a-folder", b"")
+    script.folder = True
+    scripts.append(script)
+    for name, text in [("one-reply", b"add a 5\n"), ("bad-line", b"list\n"), ("no-reply", b"")]:
+        script = with_text("output-is-full-" + name, text)
+        script.full = True
+        scripts.append(script)
+    return scripts
+
+
+def answer(oracle, stage, script):
+    """Puts the oracle's answer into the script."""
+    asked = bundle.Script(script.name)
+    asked.args, asked.folder, asked.full = ["--stage", str(stage)], script.folder, script.full
+    ran = runs.run([oracle], asked, script.text)
+    if ran is None or ran[0] not in (0, 2, 4, 5):
+        sys.exit(f"make.py: the oracle failed on {script.name}: {ran}")
+    script.status, script.out, script.err = ran
+    if script.digest is not None and len(script.out) > PLAIN:
+        script.digests = bundle.pieces(script.out)
+
+
+def main():
+    if len(sys.argv) != 5:
+        sys.exit("usage: make.py OUT SCRIPTS ORACLE STAGE")
+    out, folder, oracle, stage = Path(sys.argv[1]), Path(sys.argv[2]), sys.argv[3], int(sys.argv[4])
+    wanted = kinds(stage)
+    found = {}
+    for path in sorted(folder.glob("*.in")):
+        found.setdefault(kind_of(path.stem), []).append(path)
+    for kind in found:
+        if kind not in wanted:
+            sys.exit(f"make.py: scripts of a kind that make.py does not know: {kind}")
+    files = {"made": of_recipes(), "runs": other_runs()}
+    for kind, paths in found.items():
+        paths = [path for path in paths if path.stem not in recipes.RECIPES]
+        kept = spread(paths, wanted[kind])
+        if kept:
+            files[NAMES.get(kind, kind)] = [with_text(name_of(kind, n, path), path.read_bytes()) for n, path in enumerate(kept, 1)]
+    out.mkdir(exist_ok=True)
+    for old in out.glob("*.txt"):
+        old.unlink()
+    scripts = size = 0
+    for kind, of_kind in files.items():
+        for script in of_kind:
+            answer(oracle, stage, script)
+        text = "".join(map(bundle.written, of_kind))
+        (out / f"{kind}.txt").write_text(text, encoding="ascii", newline="\n")
+        scripts, size = scripts + len(of_kind), size + len(text)
+    print(f"{scripts} scripts at stage {stage}, {size} bytes")
+    if size > LIMIT:
+        sys.exit(f"make.py: over {LIMIT} bytes")
+
+
+main()
