@@ -2,6 +2,7 @@
 mod assignments;
 mod building;
 mod comparisons;
+mod drains;
 mod life;
 mod made;
 mod reads;

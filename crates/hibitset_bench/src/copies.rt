@@ -1,0 +1,162 @@
+//! Calls that change a whole set, each on a copy of its own.
+use crate::sets::{first_of, set_of, sum_of};
+use hibitset::{BitSet, DrainableBitSet, Index};
+use std::alloc::{AllocError, Global};
+
+// What is done to a copy, beside another set and a list of indices.
+trait Change {
+    fn change(set: &mut BitSet, other: &BitSet, ids: &[Index]) -> Result<u64, AllocError>;
+}
+
+// Nothing: the copy alone.
+struct KeepAll;
+
+impl Change for KeepAll {
+    #[inline]
+    fn change(_set: &mut BitSet, _other: &BitSet, _ids: &[Index]) -> Result<u64, AllocError> {
+        Ok(0)
+    }
+}
+
+struct TakeInOrder;
+
+impl Change for TakeInOrder {
+    #[inline]
+    fn change(set: &mut BitSet, _other: &BitSet, _ids: &[Index]) -> Result<u64, AllocError> {
+        let mut sum = 0u64;
+        for index in set.drain() {
+            sum = sum.wrapping_add(u64::from(index));
+        }
+        Ok(sum)
+    }
+}
+
+struct TakeListed;
+
+impl Change for TakeListed {
+    #[inline]
+    fn change(set: &mut BitSet, _other: &BitSet, ids: &[Index]) -> Result<u64, AllocError> {
+        let mut count = 0u64;
+        for id in ids {
+            count = count.wrapping_add(u64::from(set.remove(*id)));
+        }
+        Ok(count)
+    }
+}
+
+struct AndAssign;
+
+impl Change for AndAssign {
+    #[inline]
+    fn change(set: &mut BitSet, other: &BitSet, _ids: &[Index]) -> Result<u64, AllocError> {
+        *set &= other;
+        Ok(0)
+    }
+}
+
+struct OrAssign;
+
+impl Change for OrAssign {
+    #[inline]
+    fn change(set: &mut BitSet, other: &BitSet, _ids: &[Index]) -> Result<u64, AllocError> {
+        set.bitor_assign(other)?;
+        Ok(0)
+    }
+}
+
+struct XorAssign;
+
+impl Change for XorAssign {
+    #[inline]
+    fn change(set: &mut BitSet, other: &BitSet, _ids: &[Index]) -> Result<u64, AllocError> {
+        set.bitxor_assign(other)?;
+        Ok(0)
+    }
+}
+
+// Changes a copy, `times` times over, and one more copy, whose members are summed.
+fn changed<C: Change>(
+    set: &BitSet,
+    other: &BitSet,
+    ids: &[Index],
+    probe: Index,
+    times: usize,
+) -> Result<u64, AllocError> {
+    let mut sum = 0u64;
+    for _ in 0..times {
+        let mut copy = set.clone()?;
+        sum = sum.wrapping_add(C::change(&mut copy, other, ids)?);
+        sum = sum.wrapping_add(u64::from(copy.contains(probe)));
+    }
+    let mut copy = set.clone()?;
+    C::change(&mut copy, other, ids)?;
+    Ok(sum.wrapping_add(sum_of(&copy)))
+}
+
+// Changes copies of a set, beside no other.
+fn changed_alone<C: Change>(
+    alloc: Global,
+    members: &[Index],
+    ids: &[Index],
+    times: usize,
+) -> Result<u64, AllocError> {
+    let set = set_of(alloc, members)?;
+    let other = BitSet::new(alloc);
+    changed::<C>(&set, &other, ids, first_of(members), times)
+}
+
+// Changes copies of a set, beside another.
+fn changed_beside<C: Change>(
+    alloc: Global,
+    a: &[Index],
+    b: &[Index],
+    times: usize,
+) -> Result<u64, AllocError> {
+    let set = set_of(alloc, a)?;
+    let other = set_of(alloc, b)?;
+    changed::<C>(&set, &other, &[], first_of(a), times)
+}
+
+pub(crate) fn clone(alloc: Global, ids: &[Index], times: usize) -> Result<u64, AllocError> {
+    changed_alone::<KeepAll>(alloc, ids, &[], times)
+}
+
+pub(crate) fn drain(alloc: Global, ids: &[Index], times: usize) -> Result<u64, AllocError> {
+    changed_alone::<TakeInOrder>(alloc, ids, &[], times)
+}
+
+pub(crate) fn remove(
+    alloc: Global,
+    ids: &[Index],
+    removed: &[Index],
+    times: usize,
+) -> Result<u64, AllocError> {
+    changed_alone::<TakeListed>(alloc, ids, removed, times)
+}
+
+pub(crate) fn and_assign(
+    alloc: Global,
+    a: &[Index],
+    b: &[Index],
+    times: usize,
+) -> Result<u64, AllocError> {
+    changed_beside::<AndAssign>(alloc, a, b, times)
+}
+
+pub(crate) fn or_assign(
+    alloc: Global,
+    a: &[Index],
+    b: &[Index],
+    times: usize,
+) -> Result<u64, AllocError> {
+    changed_beside::<OrAssign>(alloc, a, b, times)
+}
+
+pub(crate) fn xor_assign(
+    alloc: Global,
+    a: &[Index],
+    b: &[Index],
+    times: usize,
+) -> Result<u64, AllocError> {
+    changed_beside::<XorAssign>(alloc, a, b, times)
+}

@@ -1,0 +1,166 @@
+//! Kernels over the public calls of `hibitset`, for a driver in Rust that measures them.
+//!
+//! Each makes its sets of the indices that it is given, does its work `times` times, and answers a sum of what came out, by which the driver compares it with the same kernel over another crate. Nothing else is promised of the sum. Indices out of range are left out. Where memory is refused the sum is `u64::MAX`.
+#![tactic(auto)]
+
+mod change;
+mod compare;
+mod copies;
+mod sets;
+mod walk;
+
+use std::alloc::Global;
+
+/// Adds the indices to an empty set, `times` times over.
+#[unsafe(no_mangle)]
+pub extern "C" fn hibitset_bench_add(alloc: Global, ids: &[u32], times: usize) -> u64 {
+    change::add(alloc, ids, times).unwrap_or(u64::MAX)
+}
+
+/// Adds the indices to an empty set with room for all, `times` times over.
+#[unsafe(no_mangle)]
+pub extern "C" fn hibitset_bench_add_with_room(alloc: Global, ids: &[u32], times: usize) -> u64 {
+    change::add_with_room(alloc, ids, times).unwrap_or(u64::MAX)
+}
+
+/// Adds the indices to a set that has them, `times` times over.
+#[unsafe(no_mangle)]
+pub extern "C" fn hibitset_bench_add_again(alloc: Global, ids: &[u32], times: usize) -> u64 {
+    change::add_again(alloc, ids, times).unwrap_or(u64::MAX)
+}
+
+/// Asks a set of `ids` for each of `asked`, `times` times over.
+#[unsafe(no_mangle)]
+pub extern "C" fn hibitset_bench_contains(
+    alloc: Global,
+    ids: &[u32],
+    asked: &[u32],
+    times: usize,
+) -> u64 {
+    change::contains(alloc, ids, asked, times).unwrap_or(u64::MAX)
+}
+
+/// Walks over a set, `times` times over.
+#[unsafe(no_mangle)]
+pub extern "C" fn hibitset_bench_walk(alloc: Global, ids: &[u32], times: usize) -> u64 {
+    walk::plain(alloc, ids, times).unwrap_or(u64::MAX)
+}
+
+/// Walks over what is not in a set, `times` times over.
+#[unsafe(no_mangle)]
+pub extern "C" fn hibitset_bench_walk_not(alloc: Global, ids: &[u32], times: usize) -> u64 {
+    walk::not(alloc, ids, times).unwrap_or(u64::MAX)
+}
+
+/// Walks over the indices that are in both of two sets, `times` times over.
+#[unsafe(no_mangle)]
+pub extern "C" fn hibitset_bench_walk_and(
+    alloc: Global,
+    a: &[u32],
+    b: &[u32],
+    times: usize,
+) -> u64 {
+    walk::and(alloc, a, b, times).unwrap_or(u64::MAX)
+}
+
+/// Walks over the indices that are in either of two sets, `times` times over.
+#[unsafe(no_mangle)]
+pub extern "C" fn hibitset_bench_walk_or(alloc: Global, a: &[u32], b: &[u32], times: usize) -> u64 {
+    walk::or(alloc, a, b, times).unwrap_or(u64::MAX)
+}
+
+/// Walks over the indices that are in exactly one of two sets, `times` times over.
+#[unsafe(no_mangle)]
+pub extern "C" fn hibitset_bench_walk_xor(
+    alloc: Global,
+    a: &[u32],
+    b: &[u32],
+    times: usize,
+) -> u64 {
+    walk::xor(alloc, a, b, times).unwrap_or(u64::MAX)
+}
+
+/// Makes a set of the items of an iterator, `times` times over.
+#[unsafe(no_mangle)]
+pub extern "C" fn hibitset_bench_build(alloc: Global, ids: &[u32], times: usize) -> u64 {
+    change::build(alloc, ids, times).unwrap_or(u64::MAX)
+}
+
+/// Makes a copy of a set, `times` times over, and one more whose members are summed.
+#[unsafe(no_mangle)]
+pub extern "C" fn hibitset_bench_clone(alloc: Global, ids: &[u32], times: usize) -> u64 {
+    copies::clone(alloc, ids, times).unwrap_or(u64::MAX)
+}
+
+/// Drains a copy of a set, as `hibitset_bench_clone` makes it.
+#[unsafe(no_mangle)]
+pub extern "C" fn hibitset_bench_drain(alloc: Global, ids: &[u32], times: usize) -> u64 {
+    copies::drain(alloc, ids, times).unwrap_or(u64::MAX)
+}
+
+/// Clears a set and adds an index, `times` times over.
+#[unsafe(no_mangle)]
+pub extern "C" fn hibitset_bench_clear(alloc: Global, ids: &[u32], times: usize) -> u64 {
+    change::clear(alloc, ids, times).unwrap_or(u64::MAX)
+}
+
+/// Takes indices out of a copy of a set, as `hibitset_bench_clone` makes it.
+#[unsafe(no_mangle)]
+pub extern "C" fn hibitset_bench_remove(
+    alloc: Global,
+    ids: &[u32],
+    removed: &[u32],
+    times: usize,
+) -> u64 {
+    copies::remove(alloc, ids, removed, times).unwrap_or(u64::MAX)
+}
+
+/// Takes out of a copy of `a`, as `hibitset_bench_clone` makes it, what is not in `b`.
+#[unsafe(no_mangle)]
+pub extern "C" fn hibitset_bench_and_assign(
+    alloc: Global,
+    a: &[u32],
+    b: &[u32],
+    times: usize,
+) -> u64 {
+    copies::and_assign(alloc, a, b, times).unwrap_or(u64::MAX)
+}
+
+/// Puts into a copy of `a`, as `hibitset_bench_clone` makes it, what is in `b`.
+#[unsafe(no_mangle)]
+pub extern "C" fn hibitset_bench_or_assign(
+    alloc: Global,
+    a: &[u32],
+    b: &[u32],
+    times: usize,
+) -> u64 {
+    copies::or_assign(alloc, a, b, times).unwrap_or(u64::MAX)
+}
+
+/// Puts into a copy of `a`, as `hibitset_bench_clone` makes it, what is in `b` alone, and takes out what is in both.
+#[unsafe(no_mangle)]
+pub extern "C" fn hibitset_bench_xor_assign(
+    alloc: Global,
+    a: &[u32],
+    b: &[u32],
+    times: usize,
+) -> u64 {
+    copies::xor_assign(alloc, a, b, times).unwrap_or(u64::MAX)
+}
+
+/// Asks whether two sets are equal, `times` times over.
+#[unsafe(no_mangle)]
+pub extern "C" fn hibitset_bench_equal(alloc: Global, a: &[u32], b: &[u32], times: usize) -> u64 {
+    compare::equal(alloc, a, b, times).unwrap_or(u64::MAX)
+}
+
+/// Asks whether the members of `b` are all in `a`, `times` times over.
+#[unsafe(no_mangle)]
+pub extern "C" fn hibitset_bench_contains_set(
+    alloc: Global,
+    a: &[u32],
+    b: &[u32],
+    times: usize,
+) -> u64 {
+    compare::contains_set(alloc, a, b, times).unwrap_or(u64::MAX)
+}

@@ -1,0 +1,62 @@
+//! Walks.
+use crate::sets::{set_of, sum_of};
+use hibitset::Index;
+use std::alloc::{AllocError, Global};
+
+pub(crate) fn plain(alloc: Global, ids: &[Index], times: usize) -> Result<u64, AllocError> {
+    let set = set_of(alloc, ids)?;
+    let mut sum = 0u64;
+    for _ in 0..times {
+        sum = sum.wrapping_add(sum_of(&set));
+    }
+    Ok(sum)
+}
+
+pub(crate) fn not(alloc: Global, ids: &[Index], times: usize) -> Result<u64, AllocError> {
+    let set = set_of(alloc, ids)?;
+    let mut sum = 0u64;
+    for _ in 0..times {
+        sum = sum.wrapping_add(sum_of(!&set));
+    }
+    Ok(sum)
+}
+
+pub(crate) fn and(
+    alloc: Global,
+    a: &[Index],
+    b: &[Index],
+    times: usize,
+) -> Result<u64, AllocError> {
+    let a = set_of(alloc, a)?;
+    let b = set_of(alloc, b)?;
+    let mut sum = 0u64;
+    for _ in 0..times {
+        sum = sum.wrapping_add(sum_of(&a & &b));
+    }
+    Ok(sum)
+}
+
+pub(crate) fn or(alloc: Global, a: &[Index], b: &[Index], times: usize) -> Result<u64, AllocError> {
+    let a = set_of(alloc, a)?;
+    let b = set_of(alloc, b)?;
+    let mut sum = 0u64;
+    for _ in 0..times {
+        sum = sum.wrapping_add(sum_of(&a | &b));
+    }
+    Ok(sum)
+}
+
+pub(crate) fn xor(
+    alloc: Global,
+    a: &[Index],
+    b: &[Index],
+    times: usize,
+) -> Result<u64, AllocError> {
+    let a = set_of(alloc, a)?;
+    let b = set_of(alloc, b)?;
+    let mut sum = 0u64;
+    for _ in 0..times {
+        sum = sum.wrapping_add(sum_of(&a ^ &b));
+    }
+    Ok(sum)
+}
