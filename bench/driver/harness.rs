@@ -1,0 +1,241 @@
+//! Medians of interleaved repeats. In each round every contender of a row runs once, so that a disturbance of the machine
+//! falls on all alike; ours and the original take turns in going first.
+//!
+//! A kernel makes its sets, does its work so many times, and answers a sum. What one turn of the work takes is the time
+//! of `1 + turns` turns less the time of one, shared out. Where each turn works on a copy, the time of the copy alone,
+//! taken in the same way, is taken off.
+//!
+//! The clock is the thread's own, which stands still while other programs have the processor.
+use std::hint::black_box;
+use std::time::Duration;
+
+/// A fixed sequence of numbers that look random: a 64 bit congruential generator, of whose state the high half is used.
+pub struct Numbers(pub u64);
+
+impl Numbers {
+    pub fn below(&mut self, bound: u64) -> u32 {
+        self.0 = self.0.wrapping_mul(6364136223846793005).wrapping_add(1442695040888963407);
+        ((self.0 >> 32) * bound >> 32) as u32
+    }
+
+    pub fn many(&mut self, count: usize, bound: u64) -> Vec<u32> {
+        (0..count).map(|_| self.below(bound)).collect()
+    }
+
+    /// Each number below the bound with a chance of one in `one_in`, ascending.
+    pub fn one_in(&mut self, one_in: u64, bound: u32) -> Vec<u32> {
+        (0..bound).filter(|_| self.below(one_in) == 0).collect()
+    }
+}
+
+pub type Kernel<'a> = Box<dyn Fn(usize) -> u64 + 'a>;
+
+/// One piece of work as our crate does it and as the original does it.
+pub struct Both<'a> {
+    pub ours: Kernel<'a>,
+    pub original: Kernel<'a>,
+}
+
+/// What a peer's answer is compared with: the original's for one turn, or for the set that it ends with.
+#[derive(Clone, Copy)]
+pub enum Answer {
+    Turn,
+    Last,
+}
+
+type Peer<'a> = Box<dyn FnMut() -> (Duration, u64) + 'a>;
+
+pub struct Row<'a> {
+    name: String,
+    ops: f64,
+    aim: f64,
+    answer: Answer,
+    work: Both<'a>,
+    copy: Option<Both<'a>>,
+    peers: Vec<(&'static str, Peer<'a>)>,
+}
+
+impl<'a> Row<'a> {
+    pub fn new(name: impl Into<String>, ops: usize, aim: f64, work: Both<'a>) -> Row<'a> {
+        Row { name: name.into(), ops: ops.max(1) as f64, aim, answer: Answer::Turn, work, copy: None, peers: Vec::new() }
+    }
+    /// Each turn of the work makes a copy first, as this does.
+    pub fn on_copies(mut self, copy: Both<'a>) -> Row<'a> {
+        self.copy = Some(copy);
+        self
+    }
+    pub fn answer(mut self, answer: Answer) -> Row<'a> {
+        self.answer = answer;
+        self
+    }
+    /// A peer, which sets up what it needs, and hands the work itself to `timed`.
+    pub fn peer(mut self, who: &'static str, run: impl FnMut() -> (Duration, u64) + 'a) -> Row<'a> {
+        self.peers.push((who, Box::new(run)));
+        self
+    }
+}
+
+#[repr(C)]
+struct Timespec {
+    seconds: i64,
+    nanoseconds: i64,
+}
+
+unsafe extern "C" {
+    fn clock_gettime(clock: i32, at: *mut Timespec) -> i32;
+}
+
+/// How long this thread has had a processor.
+fn now() -> Duration {
+    const THREAD_TIME: i32 = 3;
+    let mut at = Timespec { seconds: 0, nanoseconds: 0 };
+    // SAFETY: the type is C's of 64 bit Linux, and the call writes it alone.
+    let failed = unsafe { clock_gettime(THREAD_TIME, &mut at) };
+    assert_eq!(failed, 0, "no clock");
+    Duration::new(at.seconds as u64, at.nanoseconds as u32)
+}
+
+pub fn timed<R>(work: impl FnOnce() -> R) -> (Duration, R) {
+    let start = now();
+    let result = black_box(work());
+    (now() - start, result)
+}
+
+/// What one turn takes, in nanoseconds, and the sum of all turns.
+fn turn(kernel: &Kernel, turns: usize) -> (f64, u64) {
+    let (one, _) = timed(|| kernel(black_box(1)));
+    let (all, sum) = timed(|| kernel(black_box(1 + turns)));
+    ((all.as_nanos() as f64 - one.as_nanos() as f64) / turns as f64, sum)
+}
+
+/// So many turns that they take as long as wanted, and twice as long as all that is not measured: the noise of making the
+/// sets then counts for little.
+fn turns_for(kernel: &Kernel, wanted: Duration) -> usize {
+    let one = timed(|| kernel(black_box(1))).0.min(timed(|| kernel(black_box(1))).0);
+    let wanted = wanted.max(2 * one);
+    let mut turns = 3;
+    while turns < 1 << 24 {
+        let (all, _) = timed(|| kernel(black_box(1 + turns)));
+        let work = all.saturating_sub(one);
+        if work >= wanted {
+            break;
+        }
+        let missing = wanted.as_nanos() as f64 / work.as_nanos().max(1) as f64;
+        turns = ((turns as f64 * missing.clamp(1.5, 16.0)) as usize).max(turns + 1);
+    }
+    turns
+}
+
+fn median(values: &mut [f64]) -> f64 {
+    values.sort_by(f64::total_cmp);
+    values[values.len() / 2]
+}
+
+fn shown(ns: f64) -> String {
+    if ns < 10.0 {
+        format!("{ns:.2}")
+    } else if ns < 1000.0 {
+        format!("{ns:.1}")
+    } else {
+        format!("{ns:.0}")
+    }
+}
+
+pub struct Bench {
+    peers: Vec<&'static str>,
+    repeats: usize,
+    wanted: Duration,
+    only: String,
+    table: Vec<String>,
+    chart: Vec<(String, f64, f64)>,
+}
+
+impl Bench {
+    pub fn new(peers: &[&'static str], repeats: usize, wanted: Duration, only: &str) -> Bench {
+        Bench { peers: peers.to_vec(), repeats, wanted, only: only.to_string(), table: Vec::new(), chart: Vec::new() }
+    }
+
+    pub fn run(&mut self, row: Row) {
+        if !row.name.contains(&self.only) {
+            return;
+        }
+        let Row { name, ops, aim, answer, work, copy, mut peers } = row;
+        let contenders = [&work.ours, &work.original];
+        let copies = copy.as_ref().map(|copy| [&copy.ours, &copy.original]);
+        let expected = match answer {
+            Answer::Turn => (work.original)(2).wrapping_sub((work.original)(1)),
+            Answer::Last => (work.original)(0),
+        };
+        assert_eq!((work.ours)(0), (work.original)(0), "{name}: another answer than the original's");
+        let turns = turns_for(&work.original, self.wanted);
+        let mut times = [Vec::new(), Vec::new()];
+        let mut peer_times: Vec<Vec<f64>> = peers.iter().map(|_| Vec::new()).collect();
+        for round in 0..self.repeats + 1 {
+            let mut sums = [0; 2];
+            for place in 0..2 {
+                let who = (round + place) % 2;
+                let (mut took, sum) = turn(contenders[who], turns);
+                if let Some(copies) = &copies {
+                    took -= turn(copies[who], turns).0;
+                }
+                sums[who] = sum;
+                if round > 0 {
+                    times[who].push(took / ops);
+                }
+            }
+            assert_eq!(sums[0], sums[1], "{name}: another answer than the original's");
+            for ((who, run), times) in peers.iter_mut().zip(&mut peer_times) {
+                if round % 3 > 1 {
+                    continue; // They are slow, and no ratio rests on them.
+                }
+                let (took, sum) = run();
+                assert_eq!(sum, expected, "{name}: {who} has another answer than the original");
+                if round > 0 {
+                    times.push(took.as_nanos() as f64 / ops);
+                }
+            }
+        }
+        let [ours, original] = times.map(|mut times| median(&mut times));
+        let ratio = ours / original;
+        let cells: Vec<String> = self.peers.iter().map(|peer| {
+            peers.iter().position(|(who, _)| who == peer).map_or("-".to_string(), |at| shown(median(&mut peer_times[at])))
+        }).collect();
+        let miss = if ratio > aim { " *" } else { "" };
+        let line = format!("| {name} | {} | {} | {ratio:.2}{miss} | {aim:.2} | {} |", shown(ours), shown(original), cells.join(" | "));
+        eprintln!("{line}");
+        self.table.push(line);
+        self.chart.push((name.replace("\\|", "|"), ratio, aim));
+    }
+
+    /// A heading between rows.
+    pub fn part(&mut self, title: &str) {
+        self.table.push(format!("| **{title}** |{}", " |".repeat(4 + self.peers.len())));
+        self.chart.push((title.to_string(), f64::NAN, f64::NAN));
+    }
+
+    pub fn print(&self) {
+        println!("| workload | ours | original | ratio | aim | {} |\n|---{}|", self.peers.join(" | "), "|---:".repeat(4 + self.peers.len()));
+        self.table.iter().for_each(|line| println!("{line}"));
+        println!("\n```text");
+        let width = self.chart.iter().map(|row| row.0.chars().count()).max().unwrap_or(0);
+        println!("{:width$}  0        0.25        0.50        0.75        1.0", "");
+        for (name, ratio, aim) in &self.chart {
+            if ratio.is_nan() {
+                println!("{name}");
+                continue;
+            }
+            println!("{name:width$}  {} {ratio:.2}", bar(*ratio, *aim));
+        }
+        println!("```");
+    }
+}
+
+/// A bar of the ratio, 48 places for 1.0, with a mark at the aim.
+fn bar(ratio: f64, aim: f64) -> String {
+    const ONE: f64 = 48.0;
+    let end = (ratio * ONE).round().clamp(0.0, ONE + 8.0) as usize;
+    let mark = (aim * ONE).round() as usize;
+    (0..ONE as usize + 8).map(|at| {
+        if at == mark { '|' } else if at < end { '#' } else { ' ' }
+    }).collect()
+}

@@ -1,0 +1,273 @@
+//! bench [REPEATS [MILLISECONDS [WORDS]]]: the workloads, each with ours, the original and its peers in one process.
+//! MILLISECONDS: how long the work of one timing is to take. WORDS: the rows whose names have them, alone.
+mod harness;
+mod original;
+mod ours;
+mod peers;
+
+use std::collections::{BTreeSet, HashSet};
+use std::time::Duration;
+
+use harness::{timed, Answer, Bench, Both, Numbers, Row};
+use peers::{sum, Peers, END};
+
+#[cfg(fixedbitset)]
+use peers::{fixed_of, wide_sum};
+
+const MILLION: usize = 1_000_000;
+
+/// A list of indices, ascending, with a name, and its members in the peers.
+struct Sample {
+    name: &'static str,
+    ids: Vec<u32>,
+    peers: Peers,
+}
+
+impl Sample {
+    fn new(name: &'static str, ids: Vec<u32>) -> Sample {
+        Sample { name, peers: Peers::of(&ids), ids }
+    }
+    fn len(&self) -> usize {
+        self.ids.len()
+    }
+}
+
+macro_rules! both {
+    ($kernel:ident, $($list:expr),*) => {
+        Both { ours: Box::new(|times| ours::$kernel($($list,)* times)), original: Box::new(|times| original::$kernel($($list,)* times)) }
+    };
+}
+
+/// Adds a peer where its crate was found.
+macro_rules! peer {
+    ($row:ident, $cfg:ident, $who:expr, $run:expr) => {
+        #[cfg($cfg)]
+        {
+            $row = $row.peer($who, $run);
+        }
+    };
+}
+
+/// The count of ids that were there already.
+fn count(ids: &[u32], mut was_there: impl FnMut(u32) -> bool) -> u64 {
+    ids.iter().filter(|id| was_there(**id)).count() as u64
+}
+
+/// A copy made before the clock runs, and dropped after it has stopped.
+fn on_copy<S: Clone, R>(set: &S, work: impl FnOnce(&mut S) -> R) -> (Duration, R) {
+    let mut copy = set.clone();
+    timed(|| work(&mut copy))
+}
+
+fn adds(bench: &mut Bench, random: &[u32], members: &Peers, absent: &[u32], ascending: &[u32]) {
+    bench.part("one index at a time (ns per index)");
+    for (name, ids) in [("add, 1M random below 2^24, from empty", random), ("add, 1M ascending, from empty", ascending)] {
+        let mut row = Row::new(name, ids.len(), 0.85, both!(add, ids));
+        peer!(row, fixedbitset, "fixedbitset", || timed(|| { let mut s = fixedbitset::FixedBitSet::with_capacity(END); count(ids, |i| s.put(i as usize)) }));
+        peer!(row, bit_set, "bit-set", || timed(|| { let mut s = bit_set::BitSet::new(); count(ids, |i| !s.insert(i as usize)) }));
+        bench.run(row
+            .peer("BTreeSet", || timed(|| { let mut s = BTreeSet::new(); count(ids, |i| !s.insert(i)) }))
+            .peer("HashSet", || timed(|| { let mut s = HashSet::new(); count(ids, |i| !s.insert(i)) })));
+    }
+    let mut row = Row::new("add, 1M random, room made before", random.len(), 0.85, both!(add_with_room, random));
+    peer!(row, fixedbitset, "fixedbitset", || timed(|| { let mut s = fixedbitset::FixedBitSet::with_capacity(END); count(random, |i| s.put(i as usize)) }));
+    peer!(row, bit_set, "bit-set", || timed(|| { let mut s = bit_set::BitSet::with_capacity(END); count(random, |i| !s.insert(i as usize)) }));
+    bench.run(row.peer("HashSet", || timed(|| { let mut s = HashSet::with_capacity(MILLION); count(random, |i| !s.insert(i)) })));
+    let mut row = Row::new("add again what is there", random.len(), 0.85, both!(add_again, random));
+    peer!(row, fixedbitset, "fixedbitset", || on_copy(&members.fixed, |s| count(random, |i| s.put(i as usize))));
+    peer!(row, bit_set, "bit-set", || on_copy(&members.bits, |s| count(random, |i| !s.insert(i as usize))));
+    bench.run(row
+        .peer("BTreeSet", || on_copy(&members.tree, |s| count(random, |i| !s.insert(i))))
+        .peer("HashSet", || on_copy(&members.hash, |s| count(random, |i| !s.insert(i)))));
+    for (name, asked) in [("contains, hit", random), ("contains, miss", absent)] {
+        let mut row = Row::new(name, asked.len(), 1.0, both!(contains, random, asked));
+        peer!(row, fixedbitset, "fixedbitset", || timed(|| count(asked, |i| members.fixed.contains(i as usize))));
+        peer!(row, bit_set, "bit-set", || timed(|| count(asked, |i| members.bits.contains(i as usize))));
+        bench.run(row
+            .peer("BTreeSet", || timed(|| count(asked, |i| members.tree.contains(&i))))
+            .peer("HashSet", || timed(|| count(asked, |i| members.hash.contains(&i)))));
+    }
+    let distinct: Vec<u32> = { let mut seen = HashSet::new(); random.iter().copied().filter(|i| seen.insert(*i)).collect() };
+    let mut row = Row::new("remove, all of 1M random", distinct.len(), 1.0, both!(remove, random, &distinct)).on_copies(both!(clone, random));
+    peer!(row, fixedbitset, "fixedbitset", || on_copy(&members.fixed, |s| { distinct.iter().for_each(|i| s.set(*i as usize, false)); distinct.len() as u64 }));
+    peer!(row, bit_set, "bit-set", || on_copy(&members.bits, |s| count(&distinct, |i| s.remove(i as usize))));
+    bench.run(row
+        .peer("BTreeSet", || on_copy(&members.tree, |s| count(&distinct, |i| s.remove(&i))))
+        .peer("HashSet", || on_copy(&members.hash, |s| count(&distinct, |i| s.remove(&i)))));
+}
+
+fn walks(bench: &mut Bench, all: &[(&Sample, f64)]) {
+    bench.part("walks (ns per item)");
+    for (sample, aim) in all {
+        let (ids, k) = (&sample.ids[..], &sample.peers);
+        let mut row = Row::new(format!("walk, {}", sample.name), ids.len(), *aim, both!(walk, ids));
+        peer!(row, fixedbitset, "fixedbitset", || timed(|| wide_sum(k.fixed.ones())));
+        peer!(row, bit_set, "bit-set", || timed(|| wide_sum(k.bits.iter())));
+        bench.run(row
+            .peer("BTreeSet", || timed(|| sum(k.tree.iter().copied())))
+            .peer("HashSet", || timed(|| sum(k.hash.iter().copied()))));
+    }
+}
+
+fn pair_walks(bench: &mut Bench, a: &Sample, b: &Sample, aim: f64) {
+    let (ops, of) = (a.len() + b.len(), format!("{} and {}", a.name, b.name));
+    let (x, y) = (&a.ids[..], &b.ids[..]);
+    let (p, q) = (&a.peers, &b.peers);
+    let mut row = Row::new(format!("walk of a & b, {of}"), ops, aim, both!(walk_and, x, y));
+    peer!(row, fixedbitset, "fixedbitset", || timed(|| wide_sum(p.fixed.intersection(&q.fixed))));
+    peer!(row, bit_set, "bit-set", || timed(|| wide_sum(p.bits.intersection(&q.bits))));
+    bench.run(row
+        .peer("BTreeSet", || timed(|| sum(p.tree.intersection(&q.tree).copied())))
+        .peer("HashSet", || timed(|| sum(p.hash.intersection(&q.hash).copied()))));
+    let mut row = Row::new(format!("walk of a \\| b, {of}"), ops, aim, both!(walk_or, x, y));
+    peer!(row, fixedbitset, "fixedbitset", || timed(|| wide_sum(p.fixed.union(&q.fixed))));
+    peer!(row, bit_set, "bit-set", || timed(|| wide_sum(p.bits.union(&q.bits))));
+    bench.run(row
+        .peer("BTreeSet", || timed(|| sum(p.tree.union(&q.tree).copied())))
+        .peer("HashSet", || timed(|| sum(p.hash.union(&q.hash).copied()))));
+    let mut row = Row::new(format!("walk of a ^ b, {of}"), ops, aim, both!(walk_xor, x, y));
+    peer!(row, fixedbitset, "fixedbitset", || timed(|| wide_sum(p.fixed.symmetric_difference(&q.fixed))));
+    peer!(row, bit_set, "bit-set", || timed(|| wide_sum(p.bits.symmetric_difference(&q.bits))));
+    bench.run(row
+        .peer("BTreeSet", || timed(|| sum(p.tree.symmetric_difference(&q.tree).copied())))
+        .peer("HashSet", || timed(|| sum(p.hash.symmetric_difference(&q.hash).copied()))));
+}
+
+/// The peers' trees and hashes make a new set, and the flat ones change a copy made before.
+fn assignments(bench: &mut Bench, a: &Sample, b: &Sample, aims: [f64; 3]) {
+    let (ops, of) = (a.len() + b.len(), format!("{} and {}", a.name, b.name));
+    let (x, y) = (&a.ids[..], &b.ids[..]);
+    let (p, q) = (&a.peers, &b.peers);
+    macro_rules! row {
+        ($name:literal, $kernel:ident, $aim:expr, $op:tt, $flat:ident) => {
+            let mut row = Row::new(format!("{}, {of}", $name), ops, $aim, both!($kernel, x, y)).on_copies(both!(clone, x)).answer(Answer::Last);
+            peer!(row, fixedbitset, "fixedbitset", || {
+                let mut set = p.fixed.clone();
+                let took = timed(|| set.$flat(&q.fixed)).0;
+                (took, wide_sum(set.ones()))
+            });
+            peer!(row, bit_set, "bit-set", || {
+                let mut set = p.bits.clone();
+                let took = timed(|| set.$flat(&q.bits)).0;
+                (took, wide_sum(set.iter()))
+            });
+            bench.run(row
+                .peer("BTreeSet", || { let (took, set) = timed(|| &p.tree $op &q.tree); (took, sum(set.into_iter())) })
+                .peer("HashSet", || { let (took, set) = timed(|| &p.hash $op &q.hash); (took, sum(set.into_iter())) }));
+        };
+    }
+    row!("a &= b", and_assign, aims[0], &, intersect_with);
+    row!("a \\|= b", or_assign, aims[1], |, union_with);
+    row!("a ^= b", xor_assign, aims[2], ^, symmetric_difference_with);
+}
+
+fn drains(bench: &mut Bench, all: &[&Sample]) {
+    bench.part("drains (ns per item)");
+    for sample in all {
+        let (ids, k) = (&sample.ids[..], &sample.peers);
+        bench.run(Row::new(format!("drain, {}", sample.name), ids.len(), 1.0, both!(drain, ids)).on_copies(both!(clone, ids))
+            .peer("BTreeSet", || on_copy(&k.tree, |s| sum(std::iter::from_fn(|| s.pop_first()))))
+            .peer("HashSet", || on_copy(&k.hash, |s| sum(s.drain()))));
+    }
+}
+
+fn whole(bench: &mut Bench, cleared: &Sample, all: &[&Sample]) {
+    bench.part("whole sets (ns per call)");
+    let (ids, k) = (&cleared.ids[..], &cleared.peers);
+    let first = ids[0];
+    let mut row = Row::new(format!("clear and add one, {}", cleared.name), 1, 1.0, both!(clear, ids));
+    peer!(row, fixedbitset, "fixedbitset", || on_copy(&k.fixed, |s| { s.clear(); s.insert(first as usize); s.contains(first as usize) as u64 }));
+    peer!(row, bit_set, "bit-set", || on_copy(&k.bits, |s| { s.clear(); s.insert(first as usize); s.contains(first as usize) as u64 }));
+    bench.run(row
+        .peer("BTreeSet", || on_copy(&k.tree, |s| { s.clear(); s.insert(first); s.contains(&first) as u64 }))
+        .peer("HashSet", || on_copy(&k.hash, |s| { s.clear(); s.insert(first); s.contains(&first) as u64 })));
+    for sample in all {
+        let (ids, k) = (&sample.ids[..], &sample.peers);
+        let first = ids[0];
+        let mut row = Row::new(format!("clone, {}", sample.name), 1, 1.0, both!(clone, ids));
+        peer!(row, fixedbitset, "fixedbitset", || timed(|| k.fixed.clone().contains(first as usize) as u64));
+        peer!(row, bit_set, "bit-set", || timed(|| k.bits.clone().contains(first as usize) as u64));
+        bench.run(row
+            .peer("BTreeSet", || timed(|| k.tree.clone().contains(&first) as u64))
+            .peer("HashSet", || timed(|| k.hash.clone().contains(&first) as u64)));
+        let same = Peers::of(ids);
+        let mut row = Row::new(format!("a == b, {} and its copy", sample.name), 1, 1.0, both!(equal, ids, ids));
+        peer!(row, fixedbitset, "fixedbitset", || timed(|| (k.fixed == same.fixed) as u64));
+        peer!(row, bit_set, "bit-set", || timed(|| (k.bits == same.bits) as u64));
+        bench.run(row
+            .peer("BTreeSet", || timed(|| (k.tree == same.tree) as u64))
+            .peer("HashSet", || timed(|| (k.hash == same.hash) as u64)));
+        let mut row = Row::new(format!("a.contains\\_set(b), {} and its copy", sample.name), 1, 1.0, both!(contains_set, ids, ids));
+        peer!(row, fixedbitset, "fixedbitset", || timed(|| same.fixed.is_subset(&k.fixed) as u64));
+        peer!(row, bit_set, "bit-set", || timed(|| same.bits.is_subset(&k.bits) as u64));
+        bench.run(row
+            .peer("BTreeSet", || timed(|| same.tree.is_subset(&k.tree) as u64))
+            .peer("HashSet", || timed(|| same.hash.is_subset(&k.hash) as u64)));
+    }
+}
+
+fn builds(bench: &mut Bench, lists: [(&str, &[u32]); 2]) {
+    bench.part("building (ns per index)");
+    for (name, ids) in lists {
+        let mut row = Row::new(format!("build from an iterator, {name}"), ids.len(), 1.0, both!(build, ids));
+        peer!(row, fixedbitset, "fixedbitset", || timed(|| fixed_of(ids).contains(ids[0] as usize) as u64));
+        peer!(row, bit_set, "bit-set", || timed(|| ids.iter().map(|i| *i as usize).collect::<bit_set::BitSet>().contains(ids[0] as usize) as u64));
+        bench.run(row
+            .peer("BTreeSet", || timed(|| ids.iter().copied().collect::<BTreeSet<u32>>().contains(&ids[0]) as u64))
+            .peer("HashSet", || timed(|| ids.iter().copied().collect::<HashSet<u32>>().contains(&ids[0]) as u64)));
+    }
+}
+
+fn main() {
+    let args: Vec<String> = std::env::args().collect();
+    let number = |at: usize, default: u64| args.get(at).map_or(default, |n| n.parse().expect("a number"));
+    let (repeats, wanted) = (number(1, 9) as usize, Duration::from_millis(number(2, 20)));
+    let only = args.get(3).map_or("", String::as_str);
+    let mut bench = Bench::new(&peers::names(), repeats, wanted, only);
+
+    let end = END as u32;
+    let mut numbers = Numbers(1);
+    let random = numbers.many(MILLION, END as u64);
+    let members = Peers::of(&random);
+    let absent: Vec<u32> = numbers.many(MILLION, END as u64).into_iter().filter(|i| !members.hash.contains(i)).collect();
+    let ascending: Vec<u32> = (0..MILLION as u32).collect();
+    let half = Sample::new("half of 2^21", numbers.one_in(2, 1 << 21));
+    let other_half = Sample::new("another half", numbers.one_in(2, 1 << 21));
+    let ten = Sample::new("10 %", numbers.one_in(10, end));
+    let other_ten = Sample::new("another 10 %", numbers.one_in(10, end));
+    let one = Sample::new("1 %", numbers.one_in(100, end));
+    let other_one = Sample::new("another 1 %", numbers.one_in(100, end));
+    let few = Sample::new("0.01 %", numbers.one_in(10_000, end));
+    let other_few = Sample::new("another 0.01 %", numbers.one_in(10_000, end));
+    let dense = Sample::new("dense, 1M of 1M", ascending.clone());
+    let clusters = Sample::new("100 clusters of 1,000", (0..100).flat_map(|c| (0..1000).map(move |i| c * 160_000 + i)).collect());
+
+    adds(&mut bench, &random, &members, &absent, &ascending);
+    walks(&mut bench, &[(&dense, 0.4), (&half, 0.6), (&ten, 0.6), (&one, 0.6), (&few, 0.6), (&clusters, 0.4)]);
+    bench.part("walks of two sets (ns per member of both)");
+    for (a, b, aim) in [(&half, &other_half, 0.6), (&ten, &other_ten, 0.6), (&one, &other_one, 0.6), (&few, &ten, 0.6), (&clusters, &one, 0.6)] {
+        pair_walks(&mut bench, a, b, aim);
+    }
+    bench.part("walks of what is not there (ns per item)");
+    for (sample, aim) in [(&half, 0.4), (&one, 0.4)] {
+        let ids = &sample.ids[..];
+        bench.run(Row::new(format!("walk of !a, {}", sample.name), END - ids.len(), aim, both!(walk_not, ids)));
+    }
+    bench.part("assignments (ns per member of both)");
+    let dense_aims = [0.3, 0.6, 0.3];
+    for (a, b, aims) in [
+        (&half, &other_half, dense_aims),
+        (&ten, &other_ten, dense_aims),
+        (&one, &other_one, [1.0; 3]),
+        (&few, &other_few, [1.0; 3]),
+        (&few, &ten, [1.0; 3]),
+        (&ten, &few, [1.0; 3]),
+        (&clusters, &one, [1.0; 3]),
+    ] {
+        assignments(&mut bench, a, b, aims);
+    }
+    drains(&mut bench, &[&half, &ten, &one, &clusters]);
+    whole(&mut bench, &one, &[&half, &ten, &one, &few]);
+    builds(&mut bench, [("1M random", &random), ("1M ascending", &ascending)]);
+    bench.print();
+}
