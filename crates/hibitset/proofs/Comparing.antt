@@ -1,9 +1,10 @@
 -- Two sets compared from the top down.
-use Rattle.std.proofs.Common.{◌≡◌, ◌≢◌, ℕ, zero, suc, ◌+◌, ◌-◌, ◌*◌, ◌/◌, ◌%◌, ◌^◌, ◌<◌, ◌≤◌, ◌==◌, ◌↔◌, Bool, true, false, not, IsTrue, refl, sym, ◌∙◌, ap, arith, inl, inr}
+use Rattle.std.proofs.Common.{◌≡◌, ◌≢◌, ℕ, zero, suc, ◌+◌, ◌-◌, ◌*◌, ◌/◌, ◌%◌, ◌^◌, ◌<◌, ◌≤◌, ◌==◌, ◌↔◌, Bool, true, false, not, IsTrue, bit_or, refl, sym, ◌∙◌, ap, arith, inl, inr}
 use Rattle.std.specs.Int.{bit_at}
 use Rattle.std.proofs.lemmas.Bool.{cases_lt}
 use Rattle.std.proofs.lemmas.Bool.Decides.{nat_tests}
 use Rattle.std.proofs.Math.Nat.{pow-suc, div-eq_of_lt}
+use Rattle.std.proofs.lemmas.Nat.{le_or_l, le_or_r}
 use Rattle.std.proofs.lemmas.Nat.Bits.{bit_at-lt, bit_at-zero}
 use Rattle.hibitset_base.specs.Sets.{IsLawful, bit_of}
 use Rattle.hibitset.specs.Words.{IsSummed, holds_at}
@@ -97,3 +98,24 @@ words_pass n allowed w v none some end_w end_v all p = elim (cases_lt p (64 ^ (n
 pub decided : (x : Bool) {P Q : Type 0} → (x ≡ true → P) → (x ≡ false → Q → ⊥) → (P → Q) → IsTrue x ↔ P
 decided true whole part all = (λ _. whole refl, λ _. refl)
 decided false whole part all = (λ h. absurd (let e : bit_of false ≡ bit_of true = ap bit_of h in omega (arith, e)), λ p. absurd (part refl (all p)))
+
+-- The state of a loop over the 64 words of a block, of which those below `bit` are done.
+pub record Unmissed (pass : ℕ → Type 0) (place bit missed : ℕ) : Type 0 where
+  pub upto : bit ≤ 64
+  pub passed : missed ≡ 0 → (b : ℕ) → b < bit → pass (64 * place + b)
+  pub missing : ((p : ℕ) → pass p) → missed ≡ 0
+
+pub unmissed_step : (pass : ℕ → Type 0) (place bit missed misses : ℕ) → bit < 64 → (misses ≡ 0) ↔ pass (64 * place + bit) → Unmissed pass place bit missed → Unmissed pass place (bit + 1) (bit_or missed misses)
+unmissed_step pass place bit missed misses below here past = record {
+  upto = omega arith;
+  passed = λ none b small. elim (same_or_not b bit) [
+    | inl is ↦ rw is (here.0 (let less = le_or_r missed misses in omega (arith, none, less)))
+    | inr other ↦ past.passed (let less = le_or_l missed misses in omega (arith, none, less)) b (omega arith)
+  ];
+  missing = λ all. rw (past.missing all, here.1 (all (64 * place + bit))) refl;
+}
+
+pub unmissed_block : (pass : ℕ → Type 0) (place bit missed : ℕ) → 64 ≤ bit → missed ≡ 0 → Unmissed pass place bit missed → (p : ℕ) → p / 64 ≡ place → pass p
+unmissed_block pass place bit missed end none past p e =
+    let split : 64 * place + p % 64 ≡ p = omega arith in
+    rw split at (past.passed none (p % 64) (omega arith))

@@ -2,7 +2,7 @@
 use Rattle.std.proofs.Common.{◌≡◌, ◌≢◌, ℕ, zero, suc, ◌-◌, ◌*◌, ◌/◌, ◌%◌, ◌^◌, ◌<◌, ◌≤◌, Bool, true, false, cond, ◌==◌, ◌||◌, ◌&&◌, not, List, [], ◌∷◌, get_or, length, refl, sym, ◌∙◌, ap, arith, lit<, inl, inr, Result, Ok, Err, OnErr}
 use Rattle.std.specs.Int.{bit_at}
 use Rattle.std.proofs.Math.Nat.{pow-suc}
-use Rattle.std.proofs.lemmas.Nat.Bits.{bit_at-zero}
+use Rattle.std.proofs.lemmas.Nat.Bits.{bit_at-lt, bit_at-zero, same_from_bits_below}
 use Rattle.std.proofs.lemmas.Bool.{cases_lt}
 use Rattle.std.proofs.lemmas.Bool.Decides.{nat_tests}
 use Rattle.hibitset_base.specs.Sets.{bit_of}
@@ -88,3 +88,17 @@ has_within set i holds = member_below LAYERS (layers set) (lit< tt) set.stored.s
 pub OnErr-always : {A E : Type 0} {P : Type 0} (r : Result A E) → P → OnErr r P
 OnErr-always (Ok a) h = tt
 OnErr-always (Err e) h = h
+
+-- Where one bit is set to `s` and that changes the word, the bit was the other.
+pub turned : (before word bit : ℕ) (s : Bool) → before < 2 ^ 64 → word < 2 ^ 64 → (word ≡ before → ⊥) → ((b : ℕ) → b < 64 → b ≢ bit → bit_at word b ≡ bit_at before b) → bit_at word bit ≡ bit_of s → not s ≡ (bit_at before bit == 1)
+turned before word bit s fits_before fits_word differ others here = by_bit s (bit_at before bit) (bit_at-lt before bit) (λ e. differ (same_word (here ∙ sym e)))
+  where
+    same_word : bit_at word bit ≡ bit_at before bit → word ≡ before
+    same_word e = same_from_bits_below 64 word before fits_word fits_before (λ b small. elim (same_or_not b bit) [ inl is ↦ rw is e | inr other ↦ others b small other ])
+
+    by_bit : (s : Bool) (x : ℕ) → x < 2 → (x ≡ bit_of s → ⊥) → not s ≡ (x == 1)
+    by_bit true zero small wrong = refl
+    by_bit true (suc zero) small wrong = absurd (wrong refl)
+    by_bit false zero small wrong = absurd (wrong refl)
+    by_bit false (suc zero) small wrong = refl
+    by_bit s (suc (suc x)) small wrong = absurd (omega arith)

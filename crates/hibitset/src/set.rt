@@ -50,16 +50,16 @@ pub(crate) fn with_bit(word: usize, bit: usize, stands: bool) -> usize
     }
 }
 
-// Puts a word in the place of another, and tells whether one of them is 0 and the other not.
+// Puts a word in the place of the word `before`, and tells whether one of them is 0 and the other not.
 #[inline]
-fn replace(words: &mut Vec<usize>, place: usize, word: usize) -> bool
-    requires { place < length words.old.items }
+fn replace(words: &mut Vec<usize>, place: usize, before: usize, word: usize) -> bool
+    requires place { place < length words.old.items }
+    requires before { before ≡ get_or words.old.items place 0 }
     ensures length { length words.new.items ≡ length words.old.items }
     ensures here { get_or words.new.items place 0 ≡ word }
     ensures others { (p : ℕ) → p ≢ place → get_or words.new.items p 0 ≡ get_or words.old.items p 0 }
     ensures stays { result ≡ false → (0 < get_or words.old.items place 0) ↔ (0 < word) }
 {
-    let before = words[place];
     words[place] = word;
     (before == 0) != (word == 0)
 }
@@ -102,8 +102,9 @@ impl BitSet {
         Ok(set)
     }
 
-    // Makes room for the words over `id`, and changes no word.
-    pub(crate) fn extend(&mut self, id: Index) -> Result<(), AllocError>
+    // Makes room for the words over `id`, and changes no word. It is apart from `extend`, so that a call of `add` that needs no room tests one length alone.
+    #[inline(never)]
+    fn grow(&mut self, id: Index) -> Result<(), AllocError>
         requires { id < MAX_EID }
         ensures same { (l p : ℕ) → word_of self.new l p ≡ word_of self.old l p }
         ensures keeps { slice_len self.old 0 ≤ slice_len self.new 0 }
@@ -116,38 +117,62 @@ impl BitSet {
         fill_up(&mut self.layer0, p0)
     }
 
-    // Puts a word into layer 0, and sets the summaries over it right, as far up as one turns from 0 or to 0.
+    // Makes room for the words over `id`, and changes no word.
     #[inline]
-    fn put_word(&mut self, place: usize, word: usize)
-        requires { place < slice_len self.old 0 }
+    pub(crate) fn extend(&mut self, id: Index) -> Result<(), AllocError>
+        requires { id < MAX_EID }
+        ensures same { (l p : ℕ) → word_of self.new l p ≡ word_of self.old l p }
+        ensures keeps { slice_len self.old 0 ≤ slice_len self.new 0 }
+        ensures covers { OnOk result (id / 64 < slice_len self.new 0) }
+        ensures room { id / 64 < slice_len self.old 0 → IsOk result }
+    {
+        if (id as usize) / 64 < self.layer0.len() {
+            return Ok(());
+        }
+        self.grow(id)
+    }
+
+    // Puts a word into layer 0 in the place of the word `before`, and sets the summaries over it right, as far up as one turns from 0 or to 0.
+    #[inline]
+    fn put_word(&mut self, place: usize, before: usize, word: usize)
+        requires place { place < slice_len self.old 0 }
+        requires before { before ≡ word_of self.old 0 place }
         ensures here { word_of self.new 0 place ≡ word }
         ensures others { (p : ℕ) → p ≢ place → word_of self.new 0 p ≡ word_of self.old 0 p }
         ensures length { slice_len self.new 0 ≡ slice_len self.old 0 }
     {
-        if !replace(&mut self.layer0, place, word) {
+        if !replace(&mut self.layer0, place, before, word) {
             return;
         }
-        let word1 = with_bit(self.layer1[place / 64], place % 64, word != 0);
-        if !replace(&mut self.layer1, place / 64, word1) {
+        let before1 = self.layer1[place / 64];
+        let word1 = with_bit(before1, place % 64, word != 0);
+        if !replace(&mut self.layer1, place / 64, before1, word1) {
             return;
         }
-        let word2 = with_bit(self.layer2[place / 4_096], place / 64 % 64, word1 != 0);
-        if !replace(&mut self.layer2, place / 4_096, word2) {
+        let before2 = self.layer2[place / 4_096];
+        let word2 = with_bit(before2, place / 64 % 64, word1 != 0);
+        if !replace(&mut self.layer2, place / 4_096, before2, word2) {
             return;
         }
         self.layer3 = with_bit(self.layer3, place / 4_096, word2 != 0);
     }
 
-    // Puts an index in or takes it out, where there is room for it.
+    // Puts an index in or takes it out, where there is room for it, and tells whether it was there.
     #[inline]
-    fn put(&mut self, id: Index, stands: bool)
+    fn put(&mut self, id: Index, stands: bool) -> bool
         requires { id / 64 < slice_len self.old 0 }
+        ensures was { result ≡ has self.old id }
         ensures put { (i : ℕ) → has self.new i ≡ (if i == id then stands else has self.old i) }
         ensures length { slice_len self.new 0 ≡ slice_len self.old 0 }
     {
         let place = id as usize / 64;
-        let word = with_bit(self.layer0[place], id as usize % 64, stands);
-        self.put_word(place, word);
+        let before = self.layer0[place];
+        let word = with_bit(before, id as usize % 64, stands);
+        if word == before {
+            return stands;
+        }
+        self.put_word(place, before, word);
+        !stands
     }
 
     /// Adds an index below `MAX_EID`, and tells whether it was there. Where memory is refused the members stay.
@@ -162,12 +187,8 @@ impl BitSet {
         ensures room { id / 64 < slice_len self.old 0 → IsOk result }
         ensures keeps { slice_len self.old 0 ≤ slice_len self.new 0 }
     {
-        if self.contains(id) {
-            return Ok(true);
-        }
         self.extend(id)?;
-        self.put(id, true);
-        Ok(false)
+        Ok(self.put(id, true))
     }
 
     /// Takes an index out, and tells whether it was there.
@@ -177,11 +198,10 @@ impl BitSet {
         ensures removed { (i : ℕ) → has self.new i ≡ (has self.old i && not (i == id)) }
         ensures length { slice_len self.new 0 ≡ slice_len self.old 0 }
     {
-        if !self.contains(id) {
+        if (id as usize) / 64 >= self.layer0.len() {
             return false;
         }
-        self.put(id, false);
-        true
+        self.put(id, false)
     }
 
     /// Takes all members out, and gives up the words: the three slices have length 0 then.

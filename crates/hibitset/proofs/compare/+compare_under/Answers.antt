@@ -1,6 +1,7 @@
 use Rattle.std.proofs.Common.{◌≡◌, ℕ, suc, ◌+◌, ◌-◌, ◌*◌, ◌/◌, ◌%◌, ◌^◌, ◌<◌, ◌==◌, Bool, IsTrue, true, false, refl, sym, ap, ◌∙◌, arith}
 use Rattle.std.specs.Int.{bit_at}
 use Rattle.std.proofs.Math.Nat.{pow-suc, div-div-eq-div-mul}
+use Rattle.std.proofs.lemmas.Bool.Decides.{nat_tests}
 use Rattle.std.proofs.lemmas.Nat.Bits.{bit_at-zero}
 use Rattle.hibitset_base.specs.declared.util.TheConstants.{LAYERS}
 use Rattle.hibitset.specs.BitSet.{has, word_of}
@@ -11,8 +12,8 @@ use Rattle.hibitset.proofs.Merging.{our_word, covers_below}
 use Rattle.hibitset.proofs.Comparing.{PassedPast, all_pass, passed_step, passed_under}
 use Rattle.hibitset.proofs.compare.+compare_under.Goals as goal
 
-pub returns-then-not-passes-clause-no : goal.returns-then-not-passes-clause-no
-returns-then-not-passes-clause-no g t c = λ _ all.
+pub returns-then-misses-ne0-clause-no : goal.returns-then-misses-ne0-clause-no
+returns-then-misses-ne0-clause-no g t c = λ _ all.
     let ours = c.args.ours.now in
     let theirs = c.args.theirs.now in
     let layer : ℕ = c.args.layer in
@@ -21,9 +22,9 @@ returns-then-not-passes-clause-no g t c = λ _ all.
     let y-is : c.get_from_layer-word.result ≡ word_of theirs layer place = our_word (word_of theirs) layer place c.get_from_layer-word.result c.requires.layer.1 c.requires.place c.get_from_layer-word.ensures.below c.get_from_layer-word.ensures.top in
     let here : BitsPass (g.C.Comparison.allowed) (word_of ours layer place) (word_of theirs layer place) =
     all_pass LAYERS (g.C.Comparison.allowed) (g.met.C.Comparison.rises) (word_of ours) (word_of theirs) ours.stored.summed theirs.stored.summed ours.stored.shaped.words theirs.stored.shaped.words all layer place c.requires.layer.1 in
-    let passes : IsTrue c.passes.result = c.passes.ensures.1 (rw (x-is, y-is) here) in
-    let wrong : true ≡ false = sym passes ∙ c.if-not-passes.true in
-    absurd (cc)
+    let none : c.misses.result ≡ 0 = c.misses.ensures.1 (rw (x-is, y-is) here) in
+    let some = c.if-misses-ne0.true in
+    absurd (grind (arith, nat_tests, none, some))
 
 pub loop-left-preserved : goal.loop-left-preserved
 loop-left-preserved g t c =
@@ -61,8 +62,8 @@ returns-then-layer-eq1-clause-yes g t c = λ e.
     all_under (g.C.Comparison.allowed) (g.met.C.Comparison.alone) c.args.ours.now c.args.theirs.now layer place c.get_from_layer.result c.get_from_layer-word.result c.requires.layer.0 c.requires.layer.1 c.requires.place
     (our_word (word_of c.args.ours.now) layer place c.get_from_layer.result c.requires.layer.1 c.requires.place c.get_from_layer.ensures.below c.get_from_layer.ensures.top)
     (our_word (word_of c.args.theirs.now) layer place c.get_from_layer-word.result c.requires.layer.1 c.requires.place c.get_from_layer-word.ensures.below c.get_from_layer-word.ensures.top)
-    (c.passes.ensures.0 c.if-not-passes.false) 0 refl
-    (past_words (λ p. BitsPass (g.C.Comparison.allowed) (word_of c.args.ours.now 0 p) (word_of c.args.theirs.now 0 p)) layer place c.get_from_layer-word.result (omega arith) (c.compare_words.ensures.yes e))
+    (c.misses.ensures.0 c.if-misses-ne0.false) 0 refl
+    (past_words (λ p. BitsPass (g.C.Comparison.allowed) (word_of c.args.ours.now 0 p) (word_of c.args.theirs.now 0 p)) layer place c.get_from_layer-word.result (omega arith) (c.compare_lowest.ensures.yes e))
 
 pub returns-clause-yes : goal.returns-clause-yes
 returns-clause-yes g t c = λ _.
@@ -71,4 +72,4 @@ returns-clause-yes g t c = λ _.
     all_under (g.C.Comparison.allowed) (g.met.C.Comparison.alone) c.args.ours.now c.args.theirs.now layer place c.get_from_layer.result c.get_from_layer-word.result c.requires.layer.0 c.requires.layer.1 c.requires.place
     (our_word (word_of c.args.ours.now) layer place c.get_from_layer.result c.requires.layer.1 c.requires.place c.get_from_layer.ensures.below c.get_from_layer.ensures.top)
     (our_word (word_of c.args.theirs.now) layer place c.get_from_layer-word.result c.requires.layer.1 c.requires.place c.get_from_layer-word.ensures.below c.get_from_layer-word.ensures.top)
-    (c.passes.ensures.0 c.if-not-passes.false) c.loop-left.left c.loop-left-test.false c.loop-left.invariant
+    (c.misses.ensures.0 c.if-misses-ne0.false) c.loop-left.left c.loop-left-test.false c.loop-left.invariant

@@ -6,6 +6,9 @@ use Rattle.hibitset.proofs.set.BitSet.add.Goals as goal
 pub returns-in_err-extend-clause-refused : goal.returns-in_err-extend-clause-refused
 returns-in_err-extend-clause-refused c = OnErr-always c.from_residual.result (λ i. holds_same (word_of c.args.self.now) (word_of c.extend.new.self) i c.extend.ensures.same)
 
+pub returns-clause-was : goal.returns-clause-was
+returns-clause-was c = c.put.ensures.was ∙ holds_same (word_of c.args.self.now) (word_of c.extend.new.self) c.args.id c.extend.ensures.same
+
 pub returns-clause-added : goal.returns-clause-added
 returns-clause-added c = λ i.
     c.put.ensures.put i

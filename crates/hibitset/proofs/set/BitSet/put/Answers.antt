@@ -1,14 +1,39 @@
-use Rattle.std.proofs.Common.{◌≡◌, ◌/◌, ◌%◌, get_or, ap, ◌∙◌}
+use Rattle.std.proofs.Common.{◌≡◌, ◌/◌, ◌%◌, ◌==◌, get_or, refl, ap, sym, ◌∙◌, arith, inl, inr}
 use Rattle.std.specs.Int.{bit_at}
-use Rattle.hibitset.specs.BitSet.{word_of}
-use Rattle.hibitset.proofs.Holding.{holds_put}
+use Rattle.hibitset.specs.BitSet.{has, word_of}
+use Rattle.hibitset.proofs.Mending.{same_or_not, eq_other}
+use Rattle.hibitset.proofs.Holding.{bit_test, eq_same, holds_put, turned}
 use Rattle.hibitset.proofs.Shapes.{get_or_any}
 use Rattle.hibitset.proofs.set.BitSet.put.Goals as goal
+
+pub put_word-requires-clause-before : goal.put_word-requires-clause-before
+put_word-requires-clause-before c =
+    let self = c.args.self.now in
+    c.index-before.ensures ∙ get_or_any self.layer0.items (c.args.id / 64) c.index-before.result.now 0 c.requires
+
+pub returns-then-word-before-clause-was : goal.returns-then-word-before-clause-was
+returns-then-word-before-clause-was c =
+    let self = c.args.self.now in
+    let before : c.index-before.result.now ≡ get_or self.layer0.items (c.args.id / 64) 0 = c.index-before.ensures ∙ get_or_any self.layer0.items (c.args.id / 64) c.index-before.result.now 0 c.requires in
+    sym (bit_test c.args.stands) ∙ ap (λ x. x == 1) (sym c.with_bit-word.ensures.here ∙ ap (λ v. bit_at v (c.args.id % 64)) (c.if-word-before.true ∙ before))
+
+pub returns-then-word-before-clause-put : goal.returns-then-word-before-clause-put
+returns-then-word-before-clause-put c = λ i. elim (same_or_not i c.args.id) [
+  | inl e ↦ rw (e, eq_same c.args.id c.args.id refl) (sym (returns-then-word-before-clause-was c))
+  | inr other ↦ rw (eq_other i c.args.id other) refl
+]
+
+pub returns-clause-was : goal.returns-clause-was
+returns-clause-was c =
+    let self = c.args.self.now in
+    let before : c.index-before.result.now ≡ get_or self.layer0.items (c.args.id / 64) 0 = c.index-before.ensures ∙ get_or_any self.layer0.items (c.args.id / 64) c.index-before.result.now 0 c.requires in
+    turned c.index-before.result.now c.with_bit-word.result (c.args.id % 64) c.args.stands (rw before (self.stored.shaped.words 0 (c.args.id / 64))) (omega arith) c.if-word-before.false c.with_bit-word.ensures.same c.with_bit-word.ensures.here
+    ∙ ap (λ v. bit_at v (c.args.id % 64) == 1) before
 
 pub returns-clause-put : goal.returns-clause-put
 returns-clause-put c =
     let self = c.args.self.now in
-    let word : c.index.result.now ≡ get_or self.layer0.items (c.args.id / 64) 0 = c.index.ensures ∙ get_or_any self.layer0.items (c.args.id / 64) c.index.result.now 0 c.requires in
+    let word : c.index-before.result.now ≡ get_or self.layer0.items (c.args.id / 64) 0 = c.index-before.ensures ∙ get_or_any self.layer0.items (c.args.id / 64) c.index-before.result.now 0 c.requires in
     let put : word_of c.put_word.new.self 0 (c.args.id / 64) ≡ c.with_bit-word.result = c.put_word.ensures.here in
     holds_put (word_of self) (word_of c.put_word.new.self) c.args.id c.args.stands
     (ap (λ v. bit_at v (c.args.id % 64)) put ∙ c.with_bit-word.ensures.here)

@@ -58,16 +58,27 @@ module _ (a b c : List ℕ) (d q : ℕ) (stored : IsStored LAYERS (a ∷ b ∷ c
             put_next LAYERS 2 (a ∷ b ∷ c ∷ (d ∷ []) ∷ []) (a' ∷ b' ∷ c' ∷ (d ∷ []) ∷ []) (e ∷ []) q e third (lit< tt) refl (rw top refl) fits3 (rw top (top_others d e))
             (rw (top, bit) bit3.same) (rw (bit, puts2.here) bit3.here)
 
-pub index-requires-2 : goal.index-requires-2
-index-requires-2 c =
+pub index-before2-requires : goal.index-before2-requires
+index-before2-requires c =
     let self = c.args.self.now in
-    let room : c.args.place / 4096 < length self.layer2.items = room2 self.layer0.items self.layer1.items self.layer2.items self.layer3 c.args.place self.stored c.requires in
+    let room : c.args.place / 4096 < length self.layer2.items = room2 self.layer0.items self.layer1.items self.layer2.items self.layer3 c.args.place self.stored c.requires.place in
     search (rules, room)
 
-pub replace-requires-3 : goal.replace-requires-3
-replace-requires-3 c =
+pub replace-requires-3-clause-place : goal.replace-requires-3-clause-place
+replace-requires-3-clause-place c =
     let self = c.args.self.now in
-    room2 self.layer0.items self.layer1.items self.layer2.items self.layer3 c.args.place self.stored c.requires
+    room2 self.layer0.items self.layer1.items self.layer2.items self.layer3 c.args.place self.stored c.requires.place
+
+pub replace-requires-3-clause-before : goal.replace-requires-3-clause-before
+replace-requires-3-clause-before c =
+    let self = c.args.self.now in
+    c.index-before2.ensures ∙ get_or_any self.layer2.items (c.args.place / 4096) c.index-before2.result.now 0 (room2 self.layer0.items self.layer1.items self.layer2.items self.layer3 c.args.place self.stored c.requires.place)
+
+pub with_bit-self-requires : goal.with_bit-self-requires
+with_bit-self-requires c =
+    let self = c.args.self.now in
+    let low : c.args.place < 262144 = short self.layer0.items self.layer1.items self.layer2.items self.layer3 c.args.place self.stored c.requires.place in
+    omega (arith, low)
 
 pub invariant_of-self : goal.invariant_of-self
 invariant_of-self c =
@@ -77,7 +88,7 @@ invariant_of-self c =
     let stays = e.stays (c.if-not-replace.true) in
     record {
       stored = put_last LAYERS 0 _ _ c.args.place
-          (first self.layer0.items self.layer1.items self.layer2.items self.layer3 c.args.place self.stored c.requires c.replace.new.words.items c.args.word (omega arith) (record { long = e.length; here = e.here; others = e.others }))
+          (first self.layer0.items self.layer1.items self.layer2.items self.layer3 c.args.place self.stored c.requires.place c.replace.new.words.items c.args.word (omega arith) (record { long = e.length; here = e.here; others = e.others }))
           (λ _. rw (one, e.here) stays) self.stored.summed;
     }
 
@@ -89,8 +100,8 @@ invariant_of-self-then-not-replace-2 c =
     let stays = f.stays (c.if-not-replace-2.true) in
     record {
       stored = put_last LAYERS 1 _ _ c.args.place
-          (second self.layer0.items self.layer1.items self.layer2.items self.layer3 c.args.place self.stored c.requires c.replace.new.words.items c.args.word (omega arith) (record { long = e.length; here = e.here; others = e.others })
-          c.replace-2.new.words.items c.with_bit-word1.result (omega arith) (record { long = f.length; here = f.here; others = f.others }) c.index.result.now c.index.ensures (record { same = c.with_bit-word1.ensures.same; here = c.with_bit-word1.ensures.here }))
+          (second self.layer0.items self.layer1.items self.layer2.items self.layer3 c.args.place self.stored c.requires.place c.replace.new.words.items c.args.word (omega arith) (record { long = e.length; here = e.here; others = e.others })
+          c.replace-2.new.words.items c.with_bit-word1.result (omega arith) (record { long = f.length; here = f.here; others = f.others }) c.index-before1.result.now c.index-before1.ensures (record { same = c.with_bit-word1.ensures.same; here = c.with_bit-word1.ensures.here }))
           (λ _. rw f.here stays) self.stored.summed;
     }
 
@@ -103,9 +114,9 @@ invariant_of-self-then-not-replace-3 c =
     let stays = h.stays (c.if-not-replace-3.true) in
     record {
       stored = put_last LAYERS 2 _ _ c.args.place
-          (third self.layer0.items self.layer1.items self.layer2.items self.layer3 c.args.place self.stored c.requires c.replace.new.words.items c.args.word (omega arith) (record { long = e.length; here = e.here; others = e.others })
-          c.replace-2.new.words.items c.with_bit-word1.result (omega arith) (record { long = f.length; here = f.here; others = f.others }) c.index.result.now c.index.ensures (record { same = c.with_bit-word1.ensures.same; here = c.with_bit-word1.ensures.here })
-          c.replace-3.new.words.items c.with_bit-word2.result (omega arith) (record { long = h.length; here = h.here; others = h.others }) c.index-2.result.now c.index-2.ensures (record { same = c.with_bit-word2.ensures.same; here = c.with_bit-word2.ensures.here }))
+          (third self.layer0.items self.layer1.items self.layer2.items self.layer3 c.args.place self.stored c.requires.place c.replace.new.words.items c.args.word (omega arith) (record { long = e.length; here = e.here; others = e.others })
+          c.replace-2.new.words.items c.with_bit-word1.result (omega arith) (record { long = f.length; here = f.here; others = f.others }) c.index-before1.result.now c.index-before1.ensures (record { same = c.with_bit-word1.ensures.same; here = c.with_bit-word1.ensures.here })
+          c.replace-3.new.words.items c.with_bit-word2.result (omega arith) (record { long = h.length; here = h.here; others = h.others }) c.index-before2.result.now c.index-before2.ensures (record { same = c.with_bit-word2.ensures.same; here = c.with_bit-word2.ensures.here }))
           (λ _. rw h.here stays) self.stored.summed;
     }
 
@@ -117,9 +128,9 @@ invariant_of-self-2 c =
     let h = c.replace-3.ensures in
     record {
       stored = put_last LAYERS 3 _ _ c.args.place
-          (fourth self.layer0.items self.layer1.items self.layer2.items self.layer3 c.args.place self.stored c.requires c.replace.new.words.items c.args.word (omega arith) (record { long = e.length; here = e.here; others = e.others })
-          c.replace-2.new.words.items c.with_bit-word1.result (omega arith) (record { long = f.length; here = f.here; others = f.others }) c.index.result.now c.index.ensures (record { same = c.with_bit-word1.ensures.same; here = c.with_bit-word1.ensures.here })
-          c.replace-3.new.words.items c.with_bit-word2.result (omega arith) (record { long = h.length; here = h.here; others = h.others }) c.index-2.result.now c.index-2.ensures (record { same = c.with_bit-word2.ensures.same; here = c.with_bit-word2.ensures.here })
+          (fourth self.layer0.items self.layer1.items self.layer2.items self.layer3 c.args.place self.stored c.requires.place c.replace.new.words.items c.args.word (omega arith) (record { long = e.length; here = e.here; others = e.others })
+          c.replace-2.new.words.items c.with_bit-word1.result (omega arith) (record { long = f.length; here = f.here; others = f.others }) c.index-before1.result.now c.index-before1.ensures (record { same = c.with_bit-word1.ensures.same; here = c.with_bit-word1.ensures.here })
+          c.replace-3.new.words.items c.with_bit-word2.result (omega arith) (record { long = h.length; here = h.here; others = h.others }) c.index-before2.result.now c.index-before2.ensures (record { same = c.with_bit-word2.ensures.same; here = c.with_bit-word2.ensures.here })
           c.with_bit-self.result (omega arith) (record { same = c.with_bit-self.ensures.same; here = c.with_bit-self.ensures.here }))
           (λ more. absurd (omega arith)) self.stored.summed;
     }

@@ -4,9 +4,7 @@ use Rattle.std.proofs.lemmas.Nat.{and_le_l}
 use Rattle.std.proofs.lemmas.Nat.Bits.{bit_at_and, bit_at_not, bit_at-lt, bit_at-zero, same_from_bits_below}
 use Rattle.hibitset_base.specs.Sets.{bit_of}
 use Rattle.hibitset.specs.Comparing.{BitsPass, includes}
-use Rattle.hibitset.proofs.Holding.{eq_same}
-use Rattle.hibitset.proofs.Comparing.{same_of_test}
-use Rattle.hibitset.proofs.compare.SupersetComparison.passes.Goals as goal
+use Rattle.hibitset.proofs.compare.SupersetComparison.misses.Goals as goal
 
 -- a bit of theirs that ours lacks, by the four cases
 missing : (a b : ℕ) → a < 2 → b < 2 → (min b (1 - a) ≡ 0) ↔ (includes (a == 1) (b == 1) ≡ true)
@@ -32,7 +30,4 @@ module _ (ours theirs : ℕ) (fits_ours : ours < 2 ^ 64) (fits_theirs : theirs <
       (λ b small. bit b small ∙ ((missing (bit_at ours b) (bit_at theirs b) (bit_at-lt ours b) (bit_at-lt theirs b)).1 (pass.bits b small) ∙ sym (bit_at-zero b)))
 
 pub returns : goal.returns
-returns c = (
-  λ none. to_bits c.args.ours c.args.theirs (omega arith) (omega arith) (same_of_test _ 0 none),
-  λ pass. eq_same _ 0 (from_bits c.args.ours c.args.theirs (omega arith) (omega arith) pass),
-)
+returns c = (to_bits c.args.ours c.args.theirs (omega arith) (omega arith), from_bits c.args.ours c.args.theirs (omega arith) (omega arith))

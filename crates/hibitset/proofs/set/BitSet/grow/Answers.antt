@@ -2,7 +2,7 @@ use Rattle.std.proofs.Common.{◌≡◌, ℕ, ◌+◌, ◌/◌, ◌<◌, ◌≤�
 use Rattle.hibitset_base.specs.declared.util.TheConstants.{LAYERS}
 use Rattle.hibitset.specs.Words.{IsStored}
 use Rattle.hibitset.proofs.Shapes.{stored_longer, room_above}
-use Rattle.hibitset.proofs.set.BitSet.extend.Goals as goal
+use Rattle.hibitset.proofs.set.BitSet.grow.Goals as goal
 
 -- a layer lengthened to have a place
 record Lengthens (xs ys : List ℕ) (place : ℕ) : Type 0 where
