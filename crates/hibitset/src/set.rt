@@ -21,7 +21,8 @@ pub struct BitSet {
     ghost stored: { IsStored LAYERS (layer0.items ∷ layer1.items ∷ layer2.items ∷ (layer3 ∷ []) ∷ []) },
 }
 
-// Makes room for the word at `place`, and changes no word.
+// Makes room for the word at `place`, and changes no word. One word more is the common case, and is pushed.
+#[inline]
 fn fill_up(words: &mut Vec<usize>, place: usize) -> Result<(), AllocError>
     requires { place < 64 ^ LAYERS }
     ensures same { (p : ℕ) → get_or words.new.items p 0 ≡ get_or words.old.items p 0 }
@@ -30,7 +31,9 @@ fn fill_up(words: &mut Vec<usize>, place: usize) -> Result<(), AllocError>
     ensures covers { OnOk result (place < length words.new.items) }
     ensures room { place < length words.old.items → IsOk result }
 {
-    if words.len() <= place {
+    if words.len() == place {
+        words.push(0)?;
+    } else if words.len() < place {
         words.resize(place + 1, 0)?;
     }
     Ok(())
