@@ -39,6 +39,15 @@ fn fill_up(words: &mut Vec<usize>, place: usize) -> Result<(), AllocError>
     Ok(())
 }
 
+// A copy of the words of a layer, made as a block, with no room to spare.
+fn copy_of(words: &Vec<usize>) -> Result<Vec<usize>, AllocError>
+    ensures { IfOk result (λ copy. copy.items ≡ words.now.items) }
+{
+    let mut copy = Vec::with_capacity(*words.allocator(), words.len())?;
+    copy.extend_from_slice(words)?;
+    Ok(copy)
+}
+
 // The word with one bit set or cleared.
 #[inline]
 pub(crate) fn with_bit(word: usize, bit: usize, stands: bool) -> usize
@@ -312,9 +321,9 @@ impl Clone for BitSet {
     fn clone(&self) -> Result<BitSet, AllocError> {
         Ok(BitSet {
             layer3: self.layer3,
-            layer2: self.layer2.clone()?,
-            layer1: self.layer1.clone()?,
-            layer0: self.layer0.clone()?,
+            layer2: copy_of(&self.layer2)?,
+            layer1: copy_of(&self.layer1)?,
+            layer0: copy_of(&self.layer0)?,
         })
     }
 }

@@ -1,6 +1,9 @@
 //! Sets compared, and copied.
+ghost use Rattle.std.specs.Prelude.{◌≤◌};
+
 use crate::tests::{list, set_of};
 use crate::{BitSet, Index};
+use std::alloc::{AllocError, Global};
 use std::test::Fail;
 
 #[test]
@@ -50,5 +53,37 @@ fn a_copy_stands_alone(rt: HostRuntime) -> Result<(), Fail> {
         list(rt.alloc(), &copy)?.as_slice(),
         [1, 70, 300000].as_slice()
     );
+    Ok(())
+}
+
+// A set with a member in each of the first words.
+fn one_a_word(alloc: Global, words: Index) -> Result<BitSet, AllocError>
+    requires { words ≤ 1000 }
+{
+    let mut set = BitSet::new(alloc);
+    for word in 0..words {
+        set.add(64 * word + word % 64)?;
+    }
+    Ok(set)
+}
+
+// Blocks of 64 words are compared as a whole where both sets have all of them.
+#[test]
+fn whole_blocks(rt: HostRuntime) -> Result<(), Fail> {
+    for words in [63, 64, 65, 127, 128] {
+        let ours = one_a_word(rt.alloc(), words)?;
+        let mut theirs = ours.clone()?;
+        assert!(rt; ours == theirs && ours.contains_set(&theirs));
+        for index in [1, 64 * 62, 64 * 62 + 63] {
+            assert!(rt; !theirs.add(index)?);
+            assert!(rt; ours != theirs && theirs != ours);
+            assert!(rt; theirs.contains_set(&ours) && !ours.contains_set(&theirs));
+            assert!(rt; theirs.remove(index));
+        }
+        assert!(rt; !theirs.add(16777215)?);
+        assert!(rt; ours != theirs && theirs.contains_set(&ours));
+        assert!(rt; theirs.remove(16777215));
+        assert!(rt; ours == theirs);
+    }
     Ok(())
 }
