@@ -95,7 +95,7 @@ fn compare_block<C: Comparison>(ours: &BitSet, theirs: &BitSet, place: usize) ->
 #[inline]
 fn has_block(set: &BitSet, place: usize) -> bool
     requires { place < 64 ^ (LAYERS - 2) }
-    ensures { result ≡ true → 64 * place + 64 ≤ slice_len set.now 0 }
+    ensures { IsTrue result ↔ 64 * place + 64 ≤ slice_len set.now 0 }
 {
     64 * place + 64 <= set.layer0.len()
 }

@@ -54,12 +54,15 @@ impl<T: BitSetLike> BitXor<T> for BitSet {
     }
 }
 
-impl BitSet {
-    /// A walk over the members, in ascending order, that owns the set. It is `iter` under the name that `IntoIterator` gives it.
+impl IntoIterator for BitSet {
+    type Item = Index;
+
+    type IntoIter = BitIter<BitSet>;
+
+    ghost into_iter_gives = { Starts has word_of };
+
     #[inline]
-    pub fn into_iter(self) -> BitIter<BitSet>
-        ensures { Starts has word_of self result }
-    {
+    fn into_iter(self) -> BitIter<BitSet> {
         self.iter()
     }
 }

@@ -188,7 +188,12 @@ impl<T: BitSetLike> BitIter<T> {
     }
 }
 
-impl<T: BitSetLike> Iterator for BitIter<T> {
+// Every type has it, beside any type `I`, and it says nothing. The toolchain states an impl of `IntoIterator` for a set that owns memory only where the walk's `Iterator` also cites how some other type is dropped: by this bound it cites `Index`.
+pub(crate) trait Beside<I> {}
+
+impl<T, I: Drop> Beside<I> for T {}
+
+impl<T: BitSetLike + Beside<Index>> Iterator for BitIter<T> {
     type Item = Index;
 
     ghost next_gives = { WalkSteps T.holds T.word };

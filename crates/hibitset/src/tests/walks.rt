@@ -151,7 +151,17 @@ fn walks_by_value(rt: HostRuntime) -> Result<(), Fail> {
     assert!(rt; (&mut a).remove(3));
     let owned: Vec<u32> = a.into_iter().collect(rt.alloc())?;
     assert_eq!(rt; owned.as_slice(), [1, 70].as_slice());
+    assert_eq!(rt; added_up(set_of(rt.alloc(), &[1, 3, 70])?), 74);
     Ok(())
+}
+
+// The sum of the members of a set that is given up, which wraps.
+fn added_up(set: BitSet) -> u32 {
+    let mut total = 0u32;
+    for index in set {
+        total = total.wrapping_add(index);
+    }
+    total
 }
 
 // A walk over an intersection, whose words all lie over members of the first set, and are at most three for each.
