@@ -59,7 +59,7 @@ if [ -n "$source" ] && [ -n "$vec" ]; then
     peers="$peers --cfg bit_set --extern bit_set=$work/libbit_set.rlib"
 fi
 # shellcheck disable=SC2086
-rustc $flags --edition 2021 --crate-name bench -A unexpected_cfgs -L "$work" $peers --extern "hibitset=$work/libhibitset.rlib" \
+rustc $flags --edition 2021 --crate-name bench -A unexpected_cfgs -A unused_mut -L "$work" $peers --extern "hibitset=$work/libhibitset.rlib" \
     -l static=hibitset_bench -L "native=$work" -l static=libc_c -L "native=$kit/c" -o "$work/bench" "$here/driver/main.rs"
 
 # Large blocks stay in the heap: else each copy of a set pays for fresh pages of the system.

@@ -109,28 +109,51 @@ fn walks(bench: &mut Bench, all: &[(&Sample, f64)]) {
     }
 }
 
+/// Walks that std's methods of an iterator make.
+fn walks_by_method(bench: &mut Bench, all: &[(&Sample, f64)]) {
+    bench.part("walks by a method of the iterator (ns per item)");
+    for (sample, aim) in all {
+        let (ids, k) = (&sample.ids[..], &sample.peers);
+        let mut row = Row::new(format!("count, {}", sample.name), ids.len(), *aim, both!(walk_count, ids));
+        peer!(row, fixedbitset, "fixedbitset", || timed(|| k.fixed.ones().count() as u64));
+        peer!(row, bit_set, "bit-set", || timed(|| k.bits.iter().count() as u64));
+        bench.run(row);
+        let mut row = Row::new(format!("fold, {}", sample.name), ids.len(), *aim, both!(walk_fold, ids));
+        peer!(row, fixedbitset, "fixedbitset", || timed(|| k.fixed.ones().fold(0, |sum, index| sum + index as u64)));
+        peer!(row, bit_set, "bit-set", || timed(|| k.bits.iter().fold(0, |sum, index| sum + index as u64)));
+        bench.run(row
+            .peer("BTreeSet", || timed(|| k.tree.iter().fold(0, |sum, index| sum + *index as u64)))
+            .peer("HashSet", || timed(|| k.hash.iter().fold(0, |sum, index| sum + *index as u64))));
+        let mut row = Row::new(format!("collect, {}", sample.name), ids.len(), 0.6, both!(walk_collect, ids));
+        peer!(row, fixedbitset, "fixedbitset", || timed(|| last_of(k.fixed.ones().collect())));
+        peer!(row, bit_set, "bit-set", || timed(|| last_of(k.bits.iter().collect())));
+        bench.run(row);
+    }
+}
+
+/// The length of a list and its last item.
+#[cfg(any(fixedbitset, bit_set))]
+fn last_of(list: Vec<usize>) -> u64 {
+    (list.len() + list.last().copied().unwrap_or(0)) as u64
+}
+
 fn pair_walks(bench: &mut Bench, a: &Sample, b: &Sample, aim: f64) {
     let (ops, of) = (a.len() + b.len(), format!("{} and {}", a.name, b.name));
     let (x, y) = (&a.ids[..], &b.ids[..]);
     let (p, q) = (&a.peers, &b.peers);
-    let mut row = Row::new(format!("walk of a & b, {of}"), ops, aim, both!(walk_and, x, y));
-    peer!(row, fixedbitset, "fixedbitset", || timed(|| wide_sum(p.fixed.intersection(&q.fixed))));
-    peer!(row, bit_set, "bit-set", || timed(|| wide_sum(p.bits.intersection(&q.bits))));
-    bench.run(row
-        .peer("BTreeSet", || timed(|| sum(p.tree.intersection(&q.tree).copied())))
-        .peer("HashSet", || timed(|| sum(p.hash.intersection(&q.hash).copied()))));
-    let mut row = Row::new(format!("walk of a \\| b, {of}"), ops, aim, both!(walk_or, x, y));
-    peer!(row, fixedbitset, "fixedbitset", || timed(|| wide_sum(p.fixed.union(&q.fixed))));
-    peer!(row, bit_set, "bit-set", || timed(|| wide_sum(p.bits.union(&q.bits))));
-    bench.run(row
-        .peer("BTreeSet", || timed(|| sum(p.tree.union(&q.tree).copied())))
-        .peer("HashSet", || timed(|| sum(p.hash.union(&q.hash).copied()))));
-    let mut row = Row::new(format!("walk of a ^ b, {of}"), ops, aim, both!(walk_xor, x, y));
-    peer!(row, fixedbitset, "fixedbitset", || timed(|| wide_sum(p.fixed.symmetric_difference(&q.fixed))));
-    peer!(row, bit_set, "bit-set", || timed(|| wide_sum(p.bits.symmetric_difference(&q.bits))));
-    bench.run(row
-        .peer("BTreeSet", || timed(|| sum(p.tree.symmetric_difference(&q.tree).copied())))
-        .peer("HashSet", || timed(|| sum(p.hash.symmetric_difference(&q.hash).copied()))));
+    macro_rules! row {
+        ($name:literal, $kernel:ident, $method:ident) => {
+            let mut row = Row::new(format!("walk of {}, {of}", $name), ops, aim, both!($kernel, x, y));
+            peer!(row, fixedbitset, "fixedbitset", || timed(|| wide_sum(p.fixed.$method(&q.fixed))));
+            peer!(row, bit_set, "bit-set", || timed(|| wide_sum(p.bits.$method(&q.bits))));
+            bench.run(row
+                .peer("BTreeSet", || timed(|| sum(p.tree.$method(&q.tree).copied())))
+                .peer("HashSet", || timed(|| sum(p.hash.$method(&q.hash).copied()))));
+        };
+    }
+    row!("a & b", walk_and, intersection);
+    row!("a \\| b", walk_or, union);
+    row!("a ^ b", walk_xor, symmetric_difference);
 }
 
 /// The peers' trees and hashes make a new set, and the flat ones change a copy made before.
@@ -244,6 +267,7 @@ fn main() {
 
     adds(&mut bench, &random, &members, &absent, &ascending);
     walks(&mut bench, &[(&dense, 0.4), (&half, 0.6), (&ten, 0.6), (&one, 0.6), (&few, 0.6), (&clusters, 0.4)]);
+    walks_by_method(&mut bench, &[(&dense, 0.4), (&half, 0.6), (&ten, 0.6), (&one, 0.6)]);
     bench.part("walks of two sets (ns per member of both)");
     for (a, b, aim) in [(&half, &other_half, 0.6), (&ten, &other_ten, 0.6), (&one, &other_one, 0.6), (&few, &ten, 0.6), (&clusters, &one, 0.6)] {
         pair_walks(&mut bench, a, b, aim);
@@ -263,6 +287,7 @@ fn main() {
         (&few, &ten, [1.0; 3]),
         (&ten, &few, [1.0; 3]),
         (&clusters, &one, [1.0; 3]),
+        (&few, &clusters, [1.0; 3]),
     ] {
         assignments(&mut bench, a, b, aims);
     }

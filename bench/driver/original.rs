@@ -63,6 +63,24 @@ pub fn walk(ids: &[u32], times: usize) -> u64 {
     turns(times, || sum_of(black_box(&set).iter()))
 }
 
+pub fn walk_count(ids: &[u32], times: usize) -> u64 {
+    let set = set_of(ids);
+    turns(times, || black_box(&set).iter().count() as u64)
+}
+
+pub fn walk_fold(ids: &[u32], times: usize) -> u64 {
+    let set = set_of(ids);
+    turns(times, || black_box(&set).iter().fold(0u64, |sum, index| sum.wrapping_add(index as u64)))
+}
+
+pub fn walk_collect(ids: &[u32], times: usize) -> u64 {
+    let set = set_of(ids);
+    turns(times, || {
+        let list: Vec<u32> = black_box(&set).iter().collect();
+        list.len() as u64 + list.last().copied().unwrap_or(0) as u64
+    })
+}
+
 pub fn walk_not(ids: &[u32], times: usize) -> u64 {
     let set = set_of(ids);
     turns(times, || sum_of(BitSetNot(black_box(&set)).iter()))
@@ -83,13 +101,18 @@ pub fn walk_xor(a: &[u32], b: &[u32], times: usize) -> u64 {
     turns(times, || sum_of((black_box(&a) ^ &b).iter()))
 }
 
-/// Changes a copy in each turn, and one more copy, whose members are summed.
-fn on_copies(set: &BitSet, probe: &[u32], times: usize, change: impl Fn(&mut BitSet) -> u64) -> u64 {
+/// Changes a copy in each turn.
+fn change_copies(set: &BitSet, probe: &[u32], times: usize, change: impl Fn(&mut BitSet) -> u64) -> u64 {
     let probe = probe.first().copied().unwrap_or(0);
-    let sum = turns(times, || {
+    turns(times, || {
         let mut copy = set.clone();
         change(&mut copy).wrapping_add(copy.contains(probe) as u64)
-    });
+    })
+}
+
+/// Changes a copy in each turn, and one more copy, whose members are summed.
+fn on_copies(set: &BitSet, probe: &[u32], times: usize, change: impl Fn(&mut BitSet) -> u64) -> u64 {
+    let sum = change_copies(set, probe, times, &change);
     let mut copy = set.clone();
     change(&mut copy);
     sum.wrapping_add(sum_of((&copy).iter()))
@@ -118,12 +141,14 @@ pub fn remove(ids: &[u32], removed: &[u32], times: usize) -> u64 {
     on_copies(&set_of(ids), ids, times, |copy| removed.iter().filter(|id| copy.remove(**id)).count() as u64)
 }
 
+/// The original's `&=` leaves wrong summaries, by which a walk may miss members, so those of `a & b` are summed.
 pub fn and_assign(a: &[u32], b: &[u32], times: usize) -> u64 {
-    let other = set_of(b);
-    on_copies(&set_of(a), a, times, |copy| {
+    let (set, other) = (set_of(a), set_of(b));
+    let sum = change_copies(&set, a, times, |copy| {
         *copy &= &other;
         0
-    })
+    });
+    sum.wrapping_add(sum_of((&set & &other).iter()))
 }
 
 pub fn or_assign(a: &[u32], b: &[u32], times: usize) -> u64 {

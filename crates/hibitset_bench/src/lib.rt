@@ -46,6 +46,24 @@ pub extern "C" fn hibitset_bench_walk(alloc: Global, ids: &[u32], times: usize) 
     walk::plain(alloc, ids, times).unwrap_or(u64::MAX)
 }
 
+/// Counts the items of a walk over a set by `count`, `times` times over.
+#[unsafe(no_mangle)]
+pub extern "C" fn hibitset_bench_walk_count(alloc: Global, ids: &[u32], times: usize) -> u64 {
+    walk::count(alloc, ids, times).unwrap_or(u64::MAX)
+}
+
+/// Adds up the items of a walk over a set by `fold`, `times` times over.
+#[unsafe(no_mangle)]
+pub extern "C" fn hibitset_bench_walk_fold(alloc: Global, ids: &[u32], times: usize) -> u64 {
+    walk::fold(alloc, ids, times).unwrap_or(u64::MAX)
+}
+
+/// Collects the items of a walk over a set, `times` times over.
+#[unsafe(no_mangle)]
+pub extern "C" fn hibitset_bench_walk_collect(alloc: Global, ids: &[u32], times: usize) -> u64 {
+    walk::collect(alloc, ids, times).unwrap_or(u64::MAX)
+}
+
 /// Walks over what is not in a set, `times` times over.
 #[unsafe(no_mangle)]
 pub extern "C" fn hibitset_bench_walk_not(alloc: Global, ids: &[u32], times: usize) -> u64 {

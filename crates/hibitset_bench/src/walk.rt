@@ -1,6 +1,6 @@
 //! Walks.
 use crate::sets::{set_of, sum_of};
-use hibitset::Index;
+use hibitset::{BitSetLike, Index};
 use std::alloc::{AllocError, Global};
 
 pub(crate) fn plain(alloc: Global, ids: &[Index], times: usize) -> Result<u64, AllocError> {
@@ -8,6 +8,37 @@ pub(crate) fn plain(alloc: Global, ids: &[Index], times: usize) -> Result<u64, A
     let mut sum = 0u64;
     for _ in 0..times {
         sum = sum.wrapping_add(sum_of(&set));
+    }
+    Ok(sum)
+}
+
+pub(crate) fn count(alloc: Global, ids: &[Index], times: usize) -> Result<u64, AllocError> {
+    let set = set_of(alloc, ids)?;
+    let mut sum = 0u64;
+    for _ in 0..times {
+        sum = sum.wrapping_add((&set).iter().count() as u64);
+    }
+    Ok(sum)
+}
+
+pub(crate) fn fold(alloc: Global, ids: &[Index], times: usize) -> Result<u64, AllocError> {
+    let set = set_of(alloc, ids)?;
+    let mut sum = 0u64;
+    for _ in 0..times {
+        sum = (&set)
+            .iter()
+            .fold(sum, |sum, index| sum.wrapping_add(u64::from(index)));
+    }
+    Ok(sum)
+}
+
+pub(crate) fn collect(alloc: Global, ids: &[Index], times: usize) -> Result<u64, AllocError> {
+    let set = set_of(alloc, ids)?;
+    let mut sum = 0u64;
+    for _ in 0..times {
+        let list: Vec<Index> = (&set).iter().collect(alloc)?;
+        sum = sum.wrapping_add(list.len() as u64);
+        sum = sum.wrapping_add(u64::from(list.last().copied().unwrap_or(0)));
     }
     Ok(sum)
 }
