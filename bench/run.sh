@@ -2,7 +2,7 @@
 # run.sh ORIGINAL [REPEATS [MILLISECONDS [WORDS]]]: builds all and prints the table and the chart.
 # ORIGINAL: the folder of the original crate (src/lib.rs, or files named as src--src--lib.rs.txt).
 # REPEATS: rounds that the medians are taken of (9). MILLISECONDS: how long the work of one timing is to take (20).
-# WORDS: the rows whose names have them, alone. It needs rt and rustc, and of Debian's packages librust-fixedbitset-dev and
+# WORDS: the rows whose names have them, alone. It needs rt, rustc and objcopy, and of Debian's packages librust-fixedbitset-dev and
 # librust-bit-set-dev, where they are to be in the table, under REGISTRY.
 # README=1: also puts what it prints into README.md, in the place of the last results.
 # FLAGS: how the original, the peers and the driver are compiled. LIB: the static library, if it is not to be built.
@@ -12,7 +12,7 @@ here=$(cd "$(dirname "$0")" && pwd)
 original=$(cd "$1" && pwd)
 shift
 registry=${REGISTRY:-/usr/share/cargo/registry}
-flags=${FLAGS:--C opt-level=3 -C target-cpu=x86-64-v2}
+flags=${FLAGS:--C opt-level=3 -C target-cpu=x86-64-v2 -C llvm-args=-align-all-functions=6}
 kit=$(dirname "$(rt doc)")
 work=$here/out
 mkdir -p "$work/original"
@@ -23,7 +23,8 @@ if [ -z "$lib" ]; then
     (cd "$crate" && rt lib) >"$work/lib.log" 2>&1 || { tail -n 30 "$work/lib.log" >&2; exit 1; }
     lib=$crate/out/libhibitset_bench.a
 fi
-cp "$lib" "$work/libhibitset_bench.a"
+# Every function of every contender begins at a multiple of 64 bytes, or the place that it happens to get decides.
+objcopy --set-section-alignment '.text*=64' "$lib" "$work/libhibitset_bench.a"
 
 compile() { # NAME EDITION FILE FLAGS..: one library
     name=$1 edition=$2 file=$3

@@ -167,23 +167,23 @@ impl Bench {
             Answer::Last => (work.original)(0),
         };
         assert_eq!((work.ours)(0), (work.original)(0), "{name}: another answer than the original's");
-        let turns = turns_for(&work.original, self.wanted);
+        let turns = contenders.map(|kernel| turns_for(kernel, self.wanted));
+        let sums = [(work.ours)(1 + turns[0]), (work.original)(1 + turns[1])];
+        assert_eq!((work.ours)(1 + turns[1]), sums[1], "{name}: another answer than the original's");
         let mut times = [Vec::new(), Vec::new()];
         let mut peer_times: Vec<Vec<f64>> = peers.iter().map(|_| Vec::new()).collect();
         for round in 0..self.repeats + 1 {
-            let mut sums = [0; 2];
             for place in 0..2 {
                 let who = (round + place) % 2;
-                let (mut took, sum) = turn(contenders[who], turns);
+                let (mut took, sum) = turn(contenders[who], turns[who]);
                 if let Some(copies) = &copies {
-                    took -= turn(copies[who], turns).0;
+                    took -= turn(copies[who], turns[who]).0;
                 }
-                sums[who] = sum;
+                assert_eq!(sum, sums[who], "{name}: another answer than before");
                 if round > 0 {
                     times[who].push(took / ops);
                 }
             }
-            assert_eq!(sums[0], sums[1], "{name}: another answer than the original's");
             for ((who, run), times) in peers.iter_mut().zip(&mut peer_times) {
                 if round % 3 > 1 {
                     continue; // They are slow, and no ratio rests on them.
