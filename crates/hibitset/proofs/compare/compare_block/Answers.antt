@@ -1,4 +1,4 @@
-use Rattle.std.proofs.Common.{◌≡◌, ℕ, ◌+◌, ◌*◌, ◌<◌, ◌↔◌, get_or, ◌∙◌, arith}
+use Rattle.std.proofs.Common.{◌≡◌, ℕ, ◌+◌, ◌*◌, ◌↔◌, ◌∙◌, arith}
 use Rattle.hibitset.specs.BitSet.{word_of}
 use Rattle.hibitset.specs.Comparing.{BitsPass}
 use Rattle.hibitset.proofs.Shapes.{get_or_any}
