@@ -1,4 +1,4 @@
-use Rattle.std.proofs.Common.{◌≡◌, length, ap, arith, inl}
+use Rattle.std.proofs.Common.{length, ap, arith, inl}
 use Rattle.hibitset.specs.BitSet.{has}
 use Rattle.hibitset_base.specs.declared.util.TheConstants.{MAX_EID}
 use Rattle.hibitset_base.proofs.Members.{members-length}
