@@ -1,5 +1,6 @@
 -- Sets that take the items of an iterator.
-use Rattle.std.specs.Prelude.{◌≡◌, ℕ, ◌-◌, ◌^◌, ◌<◌, ◌≤◌, ◌==◌, ◌||◌, min, Bool, List, length, Option, Some, All}
+use Rattle.std.specs.Prelude.{◌≡◌, ℕ, ◌-◌, ◌^◌, ◌<◌, ◌≤◌, ◌==◌, ◌||◌, min, Bool, List, length, Option, Some, All, ◌++◌, codes}
+use Rattle.std.specs.Fmt.{decimal}
 use Rattle.std.specs.List.{list_any}
 use Rattle.std.specs.Iterator.{Drains, YieldsThen}
 use Rattle.hibitset_base.specs.declared.util.TheConstants.{MAX_EID}
@@ -19,6 +20,11 @@ place_after count = min count (2 ^ 64 - 1)
 abbrev pub IsRefusal : BuildError → ℕ → ℕ → Type 0
 IsRefusal (OutOfRange place index) count item = (place ≡ place_after count) × (index ≡ item) × (MAX_EID ≤ item)
 IsRefusal (Memory place) count item = (place ≡ place_after count) × (item < MAX_EID)
+
+-- what an error says
+abbrev pub text_of : BuildError → List ℕ
+text_of (OutOfRange place index) = codes "index " ++ decimal index ++ codes " at place " ++ decimal place ++ codes " is out of range"
+text_of (Memory place) = codes "no memory for the index at place " ++ decimal place
 
 -- U is what is iterated over, S its iterator and A an item, of which `number` reads the index.
 module _ {U S A : Type 0} (becomes : U → S → Type 0) (steps : S → Option A → S → Type 0) (number : A → ℕ) (iter : U) where

@@ -1,9 +1,9 @@
 //! Sets made of the items of an iterator, or extended by them.
-ghost use Rattle.std.specs.Prelude.{◌≡◌, ℕ, ◌<◌, ◌≤◌, ◌==◌, ◌||◌, Bool, false, OnOk, IfOk, IfErr};
+ghost use Rattle.std.specs.Prelude.{◌≡◌, ℕ, ◌<◌, ◌≤◌, ◌==◌, ◌||◌, Bool, false, Some, OnOk, IfOk, IfErr};
 ghost use Rattle.std.specs.Iterator.{IsFiniteIterable};
 ghost use Rattle.hibitset_base.specs.declared.util.TheConstants.{MAX_EID};
 ghost use Rattle.hibitset.specs.BitSet.{has, slice_len};
-ghost use Rattle.hibitset.specs.Building.{IsRefusal, Refuses, TakesAll, StopsAtRefused};
+ghost use Rattle.hibitset.specs.Building.{IsRefusal, Refuses, TakesAll, StopsAtRefused, text_of};
 
 use crate::set::BitSet;
 use hibitset_base::util::{Index, MAX_EID};
@@ -23,6 +23,8 @@ pub enum BuildError {
 }
 
 impl fmt::Display for BuildError {
+    ghost output = { λ error. Some (text_of error) };
+
     fn fmt<W: fmt::Write>(&self, f: &mut fmt::Formatter<W>) -> fmt::Result {
         match self {
             BuildError::OutOfRange { place, index } => {
