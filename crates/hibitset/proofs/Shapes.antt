@@ -99,7 +99,3 @@ put_next n k old now xs q x put there same here fits others bits bit =
 -- no summary higher up has to change
 pub put_last : (n k : ℕ) (old now : List (List ℕ)) (q : ℕ) → PutUpTo n k old now q → (k + 1 < n → (0 < word_at old k (q / 64 ^ k)) ↔ (0 < word_at now k (q / 64 ^ k))) → IsSummed n (word_at old) → IsStored n now
 put_last n k old now q put stays summed = record { shaped = put.shaped; summed = mended_last n k (word_at old) (word_at now) q put.mended stays summed }
-
--- where a layer has a word, the layer above has the word over it
-pub room_above : (n l q : ℕ) (layers : List (List ℕ)) → IsShaped n layers → l + 2 < n → q < length (get_or layers l []) → q / 64 < length (get_or layers (l + 1) [])
-room_above n l q layers shaped below room = let h = shaped.covered l below in omega arith

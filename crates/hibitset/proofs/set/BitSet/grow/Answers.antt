@@ -1,7 +1,7 @@
-use Rattle.std.proofs.Common.{◌≡◌, ℕ, ◌+◌, ◌/◌, ◌<◌, ◌≤◌, length, get_or, List, [], ◌∷◌, arith, lit<, max, IsOk}
+use Rattle.std.proofs.Common.{◌≡◌, ℕ, ◌+◌, ◌/◌, ◌<◌, ◌≤◌, length, get_or, List, [], ◌∷◌, arith, lit<, max}
 use Rattle.hibitset_base.specs.declared.util.TheConstants.{LAYERS}
 use Rattle.hibitset.specs.Words.{IsStored}
-use Rattle.hibitset.proofs.Shapes.{stored_longer, room_above}
+use Rattle.hibitset.proofs.Shapes.{stored_longer}
 use Rattle.hibitset.proofs.set.BitSet.grow.Goals as goal
 
 -- a layer lengthened to have a place
@@ -34,17 +34,6 @@ invariant_of-self c =
     record {
       stored = stored2 self.layer0.items self.layer1.items self.layer2.items self.layer3 c.args.id self.stored c.requires c.fill_up.new.words.items (record { same = e.same; keeps = e.keeps; most = rw p2 at e.length });
     }
-
-pub returns-in_err-fill_up-clause-room : goal.returns-in_err-fill_up-clause-room
-returns-in_err-fill_up-clause-room c room =
-    let self = c.args.self.now in
-    let p2 = c.offsets-p0.ensures.layer2 in
-    let layers : List (List ℕ) = self.layer0.items ∷ self.layer1.items ∷ self.layer2.items ∷ (self.layer3 ∷ []) ∷ [] in
-    let room1 = room_above LAYERS 0 (c.args.id / 64) layers self.stored.shaped (lit< tt) room in
-    let room2 : c.args.id / 262144 < length self.layer2.items = (let h = self.stored.shaped.covered 1 (lit< tt) in omega arith) in
-    let ok : IsOk c.fill_up.result = c.fill_up.ensures.room (rw p2 room2) in
-    let wrong = rw c.in_err-fill_up.was at ok in
-    absurd (cc)
 
 pub invariant_of-self-in-Break-branch-2 : goal.invariant_of-self-in-Break-branch-2
 invariant_of-self-in-Break-branch-2 c =
