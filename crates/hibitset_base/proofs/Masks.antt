@@ -1,8 +1,9 @@
 -- Taking the first bit of a mask.
-use Rattle.std.proofs.Common.{◌≡◌, ℕ, zero, suc, ◌+◌, ◌-◌, ◌*◌, ◌/◌, ◌%◌, ◌^◌, ◌<◌, refl, sym, ◌∙◌, ap, arith, ◌⊎◌, inl, inr, bit_and, bit_or, lit<}
+use Rattle.std.proofs.Common.{◌≡◌, ℕ, zero, suc, ◌+◌, ◌-◌, ◌*◌, ◌/◌, ◌%◌, ◌^◌, ◌<◌, ◌≤◌, refl, sym, ◌∙◌, ap, arith, ◌⊎◌, inl, inr, bit_and, bit_or, lit<}
 use Rattle.std.specs.Int.{bit_at, trailing_zeros, w64}
 use Rattle.std.proofs.lemmas.Nat.{and_le_r, or_block}
 use Rattle.std.specs.Int.Bits.{or_zero_r}
+use Rattle.std.proofs.Math.Nat.{eq-or-lt_of_le}
 use Rattle.std.proofs.lemmas.Nat.Bits.{bit_at-trailing_zeros, bit_at-suc, bit_at_lowest, bit_at_and}
 
 -- the mask m without its first bit, which is bit t, is r
@@ -51,6 +52,19 @@ takes_first m some fits =
       ];
       less = let le = and_le_r m (m - 1) in omega arith;
     }
+
+-- without its first bit, a word has no bit up to there, and the same ones above
+pub bits_without_first : (m : ℕ) → 0 < m → m < 2 ^ 64 → ((i : ℕ) → i ≤ trailing_zeros w64 m → bit_at (bit_and m (m - 1)) i ≡ 0) × ((i : ℕ) → trailing_zeros w64 m < i → bit_at (bit_and m (m - 1)) i ≡ bit_at m i)
+bits_without_first m some fits =
+    let taken = takes_first m some fits in
+    let h = bit_at-trailing_zeros w64 m some fits in
+    let less = bits_of_less (trailing_zeros w64 m) m some h.1 h.2 in (
+      (λ i upto. elim (eq-or-lt_of_le upto) [
+        | inl same ↦ rw same taken.gone
+        | inr lower ↦ taken.same i (let small = taken.small in omega arith) (inl lower) ∙ taken.first i lower
+      ]),
+      (λ i above. bit_at_and m (m - 1) i ∙ rw (less.1 i above) (omega arith)),
+    )
 
 -- a bit's number beside the place of its word
 pub or_is_sum : (a t : ℕ) → a % 64 ≡ 0 → t < 64 → bit_or a t ≡ a + t

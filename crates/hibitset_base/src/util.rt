@@ -1,5 +1,8 @@
 //! The layers of a set: how many there are, and where in them an index lies.
-ghost use Rattle.std.specs.Prelude.{◌≡◌, ℕ, ◌/◌, ◌%◌, ◌^◌, ◌≤◌};
+ghost use Rattle.std.specs.Prelude.{◌≡◌, ℕ, ◌/◌, ◌%◌, ◌^◌, ◌≤◌, ◌<◌, MatchOption};
+ghost use Rattle.std.specs.Int.{bit_at};
+ghost use Rattle.std.specs.Int.RustNames.{count_ones};
+ghost use Rattle.hibitset_base.specs.Halving.{IsHalvingBit};
 
 /// An index: what a set has as its members, where it is below `MAX_EID`.
 pub type Index = u32;
@@ -75,4 +78,21 @@ pub fn offsets(bit: Index) -> (usize, usize, usize)
     ensures layer2 { result.2 ≡ bit / 262144 }
 {
     (bit.offset(SHIFT1), bit.offset(SHIFT2), bit.offset(SHIFT3))
+}
+
+/// The halving bit of a word: the set bit with exactly half of the set bits, rounded down, at or above it. None where fewer than two bits are set.
+#[inline]
+pub fn average_ones(n: usize) -> Option<usize>
+    ensures { MatchOption result (count_ones n ≤ 1) (λ p. (1 < count_ones n) × IsHalvingBit n p) }
+{
+    let count = n.count_ones();
+    let half = count / 2;
+    if half == 0 {
+        return None;
+    }
+    let mut upper = n;
+    'lower: for _ in half..count {
+        upper &= upper - 1;
+    }
+    Some(upper.trailing_zeros() as usize)
 }

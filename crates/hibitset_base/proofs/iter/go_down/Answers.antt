@@ -1,9 +1,12 @@
-use Rattle.std.proofs.Common.{◌≡◌, ℕ, ◌+◌, ◌-◌, ◌^◌, ◌<◌, Bool, List, arith, subst}
+use Rattle.std.proofs.Common.{◌≡◌, ℕ, ◌+◌, ◌-◌, ◌^◌, ◌<◌, Bool, List, arith, subst, ◌∙◌, inl, inr}
 use Rattle.hibitset_base.specs.Places.{Place}
 use Rattle.hibitset_base.specs.Cursor.{left}
 use Rattle.hibitset_base.specs.declared.util.TheConstants.{LAYERS}
 use Rattle.hibitset_base.proofs.Descending.{steps_down, goes_down, fewer_after}
-use Rattle.hibitset_base.proofs.iter.descend.Goals as goal
+use Rattle.std.proofs.lemmas.Bool.{cases_lt}
+use Rattle.std.proofs.Math.Nat.{eq-or-lt_of_le}
+use Rattle.hibitset_base.specs.Cursor.{mask}
+use Rattle.hibitset_base.proofs.iter.go_down.Goals as goal
 
 pub returns-clause-goes : goal.returns-clause-goes
 returns-clause-goes g c =
@@ -13,7 +16,7 @@ returns-clause-goes g c =
     let word : ℕ → ℕ → ℕ = g.T.BitSetLike.word c.args.set.now in
     let rest : List Place = left c.take_first-position.new.self in
     let read : c.read-word.result ≡ word (layer - 1) position = c.read-word.ensures.word in
-    let steps = steps_down word (left c.args.cursor.now) (left c.put.new.self) rest layer position c.read-word.result c.requires.above c.take_first-position.ensures.taken c.put.ensures read in
+    let steps = steps_down word (left c.args.cursor.now) (left c.put.new.self) rest layer position c.read-word.result c.requires.above c.take_first-position.ensures.taken c.put.ensures.left read in
     let one : layer - 1 + 1 ≡ layer = omega arith in
     let within : position < 64 ^ (LAYERS - (layer - 1 + 1)) = rw one c.take_first-position.ensures.rest.within in
     let fits : word (layer - 1) position < 2 ^ 64 = subst (λ v. v < 2 ^ 64) read (omega arith) in
@@ -21,11 +24,23 @@ returns-clause-goes g c =
     (goes_down LAYERS holds word (g.met.T.BitSetLike.lawful c.args.set.now) (layer - 1) position c.args.reads.now.count rest (omega arith) within fits)
 
 pub returns-clause-fewer : goal.returns-clause-fewer
-returns-clause-fewer g c _ =
+returns-clause-fewer g c =
     let layer : ℕ = c.args.layer in
     let position : ℕ = c.take_first-position.result in
     let word : ℕ → ℕ → ℕ = g.T.BitSetLike.word c.args.set.now in
     let rest : List Place = left c.take_first-position.new.self in
-    let steps = steps_down word (left c.args.cursor.now) (left c.put.new.self) rest layer position c.read-word.result c.requires.above c.take_first-position.ensures.taken c.put.ensures c.read-word.ensures.word in
+    let steps = steps_down word (left c.args.cursor.now) (left c.put.new.self) rest layer position c.read-word.result c.requires.above c.take_first-position.ensures.taken c.put.ensures.left c.read-word.ensures.word in
     let fewer = fewer_after word (layer - 1) position rest in
     rw (steps.before, steps.after) (omega (arith, fewer))
+
+pub returns-clause-alone : goal.returns-clause-alone
+returns-clause-alone g c alone few l other =
+    let layer : ℕ = c.args.layer in
+    let taken : (j : ℕ) → mask c.take_first-position.new.self j ≡ 0 = λ j. elim (cases_lt j layer) [
+      | inl lower ↦ c.take_first-position.ensures.others j (omega arith) ∙ alone j (omega arith)
+      | inr from ↦ elim (eq-or-lt_of_le from) [
+        | inl e ↦ subst (λ x. mask c.take_first-position.new.self x ≡ 0) e (c.take_first-position.ensures.last few)
+        | inr above ↦ c.take_first-position.ensures.others j (omega arith) ∙ alone j (omega arith)
+      ]
+    ] in
+    c.put.ensures.others l other ∙ taken l
