@@ -12,8 +12,8 @@ pub mod set;
 
 pub use build::BuildError;
 pub use hibitset_base::{
-    BitIter, BitSetAll, BitSetAnd, BitSetLike, BitSetNot, BitSetOr, BitSetXor, DrainBitIter,
-    DrainableBitSet, Index, drain, iter, like, util, virt,
+    BitIter, BitParIter, BitProducer, BitSetAll, BitSetAnd, BitSetLike, BitSetNot, BitSetOr, BitSetXor,
+    DrainBitIter, DrainableBitSet, Index, drain, iter, like, parallel, util, virt,
 };
 pub use set::BitSet;
 

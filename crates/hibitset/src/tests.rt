@@ -5,7 +5,9 @@ mod comparisons;
 mod drains;
 mod life;
 mod made;
+mod parallel;
 mod reads;
+mod splits;
 mod strangers;
 mod walks;
 
@@ -19,6 +21,17 @@ fn set_of(alloc: Global, ids: &[Index]) -> Result<BitSet, AllocError> {
     for id in ids {
         if (*id as usize) < MAX_EID {
             set.add(*id)?;
+        }
+    }
+    Ok(set)
+}
+
+// The set of all indices below a bound.
+fn run_of(alloc: Global, end: Index) -> Result<BitSet, AllocError> {
+    let mut set = BitSet::new(alloc);
+    for id in 0..end {
+        if (id as usize) < MAX_EID {
+            set.add(id)?;
         }
     }
     Ok(set)

@@ -17,6 +17,7 @@ use std::fmt::Debug;
 
 mod driver;
 mod par_iter;
+mod size;
 
 use self::driver::fold_walk;
 pub use self::par_iter::BitParIter;

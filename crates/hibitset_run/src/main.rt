@@ -13,3 +13,6 @@ fn main(rt: HostRuntime) -> ExitCode {
     }
     ExitCode::from(ended.status())
 }
+
+#[cfg(test)]
+mod tests;

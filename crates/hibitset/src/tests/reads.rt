@@ -69,3 +69,61 @@ fn one_word_and_then_three_a_step(rt: HostRuntime) -> Result<(), Fail> {
     assert_eq!(rt; counting.reads.replace(0), 0);
     Ok(())
 }
+
+// A set that counts in the same way, with all bits in the layers above the lowest.
+#[derive(Drop)]
+struct Everywhere {
+    counting: Counting,
+}
+
+impl BitSetLike for Everywhere {
+    ghost use Rattle.hibitset.specs.BitSet.{has, word_of};
+    ghost use Rattle.hibitset.specs.Stored.{stored_lawful};
+    ghost use Rattle.hibitset.specs.Strangers.{full_word, full_lawful};
+    ghost use Rattle.hibitset_base.specs.declared.util.TheConstants.{LAYERS};
+
+    ghost holds = { λ s. has s.counting.set };
+
+    ghost word = { λ s. full_word (word_of s.counting.set) };
+
+    ghost lawful = { λ s. full_lawful LAYERS (stored_lawful LAYERS s.counting.set.stored) };
+
+    fn layer3(&self) -> usize {
+        self.counting.count();
+        !0
+    }
+
+    fn layer2(&self, _i: usize) -> usize {
+        self.counting.count();
+        !0
+    }
+
+    fn layer1(&self, _i: usize) -> usize {
+        self.counting.count();
+        !0
+    }
+
+    fn layer0(&self, i: usize) -> usize {
+        self.counting.layer0(i)
+    }
+
+    fn contains(&self, i: Index) -> bool {
+        self.counting.contains(i)
+    }
+}
+
+#[test]
+fn all_words_under_bits_that_stand_everywhere(rt: HostRuntime) -> Result<(), Fail> {
+    let everywhere = Everywhere {
+        counting: Counting {
+            set: set_of(rt.alloc(), &[0, 4096])?,
+            reads: Cell::new(0),
+        },
+    };
+    let mut walk = (&everywhere).iter();
+    assert_eq!(rt; walk.next(), Some(0));
+    assert_eq!(rt; walk.next(), Some(4096));
+    assert_eq!(rt; walk.next(), None);
+    assert_eq!(rt; everywhere.counting.reads.get(), 266_305);
+    Ok(())
+}

@@ -1,5 +1,5 @@
 //! Lawful sets that the library doesn't know.
-use crate::tests::{list, set_of};
+use crate::tests::{list, run_of, set_of};
 use crate::{BitSet, BitSetAnd, BitSetLike, BitSetNot, BitSetOr, BitSetXor, Index};
 use std::test::Fail;
 
@@ -49,10 +49,32 @@ fn a_stranger_is_walked(rt: HostRuntime) -> Result<(), Fail> {
     };
     assert_eq!(rt; list(rt.alloc(), &some)?.as_slice(), [0, 4096].as_slice());
     assert!(rt; !some.is_empty());
+    for layers in 1..4u8 {
+        let all = (&some)
+            .par_iter()
+            .layers_split(layers)
+            .collect(&rt, rt.alloc())?;
+        assert_eq!(rt; all.as_slice(), [0, 4096].as_slice());
+    }
     let none = Everywhere {
         set: BitSet::new(rt.alloc()),
     };
     assert!(rt; none.is_empty());
+    Ok(())
+}
+
+#[test]
+fn a_large_stranger_in_parts(rt: HostRuntime) -> Result<(), Fail> {
+    let many = Everywhere {
+        set: run_of(rt.alloc(), 524_288)?,
+    };
+    for layers in 1..4u8 {
+        let all = (&many)
+            .par_iter()
+            .layers_split(layers)
+            .collect(&rt, rt.alloc())?;
+        assert_eq!(rt; (all.len(), all.last().copied()), (524_288, Some(524_287)));
+    }
     Ok(())
 }
 

@@ -1,0 +1,125 @@
+//! Walks in parts, by several threads.
+ghost use Rattle.std.specs.Prelude.{◌≡◌, length, IfOk};
+ghost use Rattle.hibitset_base.specs.Members.{members_below};
+ghost use Rattle.hibitset_base.specs.declared.util.TheConstants.{MAX_EID};
+
+use crate::tests::{list, run_of, set_of};
+use crate::{BitParIter, BitSet, BitSetAnd, BitSetLike, Index};
+use hibitset_base::util::MAX_EID;
+use std::alloc::{AllocError, Global};
+use std::sync::atomic::{AtomicUsize, Ordering};
+use std::test::Fail;
+use std::thread::Threads;
+
+// How many members there are, counted in parts that are cut in two layers.
+fn count_members<T: BitSetLike + Send + Sync>(
+    rt: &(impl Threads + Sync),
+    alloc: Global,
+    set: &T,
+) -> Result<usize, AllocError>
+    ensures { IfOk result (λ n. n ≡ length (members_below MAX_EID (T.holds set.now))) }
+{
+    set.par_iter().layers_split(2).count(rt, alloc)
+}
+
+#[test]
+fn clusters(rt: HostRuntime) -> Result<(), Fail> {
+    let mut set = BitSet::new(rt.alloc());
+    for x in 0..8u32 {
+        for y in 0..8u32 {
+            for z in 0..8u32 {
+                set.add(12288 * x + 192 * y + 2 * z)?;
+            }
+        }
+    }
+    assert_eq!(rt; list(rt.alloc(), &set)?.len(), 512);
+    assert_eq!(rt; (&set).par_iter().count(&rt, rt.alloc())?, 512);
+    let none = BitSet::new(rt.alloc());
+    assert_eq!(rt; (&none).par_iter().count(&rt, rt.alloc())?, 0);
+    assert_eq!(rt; none.par_iter().collect(&rt, rt.alloc())?.len(), 0);
+    Ok(())
+}
+
+#[test]
+fn border_indices_in_parts(rt: HostRuntime) -> Result<(), Fail> {
+    let ids = [0, 63, 64, 4095, 4096, 262_143, 262_144, 16_777_215];
+    let set = set_of(rt.alloc(), ids.as_slice())?;
+    for layers in 1..4u8 {
+        let all = (&set)
+            .par_iter()
+            .layers_split(layers)
+            .collect(&rt, rt.alloc())?;
+        assert_eq!(rt; all.as_slice(), ids.as_slice());
+    }
+    Ok(())
+}
+
+#[test]
+fn counts_of_small_sets(rt: HostRuntime) -> Result<(), Fail> {
+    let one = set_of(rt.alloc(), &[1_048_575])?;
+    assert_eq!(rt; (&one).par_iter().count(&rt, rt.alloc())?, 1);
+    let mut odd = BitSet::new(rt.alloc());
+    let mut even = BitSet::new(rt.alloc());
+    for k in 0..50_000u32 {
+        odd.add(2 * k + 1)?;
+        even.add(2 * k)?;
+    }
+    assert_eq!(rt; count_members(&rt, rt.alloc(), &odd)?, 50_000);
+    assert_eq!(rt; count_members(&rt, rt.alloc(), &even)?, 50_000);
+    let both = BitSetAnd(&odd, &even);
+    assert_eq!(rt; count_members(&rt, rt.alloc(), &both)?, 0);
+    Ok(())
+}
+
+// The sum of the members of a set.
+fn sum_of<T: BitSetLike + Send + Sync>(
+    rt: &(impl Threads + Sync),
+    alloc: Global,
+    set: &T,
+) -> Result<u64, AllocError> {
+    set.par_iter().fold(
+        rt,
+        alloc,
+        || 0u64,
+        |sum: u64, index: Index| sum.wrapping_add(u64::from(index)),
+        |sum: u64, other: u64| sum.wrapping_add(other),
+    )
+}
+
+#[test]
+fn folds_of_ten_and_of_many(rt: HostRuntime) -> Result<(), Fail> {
+    let ten = run_of(rt.alloc(), 10)?;
+    assert_eq!(rt; sum_of(&rt, rt.alloc(), &ten)?, 45);
+    let many = run_of(rt.alloc(), 524_288)?;
+    assert_eq!(rt; sum_of(&rt, rt.alloc(), &many)?, 137_438_691_328);
+    let pieces = BitParIter::new(&many).fold(
+        &rt,
+        rt.alloc(),
+        || 1u64,
+        |pieces: u64, _index: Index| pieces,
+        |pieces: u64, other: u64| pieces.wrapping_add(other),
+    )?;
+    assert_eq!(rt; pieces, 4096);
+    Ok(())
+}
+
+#[test]
+fn each_of_many(rt: HostRuntime) -> Result<(), Fail> {
+    let many = run_of(rt.alloc(), 524_288)?;
+    for layers in 1..4u8 {
+        let walk = (&many).par_iter().layers_split(layers);
+        assert_eq!(rt; walk.count(&rt, rt.alloc())?, 524_288);
+    }
+    let all = (&many).par_iter().collect(&rt, rt.alloc())?;
+    assert_eq!(rt; all.as_slice(), list(rt.alloc(), &many)?.as_slice());
+    let visited = AtomicUsize::new(0);
+    (&many).par_iter().for_each(
+        &rt,
+        rt.alloc(),
+        |_index: Index| {
+            visited.fetch_add(1, Ordering::SeqCst);
+        },
+    )?;
+    assert_eq!(rt; visited.load(Ordering::SeqCst), 524_288);
+    Ok(())
+}

@@ -1,0 +1,2 @@
+//! What takes several crates, or two threads.
+mod meeting;
