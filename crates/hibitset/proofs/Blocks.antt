@@ -4,10 +4,10 @@ use Rattle.std.specs.Int.{bit_at}
 use Rattle.std.proofs.Math.ListN.{set}
 use Rattle.std.proofs.lemmas.List.{get_or-set_same, get_or-set_other, length-set}
 use Rattle.hibitset_base.specs.Sets.{bit_of}
-use Rattle.hibitset.specs.Words.{IsSummed, IsShaped, IsStored, word_at}
+use Rattle.hibitset_base.specs.Words.{IsSummed, IsShaped, IsStored, word_at}
 use Rattle.hibitset.specs.Merging.{Summarizes}
-use Rattle.hibitset.proofs.Mending.{same_or_not, some_bit, way_up, other_layer}
-use Rattle.hibitset.proofs.Shapes.{shaped_put, fits_put}
+use Rattle.hibitset_base.proofs.Mending.{same_or_not, some_bit, way_up, other_layer}
+use Rattle.hibitset_base.proofs.Shapes.{shaped_put, fits_put}
 
 -- Words v and w are the same but under word q of layer 1 and on the way up from it, no higher than k layers over that word, and the bits on the way up to there tell which words below them are 0.
 pub record ChangedUpTo (k : ℕ) (w v : ℕ → ℕ → ℕ) (q : ℕ) : Type 0 where

@@ -1,6 +1,4 @@
-pub mod Mending
-pub mod Shapes
-pub mod Holding
+pub mod Within
 pub mod Merging
 pub mod Blocks
 pub mod Comparing

@@ -2,7 +2,7 @@
 use Rattle.std.specs.Prelude.{ℕ, Bool, List, [], ◌∷◌, get_or, length}
 use Rattle.hibitset_base.specs.Members.{members_below}
 use Rattle.hibitset_base.specs.declared.util.TheConstants.{MAX_EID}
-use Rattle.hibitset.specs.Words.{word_at, holds_at}
+use Rattle.hibitset_base.specs.Words.{word_at, holds_at}
 use Rattle.hibitset.specs.declared.set.BitSet.{BitSet}
 
 -- the words of the layers, from the lowest up

@@ -1,5 +1,3 @@
-pub mod Words
-pub mod Stored
 pub mod BitSet
 pub mod Strangers
 pub mod Merging

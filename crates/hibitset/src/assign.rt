@@ -8,9 +8,9 @@ ghost use Rattle.hibitset_base.specs.Virtual.{differ};
 ghost use Rattle.hibitset.specs.Operators.{none_lawful};
 ghost use Rattle.hibitset_base.specs.declared.util.TheConstants.{LAYERS, MAX_EID};
 
-use crate::bits::{last_bit, take_bit};
 use crate::operator::{And, Operator, Or, Xor};
-use crate::set::{BitSet, with_bit};
+use crate::set::BitSet;
+use hibitset_base::bits::{last_bit, take_bit, with_bit};
 use hibitset_base::like::BitSetLike;
 use hibitset_base::util::{Index, LAYERS, MAX_EID};
 use std::alloc::AllocError;

@@ -8,8 +8,8 @@ ghost use Rattle.hibitset_base.specs.declared.util.TheConstants.{LAYERS, MAX_EID
 ghost use Rattle.hibitset.specs.BitSet.{has, members_of, word_of, slice_len};
 ghost use Rattle.hibitset.specs.Comparing.{BitsPass, includes, includes_rises, includes_alone, agree, agree_rises, agree_alone};
 
-use crate::bits::take_bit;
 use crate::set::BitSet;
+use hibitset_base::bits::take_bit;
 use hibitset_base::like::BitSetLike;
 use hibitset_base::util::{LAYERS, MAX_EID};
 

@@ -2,7 +2,6 @@
 #![tactic(auto)]
 
 pub mod assign;
-mod bits;
 pub mod build;
 mod compare;
 pub mod laws;
@@ -11,6 +10,7 @@ pub mod ops;
 pub mod set;
 
 pub use build::BuildError;
+pub use hibitset_atomic::{AtomicBitSet, atomic};
 pub use hibitset_base::{
     BitIter, BitParIter, BitProducer, BitSetAll, BitSetAnd, BitSetLike, BitSetNot, BitSetOr, BitSetXor,
     DrainBitIter, DrainableBitSet, Index, drain, iter, like, parallel, util, virt,

@@ -1,10 +1,10 @@
 //! The set that keeps its words.
-ghost use Rattle.std.specs.Prelude.{◌≡◌, ◌≢◌, ℕ, ◌+◌, ◌-◌, ◌*◌, ◌/◌, ◌%◌, ◌^◌, ◌<◌, ◌≤◌, ◌==◌, ◌||◌, ◌&&◌, not, if◌then◌else◌, Bool, true, false, List, [], ◌∷◌, get_or, length, slice_index_or, ◌↔◌, OnOk, OnErr, IfOk, IsOk, max};
+ghost use Rattle.std.specs.Prelude.{◌≡◌, ◌≢◌, ℕ, ◌+◌, ◌-◌, ◌*◌, ◌/◌, ◌%◌, ◌^◌, ◌<◌, ◌≤◌, ◌==◌, ◌||◌, ◌&&◌, not, if◌then◌else◌, Bool, true, false, List, [], ◌∷◌, get_or, length, slice_index_or, OnOk, OnErr, IfOk, IsOk, max};
 ghost use Rattle.std.specs.Int.{bit_at};
-ghost use Rattle.hibitset_base.specs.Sets.{IsExact, bit_of};
-ghost use Rattle.hibitset.specs.Words.{IsStored, word_at, holds_at};
+ghost use Rattle.hibitset_base.specs.Words.{IsStored, word_at, holds_at};
 ghost use Rattle.hibitset_base.specs.declared.util.TheConstants.{LAYERS, MAX_EID};
 
+use hibitset_base::bits::{replace, with_bit};
 use hibitset_base::like::{BitSetLike, DrainableBitSet};
 use hibitset_base::util::{Index, LAYERS, MAX_EID, offsets};
 use std::alloc::{AllocError, Global};
@@ -45,34 +45,6 @@ fn copy_of(words: &Vec<usize>) -> Result<Vec<usize>, AllocError>
     let mut copy = Vec::with_capacity(*words.allocator(), words.len())?;
     copy.extend_from_slice(words)?;
     Ok(copy)
-}
-
-// The word with one bit set or cleared.
-#[inline]
-pub(crate) fn with_bit(word: usize, bit: usize, stands: bool) -> usize
-    requires { bit < 64 }
-    ensures same { (b : ℕ) → b < 64 → b ≢ bit → bit_at result b ≡ bit_at word b }
-    ensures here { bit_at result bit ≡ bit_of stands }
-{
-    if stands {
-        word | (1 << bit)
-    } else {
-        word & !(1 << bit)
-    }
-}
-
-// Puts a word in the place of the word `before`, and tells whether one of them is 0 and the other not.
-#[inline]
-fn replace(words: &mut Vec<usize>, place: usize, before: usize, word: usize) -> bool
-    requires place { place < length words.old.items }
-    requires before { before ≡ get_or words.old.items place 0 }
-    ensures length { length words.new.items ≡ length words.old.items }
-    ensures here { get_or words.new.items place 0 ≡ word }
-    ensures others { (p : ℕ) → p ≢ place → get_or words.new.items p 0 ≡ get_or words.old.items p 0 }
-    ensures stays { result ≡ false → (0 < get_or words.old.items place 0) ↔ (0 < word) }
-{
-    words[place] = word;
-    (before == 0) != (word == 0)
 }
 
 impl BitSet {
@@ -264,7 +236,7 @@ impl BitSet {
 
 impl BitSetLike for BitSet {
     ghost use Rattle.hibitset.specs.BitSet.{has, word_of};
-    ghost use Rattle.hibitset.specs.Stored.{stored_lawful};
+    ghost use Rattle.hibitset_base.specs.Stored.{stored_lawful};
 
     ghost holds = { has };
 

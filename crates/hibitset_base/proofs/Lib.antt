@@ -16,3 +16,6 @@ pub mod Draining
 pub mod Bounds
 pub mod Splitting
 pub mod Folding
+pub mod Mending
+pub mod Shapes
+pub mod Holding

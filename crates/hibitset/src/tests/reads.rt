@@ -19,7 +19,7 @@ impl Counting {
 
 impl BitSetLike for Counting {
     ghost use Rattle.hibitset.specs.BitSet.{has, word_of};
-    ghost use Rattle.hibitset.specs.Stored.{stored_lawful};
+    ghost use Rattle.hibitset_base.specs.Stored.{stored_lawful};
     ghost use Rattle.hibitset_base.specs.declared.util.TheConstants.{LAYERS};
 
     ghost holds = { λ s. has s.set };

@@ -6,7 +6,7 @@ use Rattle.std.proofs.lemmas.Nat.Bits.{bit_at-zero}
 use Rattle.hibitset_base.specs.declared.util.TheConstants.{LAYERS}
 use Rattle.hibitset.specs.BitSet.{has, word_of}
 use Rattle.hibitset.specs.declared.set.BitSet.{BitSet}
-use Rattle.hibitset.specs.Stored.{stored_lawful}
+use Rattle.hibitset_base.specs.Stored.{stored_lawful}
 use Rattle.hibitset.specs.Comparing.{BitsPass}
 use Rattle.hibitset.proofs.Merging.{our_word, covers_below}
 use Rattle.hibitset.proofs.Comparing.{PassedPast, all_pass, passed_step, passed_under}

@@ -1,7 +1,7 @@
 use Rattle.std.proofs.Common.{lit<}
 use Rattle.hibitset_base.specs.declared.util.TheConstants.{LAYERS}
 use Rattle.hibitset.specs.BitSet.{layers, word_of}
-use Rattle.hibitset.proofs.Holding.{end_of_words}
+use Rattle.hibitset_base.proofs.Holding.{end_of_words}
 use Rattle.hibitset.proofs.Comparing.{members_pass, words_pass, decided}
 use Rattle.hibitset.proofs.compare.compare.Goals as goal
 

@@ -1,7 +1,7 @@
 use Rattle.std.proofs.Common.{◌≡◌, ℕ, ◌+◌, ◌*◌, ◌↔◌, ◌∙◌, arith}
 use Rattle.hibitset.specs.BitSet.{word_of}
 use Rattle.hibitset.specs.Comparing.{BitsPass}
-use Rattle.hibitset.proofs.Shapes.{get_or_any}
+use Rattle.hibitset_base.proofs.Shapes.{get_or_any}
 use Rattle.hibitset.proofs.Comparing.{unmissed_step}
 use Rattle.hibitset.proofs.compare.compare_block.Goals as goal
 

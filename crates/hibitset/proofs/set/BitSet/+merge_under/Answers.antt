@@ -3,7 +3,7 @@ use Rattle.std.proofs.Math.Nat.{pow-suc}
 use Rattle.hibitset_base.specs.declared.util.TheConstants.{LAYERS}
 use Rattle.hibitset.specs.BitSet.{word_of, has}
 use Rattle.hibitset.specs.Merging.{Covers}
-use Rattle.hibitset.specs.Stored.{stored_lawful}
+use Rattle.hibitset_base.specs.Stored.{stored_lawful}
 use Rattle.hibitset.proofs.Merging.{past_step, under_after, bit_above, our_word, covers_below}
 use Rattle.hibitset.proofs.set.BitSet.+merge_under.Goals as goal
 

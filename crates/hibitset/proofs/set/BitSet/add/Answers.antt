@@ -1,6 +1,6 @@
 use Rattle.std.proofs.Common.{◌==◌, cond, true, ap, ◌∙◌}
 use Rattle.hibitset.specs.BitSet.{has, word_of}
-use Rattle.hibitset.proofs.Holding.{holds_same, put_in, OnErr-always}
+use Rattle.hibitset_base.proofs.Holding.{holds_same, put_in, OnErr-always}
 use Rattle.hibitset.proofs.set.BitSet.add.Goals as goal
 
 pub returns-in_err-extend-clause-refused : goal.returns-in_err-extend-clause-refused

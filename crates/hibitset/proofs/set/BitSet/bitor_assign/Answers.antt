@@ -1,6 +1,6 @@
 use Rattle.std.proofs.Common.{◌||◌, ap, ◌∙◌}
 use Rattle.hibitset.specs.BitSet.{word_of}
-use Rattle.hibitset.proofs.Holding.{holds_same, OnErr-always}
+use Rattle.hibitset_base.proofs.Holding.{holds_same, OnErr-always}
 use Rattle.hibitset.proofs.set.BitSet.bitor_assign.Goals as goal
 
 pub returns-in_err-make_room-clause-refused : goal.returns-in_err-make_room-clause-refused

@@ -1,7 +1,7 @@
 use Rattle.std.proofs.Common.{◌≡◌, ℕ, ◌+◌, ◌/◌, ◌<◌, ◌≤◌, length, get_or, List, [], ◌∷◌, arith, lit<, max}
 use Rattle.hibitset_base.specs.declared.util.TheConstants.{LAYERS}
-use Rattle.hibitset.specs.Words.{IsStored}
-use Rattle.hibitset.proofs.Shapes.{stored_longer}
+use Rattle.hibitset_base.specs.Words.{IsStored}
+use Rattle.hibitset_base.proofs.Shapes.{stored_longer}
 use Rattle.hibitset.proofs.set.BitSet.grow.Goals as goal
 
 -- a layer lengthened to have a place

@@ -4,9 +4,9 @@ use Rattle.std.proofs.Math.ListN.{set}
 use Rattle.std.proofs.lemmas.List.{length-set, get_or-set_same, get_or-set_other, get_or_past}
 use Rattle.hibitset_base.specs.Sets.{bit_of}
 use Rattle.hibitset_base.specs.declared.util.TheConstants.{LAYERS}
-use Rattle.hibitset.specs.Words.{IsStored}
+use Rattle.hibitset_base.specs.Words.{IsStored}
 use Rattle.hibitset.specs.Merging.{Summarizes, MergedUnder, AreWords}
-use Rattle.hibitset.proofs.Shapes.{get_or_any}
+use Rattle.hibitset_base.proofs.Shapes.{get_or_any}
 use Rattle.hibitset.proofs.Merging.{block_merged}
 use Rattle.hibitset.proofs.Blocks.{BlockPutUpTo, block_first, block_next, block_last}
 use Rattle.hibitset.proofs.set.BitSet.merge_block.Goals as goal

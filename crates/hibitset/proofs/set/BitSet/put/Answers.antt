@@ -1,9 +1,9 @@
 use Rattle.std.proofs.Common.{◌≡◌, ◌/◌, ◌%◌, ◌==◌, get_or, refl, ap, sym, ◌∙◌, arith, inl, inr}
 use Rattle.std.specs.Int.{bit_at}
 use Rattle.hibitset.specs.BitSet.{word_of}
-use Rattle.hibitset.proofs.Mending.{same_or_not, eq_other}
-use Rattle.hibitset.proofs.Holding.{bit_test, eq_same, holds_put, turned}
-use Rattle.hibitset.proofs.Shapes.{get_or_any}
+use Rattle.hibitset_base.proofs.Mending.{same_or_not, eq_other}
+use Rattle.hibitset_base.proofs.Holding.{bit_test, eq_same, holds_put, turned}
+use Rattle.hibitset_base.proofs.Shapes.{get_or_any}
 use Rattle.hibitset.proofs.set.BitSet.put.Goals as goal
 
 pub put_word-requires-clause-before : goal.put_word-requires-clause-before

@@ -2,8 +2,8 @@ use Rattle.std.proofs.Common.{rules, ◌≡◌, ◌≢◌, ℕ, zero, suc, ◌/�
 use Rattle.std.specs.Int.{bit_at}
 use Rattle.hibitset_base.specs.Sets.{bit_of}
 use Rattle.hibitset_base.specs.declared.util.TheConstants.{LAYERS}
-use Rattle.hibitset.specs.Words.{IsStored}
-use Rattle.hibitset.proofs.Shapes.{get_or_any, PutUpTo, put_first, put_next, put_last}
+use Rattle.hibitset_base.specs.Words.{IsStored}
+use Rattle.hibitset_base.proofs.Shapes.{get_or_any, PutUpTo, put_first, put_next, put_last}
 use Rattle.hibitset.proofs.set.BitSet.put_word.Goals as goal
 
 -- a word put into a layer, whose other words stay

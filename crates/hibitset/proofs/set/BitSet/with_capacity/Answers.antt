@@ -1,6 +1,6 @@
 use Rattle.std.proofs.Common.{◌∙◌, ap}
 use Rattle.hibitset.specs.BitSet.{has, word_of}
-use Rattle.hibitset.proofs.Holding.{holds_same}
+use Rattle.hibitset_base.proofs.Holding.{holds_same}
 use Rattle.hibitset.proofs.set.BitSet.with_capacity.Goals.{then-max-gt0+in_ok-extend, else-max-gt0}
 use Rattle.hibitset.proofs.set.BitSet.with_capacity.Goals as goal
 

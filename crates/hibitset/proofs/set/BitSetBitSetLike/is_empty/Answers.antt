@@ -3,7 +3,7 @@ use Rattle.std.proofs.lemmas.Bool.Decides.{nat_tests}
 use Rattle.hibitset_base.specs.declared.util.TheConstants.{LAYERS}
 use Rattle.hibitset_base.proofs.Bounds.{top_tells_empty}
 use Rattle.hibitset.specs.BitSet.{has, word_of}
-use Rattle.hibitset.specs.Stored.{stored_lawful, stored_exact}
+use Rattle.hibitset_base.specs.Stored.{stored_lawful, stored_exact}
 use Rattle.hibitset.proofs.set.BitSetBitSetLike.is_empty.Goals as goal
 
 zero_test : (x : ℕ) → (x == 0) ≡ true → x ≡ 0

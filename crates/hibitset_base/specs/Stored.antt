@@ -4,7 +4,7 @@ use Rattle.std.specs.Int.{bit_at}
 use Rattle.std.proofs.Common.{arith}
 use Rattle.std.proofs.lemmas.Nat.Bits.{bit_at-lt}
 use Rattle.hibitset_base.specs.Sets.{IsLawful, IsExact, bit_of}
-use Rattle.hibitset.specs.Words.{IsSummed, IsStored, word_at, holds_at}
+use Rattle.hibitset_base.specs.Words.{IsSummed, IsStored, word_at, holds_at}
 
 test_of : (x : ℕ) → x < 2 → x ≡ bit_of (x == 1)
 test_of zero below = refl
@@ -23,8 +23,11 @@ summed_lawful n {w} exact = record {
       (exact.summed l (p / 64) (p % 64) below (omega arith)).1 some_here;
 }
 
+pub summed_exact : (n : ℕ) {w : ℕ → ℕ → ℕ} → IsSummed n w → IsExact n w
+summed_exact n sums = record { exact = λ l p b below within small. sums.summed l p b below small }
+
 pub stored_lawful : (n : ℕ) {layers : List (List ℕ)} → IsStored n layers → IsLawful n (holds_at (word_at layers)) (word_at layers)
 stored_lawful n stored = summed_lawful n stored.summed
 
 pub stored_exact : (n : ℕ) {layers : List (List ℕ)} → IsStored n layers → IsExact n (word_at layers)
-stored_exact n stored = record { exact = λ l p b below within small. stored.summed.summed l p b below small }
+stored_exact n stored = summed_exact n stored.summed

@@ -1,16 +1,14 @@
 -- The members of a set whose words have changed.
-use Rattle.std.proofs.Common.{◌≡◌, ◌≢◌, ℕ, zero, suc, ◌-◌, ◌*◌, ◌/◌, ◌%◌, ◌^◌, ◌<◌, ◌≤◌, Bool, true, false, cond, ◌==◌, ◌||◌, ◌&&◌, not, List, [], ◌∷◌, get_or, length, refl, sym, ◌∙◌, ap, arith, lit<, inl, inr, Result, Ok, Err, OnErr}
+use Rattle.std.proofs.Common.{◌≡◌, ◌≢◌, ℕ, zero, suc, ◌+◌, ◌-◌, ◌*◌, ◌/◌, ◌%◌, ◌^◌, ◌<◌, ◌≤◌, Bool, true, false, cond, ◌==◌, ◌||◌, ◌&&◌, not, List, [], ◌∷◌, get_or, length, refl, sym, ◌∙◌, ap, arith, inl, inr, Result, Ok, Err, OnErr, ◌↔◌}
+use mathlib.Core.Bool.{beq}
 use Rattle.std.specs.Int.{bit_at}
 use Rattle.std.proofs.Math.Nat.{pow-suc}
 use Rattle.std.proofs.lemmas.Nat.Bits.{bit_at-lt, bit_at-zero, same_from_bits_below}
 use Rattle.std.proofs.lemmas.Bool.{cases_lt}
 use Rattle.std.proofs.lemmas.Bool.Decides.{nat_tests}
 use Rattle.hibitset_base.specs.Sets.{bit_of}
-use Rattle.hibitset_base.specs.declared.util.TheConstants.{LAYERS, MAX_EID}
-use Rattle.hibitset.specs.Words.{IsShaped, word_at, holds_at}
-use Rattle.hibitset.specs.BitSet.{layers, has}
-use Rattle.hibitset.specs.declared.set.BitSet.{BitSet}
-use Rattle.hibitset.proofs.Mending.{same_or_not, eq_other}
+use Rattle.hibitset_base.specs.Words.{IsShaped, IsSummed, word_at, holds_at}
+use Rattle.hibitset_base.proofs.Mending.{same_or_not, eq_other}
 
 pub eq_same : (a b : ℕ) → a ≡ b → (a == b) ≡ true
 eq_same a b e = grind (arith, nat_tests)
@@ -82,9 +80,6 @@ member_below n lists some shaped i holds =
     let short : length (get_or lists 0 []) ≤ 64 ^ (n - 1) = rw all at (shaped.short 0 some) in
     rw size (omega (arith, within, short))
 
-pub has_within : (set : BitSet) (i : ℕ) → has set i ≡ true → i < MAX_EID
-has_within set i holds = member_below LAYERS (layers set) (lit< tt) set.stored.shaped i holds
-
 pub OnErr-always : {A E : Type 0} {P : Type 0} (r : Result A E) → P → OnErr r P
 OnErr-always (Ok a) h = tt
 OnErr-always (Err e) h = h
@@ -102,3 +97,23 @@ turned before word bit s fits_before fits_word differ others here = by_bit s (bi
     by_bit false zero small wrong = absurd (wrong refl)
     by_bit false (suc zero) small wrong = refl
     by_bit s (suc (suc x)) small wrong = absurd (omega arith)
+
+-- one of two words is 0 exactly if the other is
+pub same_test : (x y : ℕ) → beq (x == 0) (y == 0) ≡ true → (0 < x) ↔ (0 < y)
+same_test x y h = grind (arith, nat_tests)
+
+-- words that are all 0 have no member, and exact summaries
+pub holds_none : (w : ℕ → ℕ → ℕ) → ((l p : ℕ) → w l p ≡ 0) → (i : ℕ) → holds_at w i ≡ false
+holds_none w none i = rw (none 0 (i / 64), bit_at-zero (i % 64)) refl
+
+pub summed_none : (n : ℕ) (w : ℕ → ℕ → ℕ) → ((l p : ℕ) → w l p ≡ 0) → IsSummed n w
+summed_none n w none = record {
+  summed = λ l p b below small. rw (none (l + 1) p, none l (64 * p + b), bit_at-zero b) (λ e. absurd (omega arith), λ h. absurd (omega arith));
+}
+
+-- a member has a word that is not 0
+pub some_word : (w : ℕ → ℕ → ℕ) (i : ℕ) → holds_at w i ≡ true → 0 < w 0 (i / 64)
+some_word w i holds = elim (same_or_not (w 0 (i / 64)) 0) [
+  | inl e ↦ absurd (let none : holds_at w i ≡ false = rw (e, bit_at-zero (i % 64)) refl in let wrong : true ≡ false = sym holds ∙ none in cc)
+  | inr some ↦ omega arith
+]

@@ -2,7 +2,7 @@ use Rattle.std.proofs.Common.{suc, inl, inr, arith}
 use Rattle.std.proofs.lemmas.Bool.{cases_lt}
 use Rattle.std.proofs.lemmas.Nat.{leading_top}
 use Rattle.std.proofs.lemmas.Nat.Bits.{bit_at_above}
-use Rattle.hibitset.proofs.bits.last_bit.Goals as goal
+use Rattle.hibitset_base.proofs.bits.last_bit.Goals as goal
 
 pub returns-clause-last : goal.returns-clause-last
 returns-clause-last c = λ b stands.

@@ -7,7 +7,7 @@ use Rattle.std.proofs.lemmas.Bool.{cases_lt}
 use Rattle.std.proofs.lemmas.Bool.Decides.{nat_tests}
 use Rattle.std.proofs.lemmas.List.{get_or-set_other}
 use Rattle.hibitset_base.specs.Sets.{bit_of}
-use Rattle.hibitset.specs.Words.{IsSummed, word_at}
+use Rattle.hibitset_base.specs.Words.{IsSummed, word_at}
 
 -- a number is another or not
 pub same_or_not : (a b : ℕ) → (a ≡ b) ⊎ (a ≢ b)

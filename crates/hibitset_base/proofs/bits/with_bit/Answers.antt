@@ -1,6 +1,6 @@
 use Rattle.std.proofs.Common.{w64}
 use Rattle.std.proofs.lemmas.Nat.Bits.{bit_at_set_same, bit_at_set_other, bit_at_clear_same, bit_at_clear_other}
-use Rattle.hibitset.proofs.set.with_bit.Goals as goal
+use Rattle.hibitset_base.proofs.bits.with_bit.Goals as goal
 
 pub returns-then-stands-clause-same : goal.returns-then-stands-clause-same
 returns-then-stands-clause-same c = λ b small other. bit_at_set_other w64 c.args.word c.args.bit c.requires b other

@@ -1,7 +1,7 @@
 use Rattle.std.proofs.Common.{◌≢◌, ℕ, ◌<◌, arith, ◌⊎◌, inl, inr}
 use Rattle.std.proofs.lemmas.Bool.{cases_lt}
 use Rattle.hibitset_base.proofs.Masks.{takes_first}
-use Rattle.hibitset.proofs.bits.take_bit.Goals as goal
+use Rattle.hibitset_base.proofs.bits.take_bit.Goals as goal
 
 pub returns-clause-stood : goal.returns-clause-stood
 returns-clause-stood c = (takes_first c.args.word.now c.requires (omega arith)).stood

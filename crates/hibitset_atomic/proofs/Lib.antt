@@ -1,0 +1,4 @@
+pub mod Placed
+pub mod Layered
+pub mod Resting
+pub mod Clearing

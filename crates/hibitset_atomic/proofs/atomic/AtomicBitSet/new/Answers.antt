@@ -1,0 +1,6 @@
+use Rattle.hibitset_atomic.specs.Layers.{layer_word}
+use Rattle.hibitset_base.proofs.Holding.{holds_none}
+use Rattle.hibitset_atomic.proofs.atomic.AtomicBitSet.new.Goals as goal
+
+pub returns : goal.returns
+returns c = record { empty = holds_none (layer_word c.in_ok-layers.layers) c.in_ok-layers.ensures.zero }

@@ -1,0 +1,16 @@
+use Rattle.std.proofs.Common.{◌≡◌, ℕ, ◌<◌, ◌^◌}
+use Rattle.std.specs.Int.{bit_at}
+use Rattle.hibitset_atomic.specs.Layers.{layer_word}
+use Rattle.hibitset_atomic.specs.Clearing.{IsCovered, IsClearUnder}
+use Rattle.hibitset_atomic.proofs.layers.Layers.clear.Given as goal
+
+abbrev pub invariant-loop-left : goal.invariant-loop-left
+invariant-loop-left l = record {
+  top : l.self.layer3 ≡ 0;
+  fits : l.left < 2 ^ 64;
+  covered : IsCovered (layer_word l.self);
+  clear : (q : ℕ) → (bit_at l.left q ≡ 1 → ⊥) → IsClearUnder (layer_word l.self) q;
+}
+
+abbrev pub decreases-loop-left : goal.decreases-loop-left
+decreases-loop-left l = l.left

@@ -1,0 +1,5 @@
+pub mod Placed
+pub mod Blocks
+pub mod Layers
+pub mod AtomicBitSet
+pub mod Clearing

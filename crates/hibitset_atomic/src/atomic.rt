@@ -1,0 +1,141 @@
+//! The set that can be shared, held alone.
+ghost use Rattle.std.specs.Prelude.{◌≡◌, ◌≢◌, ℕ, ◌+◌, ◌-◌, ◌*◌, ◌/◌, ◌%◌, ◌<◌, ◌≤◌, ◌==◌, ◌||◌, ◌&&◌, not, if◌then◌else◌, Bool, true, false, OnOk, OnErr, IfOk, IsOk};
+ghost use Rattle.hibitset_base.specs.Words.{IsSummed, holds_at};
+ghost use Rattle.hibitset_atomic.specs.Layers.{layer_word};
+ghost use Rattle.hibitset_base.specs.declared.util.TheConstants.{LAYERS, MAX_EID};
+
+use crate::layers::Layers;
+use hibitset_base::bits::with_bit;
+use hibitset_base::like::{BitSetLike, DrainableBitSet};
+use hibitset_base::util::{Index, MAX_EID};
+use std::alloc::{AllocError, Global};
+
+/// A set of indices below `MAX_EID`, kept as words in four layers, that can be shared between threads.
+///
+/// A bit of a layer above the lowest stands exactly over a word that is not 0, at all times.
+#[derive(Debug, Drop)]
+pub struct AtomicBitSet {
+    pub(crate) layers: Layers,
+    ghost summed: { IsSummed LAYERS (layer_word layers) },
+}
+
+impl AtomicBitSet {
+    ghost use Rattle.hibitset_atomic.specs.Blocks.{IsMade, HasRoom};
+    ghost use Rattle.hibitset_atomic.specs.AtomicBitSet.{has, word_of, HasNear};
+
+    /// The empty set.
+    pub fn new(alloc: Global) -> Result<AtomicBitSet, AllocError>
+        ensures empty { IfOk result (λ set. (i : ℕ) → has set i ≡ false) }
+    {
+        let layers = Layers::new(alloc)?;
+        Ok(AtomicBitSet { layers })
+    }
+
+    // Puts an index in or takes it out, where its block is made, and tells whether it was there.
+    #[inline]
+    fn put(&mut self, id: Index, stands: bool) -> bool
+        requires { IsMade self.old.layers.layer0 (id / 64) }
+        ensures was { result ≡ has self.old id }
+        ensures put { (i : ℕ) → has self.new i ≡ (if i == id then stands else has self.old i) }
+    {
+        let place = id as usize / 64;
+        let before = self.layers.layer0(place);
+        let word = with_bit(before, id as usize % 64, stands);
+        if word == before {
+            return stands;
+        }
+        self.layers.put_word(place, before, word);
+        !stands
+    }
+
+    /// Adds an index below `MAX_EID`, and tells whether it was there. Where memory is refused the members stay.
+    ///
+    /// It needs no memory where some member `j` has the same `j / 4096`.
+    #[inline]
+    pub fn add(&mut self, id: Index) -> Result<bool, AllocError>
+        requires { id < MAX_EID }
+        ensures was { IfOk result (λ was. was ≡ has self.old id) }
+        ensures added { OnOk result ((i : ℕ) → has self.new i ≡ (has self.old i || i == id)) }
+        ensures refused { OnErr result ((i : ℕ) → has self.new i ≡ has self.old i) }
+        ensures near { HasNear self.old id → IsOk result }
+    {
+        self.layers.make(id as usize / 64)?;
+        Ok(self.put(id, true))
+    }
+
+    /// Takes an index out, and tells whether it was there.
+    #[inline]
+    pub fn remove(&mut self, id: Index) -> bool
+        ensures was { result ≡ has self.old id }
+        ensures removed { (i : ℕ) → has self.new i ≡ (has self.old i && not (i == id)) }
+    {
+        if !self.contains(id) {
+            return false;
+        }
+        self.put(id, false)
+    }
+
+    /// Tells whether an index is there.
+    #[inline]
+    pub fn contains(&self, id: Index) -> bool
+        ensures { result ≡ has self.now id }
+    {
+        let index = id as usize;
+        self.layers.layer0(index / 64) >> (index % 64) & 1 == 1
+    }
+
+    /// Takes all members out, and keeps the memory.
+    pub fn clear(&mut self)
+        ensures { (i : ℕ) → has self.new i ≡ false }
+    {
+        self.layers.clear();
+    }
+}
+
+impl BitSetLike for AtomicBitSet {
+    ghost use Rattle.hibitset_atomic.specs.AtomicBitSet.{has, word_of};
+    ghost use Rattle.hibitset_base.specs.Stored.{summed_lawful};
+
+    ghost holds = { has };
+
+    ghost word = { word_of };
+
+    ghost lawful = { λ s. summed_lawful LAYERS s.summed };
+
+    #[inline]
+    fn is_empty(&self) -> bool {
+        self.layers.layer3 == 0
+    }
+
+    #[inline]
+    fn layer3(&self) -> usize {
+        self.layers.layer3
+    }
+
+    #[inline]
+    fn layer2(&self, i: usize) -> usize {
+        self.layers.layer2(i)
+    }
+
+    #[inline]
+    fn layer1(&self, i: usize) -> usize {
+        self.layers.layer1(i)
+    }
+
+    #[inline]
+    fn layer0(&self, i: usize) -> usize {
+        self.layers.layer0(i)
+    }
+
+    #[inline]
+    fn contains(&self, i: Index) -> bool {
+        AtomicBitSet::contains(self, i)
+    }
+}
+
+impl DrainableBitSet for AtomicBitSet {
+    #[inline]
+    fn remove(&mut self, i: Index) -> bool {
+        AtomicBitSet::remove(self, i)
+    }
+}

@@ -1,0 +1,125 @@
+//! Words of layer 0 in blocks that are made one by one.
+ghost use Rattle.std.specs.Prelude.{◌≡◌, ◌≢◌, ℕ, ◌+◌, ◌-◌, ◌*◌, ◌/◌, ◌%◌, ◌^◌, ◌<◌, ◌≤◌, get_or, length, take, ◌==◌, cond, bit_or, OnOk, OnErr, IfOk, IsOk, vec_capacity};
+ghost use Rattle.hibitset_atomic.specs.Placed.{IsPlaced};
+
+use std::alloc::{AllocError, Global};
+
+/// How many blocks there can be.
+const BLOCKS: usize = 4_096;
+
+/// 262,144 words in blocks of 64, each of which is made when it is first needed. The words of blocks that are not made are 0.
+///
+/// One vector has all blocks, so a block is a request for memory only where the vector has to grow. Its first block has no bits: there the places of blocks that are not made lie, and reading needs no test.
+#[derive(Debug, Drop)]
+pub(crate) struct Blocks {
+    pub(crate) places: Vec<u16>,
+    pub(crate) words: Vec<usize>,
+    ghost placed: { IsPlaced 4096 places.items words.items },
+}
+
+// So many words that are 0.
+pub(crate) fn zeros(alloc: Global, count: usize) -> Result<Vec<usize>, AllocError>
+    ensures length { IfOk result (λ words. length words.items ≡ count) }
+    ensures zero { IfOk result (λ words. (p : ℕ) → get_or words.items p 0 ≡ 0) }
+{
+    vec![in alloc; 0usize; count]
+}
+
+// So many places of blocks that are not made.
+fn no_places(alloc: Global, count: usize) -> Result<Vec<u16>, AllocError>
+    ensures length { IfOk result (λ places. length places.items ≡ count) }
+    ensures zero { IfOk result (λ places. (k : ℕ) → get_or places.items k 0 ≡ 0) }
+{
+    vec![in alloc; 0u16; count]
+}
+
+// Makes 64 words 0.
+fn wipe_block(words: &mut Vec<usize>, start: usize)
+    requires { start + 64 ≤ length words.old.items }
+    ensures length { length words.new.items ≡ length words.old.items }
+    ensures inside { (p : ℕ) → start ≤ p → p < start + 64 → get_or words.new.items p 0 ≡ 0 }
+    ensures before { (p : ℕ) → p < start → get_or words.new.items p 0 ≡ get_or words.old.items p 0 }
+    ensures after { (p : ℕ) → start + 64 ≤ p → get_or words.new.items p 0 ≡ get_or words.old.items p 0 }
+{
+    for i in start..start + 64 {
+        words[i] = 0;
+    }
+}
+
+impl Blocks {
+    ghost use Rattle.hibitset_atomic.specs.Blocks.{block_word, IsMade, HasRoom};
+
+    /// No block is made.
+    pub(crate) fn new(alloc: Global) -> Result<Blocks, AllocError>
+        ensures zero { IfOk result (λ blocks. (p : ℕ) → block_word blocks p ≡ 0) }
+    {
+        let places = no_places(alloc, BLOCKS)?;
+        let words = zeros(alloc, 64)?;
+        Ok(Blocks { places, words })
+    }
+
+    /// The word at a position.
+    #[inline]
+    pub(crate) fn word(&self, position: usize) -> usize
+        ensures { result ≡ block_word self.now position }
+    {
+        match self.places.get(position / 64) {
+            Some(place) => self.words[*place as usize * 64 + position % 64],
+            None => 0,
+        }
+    }
+
+    // Makes a block that is not there. It is apart from `make`, so that a call of `add` that needs no block tests one place alone.
+    #[inline(never)]
+    fn make_new(&mut self, block: usize) -> Result<(), AllocError>
+        requires block { block < 4096 }
+        requires new { get_or self.old.places.items block 0 ≡ 0 }
+        ensures same { (p : ℕ) → block_word self.new p ≡ block_word self.old p }
+        ensures made { OnOk result (0 < get_or self.new.places.items block 0) }
+        ensures others { (k : ℕ) → k ≢ block → get_or self.new.places.items k 0 ≡ get_or self.old.places.items k 0 }
+        ensures room { HasRoom self.old → IsOk result × HasRoom self.new }
+    {
+        let len = self.words.len();
+        self.words.resize(len + 64, 0)?;
+        self.places[block] = (len / 64) as u16;
+        Ok(())
+    }
+
+    /// Makes the block of a position, where it is not there, and changes no word.
+    #[inline]
+    pub(crate) fn make(&mut self, position: usize) -> Result<(), AllocError>
+        requires { position < 262144 }
+        ensures same { (p : ℕ) → block_word self.new p ≡ block_word self.old p }
+        ensures made { OnOk result (IsMade self.new position) }
+        ensures there { IsMade self.old position → IsOk result }
+        ensures room { HasRoom self.old → IsOk result × HasRoom self.new }
+    {
+        if self.places[position / 64] != 0 {
+            return Ok(());
+        }
+        self.make_new(position / 64)
+    }
+
+    /// Puts a word into a block that is made.
+    #[inline]
+    pub(crate) fn put(&mut self, position: usize, word: usize)
+        requires { IsMade self.old position }
+        ensures here { block_word self.new position ≡ word }
+        ensures others { (p : ℕ) → p ≢ position → block_word self.new p ≡ block_word self.old p }
+        ensures made { self.new.places.items ≡ self.old.places.items }
+        ensures room { vec_capacity self.new.words ≡ vec_capacity self.old.words }
+    {
+        let place = self.places[position / 64];
+        self.words[place as usize * 64 + position % 64] = word;
+    }
+
+    /// Makes the words of a block 0.
+    pub(crate) fn clear_block(&mut self, block: usize)
+        requires { block < 4096 }
+        ensures inside { (p : ℕ) → p / 64 ≡ block → block_word self.new p ≡ 0 }
+        ensures outside { (p : ℕ) → p / 64 ≢ block → block_word self.new p ≡ block_word self.old p }
+    {
+        let place = self.places[block];
+        wipe_block(&mut self.words, place as usize * 64);
+    }
+}

@@ -1,0 +1,136 @@
+//! The words of an atomic set: four layers, of which the lowest is made block by block.
+ghost use Rattle.std.specs.Prelude.{◌≡◌, ◌≢◌, ℕ, ◌+◌, ◌*◌, ◌/◌, ◌%◌, ◌^◌, ◌<◌, ◌≤◌, ◌↔◌, ◌-◌, ◌==◌, ◌&&◌, cond, bit_or, get_or, length, OnOk, OnErr, IfOk, IsOk};
+ghost use Rattle.hibitset_base.specs.Words.{IsSummed};
+ghost use Rattle.hibitset_atomic.specs.Clearing.{IsCovered, IsClearUnder, IsSameBeside};
+ghost use Rattle.hibitset_base.specs.declared.util.TheConstants.{LAYERS};
+
+use crate::blocks::{Blocks, zeros};
+use hibitset_base::bits::{replace, take_bit, with_bit};
+use std::alloc::{AllocError, Global};
+
+/// The words of an atomic set. A set with one member takes some 42 KB: 32,768 bytes for layer 1, 8,192 for the places of the blocks, and two blocks of 512.
+///
+/// It says nothing of summaries: an `AtomicBitSet` has these words with exact summaries.
+#[derive(Debug, Drop)]
+pub(crate) struct Layers {
+    pub(crate) layer3: usize,
+    pub(crate) layer2: Vec<usize>,
+    pub(crate) layer1: Vec<usize>,
+    pub(crate) layer0: Blocks,
+    ghost whole1: { length layer1.items ≡ 4096 },
+    ghost whole2: { length layer2.items ≡ 64 },
+    ghost fits: { ((p : ℕ) → get_or layer1.items p 0 < 2 ^ 64) × ((p : ℕ) → get_or layer2.items p 0 < 2 ^ 64) × (layer3 < 2 ^ 64) },
+}
+
+impl Layers {
+    ghost use Rattle.hibitset_atomic.specs.Blocks.{IsMade, HasRoom};
+    ghost use Rattle.hibitset_atomic.specs.Layers.{layer_word};
+
+    /// All words are 0.
+    pub(crate) fn new(alloc: Global) -> Result<Layers, AllocError>
+        ensures zero { IfOk result (λ layers. (l p : ℕ) → layer_word layers l p ≡ 0) }
+    {
+        let layer2 = zeros(alloc, 64)?;
+        let layer1 = zeros(alloc, 4_096)?;
+        let layer0 = Blocks::new(alloc)?;
+        Ok(Layers {
+            layer3: 0,
+            layer2,
+            layer1,
+            layer0,
+        })
+    }
+
+    // Makes the word of layer 2 at a place 0, and all words under it. It goes by the bits, and only to words that are not 0.
+    fn clear_under(&mut self, place: usize)
+        requires place { place < 64 }
+        requires covered { IsCovered (layer_word self.old) }
+        ensures inside { IsClearUnder (layer_word self.new) place }
+        ensures outside { IsSameBeside (layer_word self.old) (layer_word self.new) place }
+        ensures top { self.new.layer3 ≡ self.old.layer3 }
+    {
+        let mut left = self.layer2[place];
+        self.layer2[place] = 0;
+        while left != 0 {
+            let block = 64 * place + take_bit(&mut left);
+            self.layer1[block] = 0;
+            self.layer0.clear_block(block);
+        }
+    }
+
+    /// Makes all words 0, and takes no memory. It goes only to words that are not 0.
+    pub(crate) fn clear(&mut self)
+        requires { IsSummed LAYERS (layer_word self.old) }
+        ensures { (l p : ℕ) → layer_word self.new l p ≡ 0 }
+    {
+        let mut left = self.layer3;
+        self.layer3 = 0;
+        while left != 0 {
+            self.clear_under(take_bit(&mut left));
+        }
+    }
+
+    /// The word of layer 2 at a position.
+    #[inline]
+    pub(crate) fn layer2(&self, position: usize) -> usize
+        ensures { result ≡ layer_word self.now 2 position }
+    {
+        self.layer2.get(position).copied().unwrap_or(0)
+    }
+
+    /// The word of layer 1 at a position.
+    #[inline]
+    pub(crate) fn layer1(&self, position: usize) -> usize
+        ensures { result ≡ layer_word self.now 1 position }
+    {
+        self.layer1.get(position).copied().unwrap_or(0)
+    }
+
+    /// The word of layer 0 at a position.
+    #[inline]
+    pub(crate) fn layer0(&self, position: usize) -> usize
+        ensures { result ≡ layer_word self.now 0 position }
+    {
+        self.layer0.word(position)
+    }
+
+    /// Makes the block of a position of layer 0, where it is not there, and changes no word.
+    #[inline]
+    pub(crate) fn make(&mut self, place: usize) -> Result<(), AllocError>
+        requires { place < 262144 }
+        ensures same { (l p : ℕ) → layer_word self.new l p ≡ layer_word self.old l p }
+        ensures made { OnOk result (IsMade self.new.layer0 place) }
+        ensures there { IsMade self.old.layer0 place → IsOk result }
+        ensures room { HasRoom self.old.layer0 → IsOk result × HasRoom self.new.layer0 }
+    {
+        self.layer0.make(place)
+    }
+
+    /// Puts a word into a block of layer 0 in the place of the word `before`, and sets the summaries over it right, as far up as one turns from 0 or to 0.
+    #[inline]
+    pub(crate) fn put_word(&mut self, place: usize, before: usize, word: usize)
+        requires made { IsMade self.old.layer0 place }
+        requires before { before ≡ layer_word self.old 0 place }
+        requires summed { IsSummed LAYERS (layer_word self.old) }
+        ensures here { layer_word self.new 0 place ≡ word }
+        ensures others { (p : ℕ) → p ≢ place → layer_word self.new 0 p ≡ layer_word self.old 0 p }
+        ensures summed { IsSummed LAYERS (layer_word self.new) }
+        ensures room { HasRoom self.old.layer0 → HasRoom self.new.layer0 }
+    {
+        self.layer0.put(place, word);
+        if (before == 0) == (word == 0) {
+            return;
+        }
+        let before1 = self.layer1[place / 64];
+        let word1 = with_bit(before1, place % 64, word != 0);
+        if !replace(&mut self.layer1, place / 64, before1, word1) {
+            return;
+        }
+        let before2 = self.layer2[place / 4_096];
+        let word2 = with_bit(before2, place / 64 % 64, word1 != 0);
+        if !replace(&mut self.layer2, place / 4_096, before2, word2) {
+            return;
+        }
+        self.layer3 = with_bit(self.layer3, place / 4_096, word2 != 0);
+    }
+}

@@ -1,0 +1,111 @@
+//! A set that can be shared, held alone.
+use crate::AtomicBitSet;
+use crate::tests::list;
+use hibitset_base::util::MAX_EID;
+use hibitset_base::{BitSetAnd, BitSetLike, DrainableBitSet, Index};
+use std::alloc::{AllocError, Global};
+use std::test::Fail;
+
+// The set of so many numbers from the first on, one after each step.
+fn atomic_of(
+    alloc: Global,
+    first: Index,
+    step: Index,
+    count: u32,
+) -> Result<AtomicBitSet, AllocError> {
+    let mut set = AtomicBitSet::new(alloc)?;
+    let mut id = first;
+    for _ in 0..count {
+        if (id as usize) < MAX_EID {
+            set.add(id)?;
+        }
+        id = id.wrapping_add(step);
+    }
+    Ok(set)
+}
+
+#[test]
+fn three_fillings(rt: HostRuntime) -> Result<(), Fail> {
+    let mut set = atomic_of(rt.alloc(), 0, 1, 1000)?;
+    assert_eq!(rt;
+        (&set)
+            .iter()
+            .fold(0u64, |sum, id| sum.wrapping_add(u64::from(id))),
+        499500
+    );
+    assert_eq!(rt; list(rt.alloc(), &set)?.len(), 1000);
+    for step in [64, 1000] {
+        set.clear();
+        assert_eq!(rt; list(rt.alloc(), &set)?.len(), 0);
+        assert!(rt; set.is_empty());
+        for i in 0..1000u32 {
+            assert!(rt; !set.add(step * i)?);
+        }
+        assert_eq!(rt; list(rt.alloc(), &set)?.len(), 1000);
+    }
+    assert!(rt; !set.contains(16777216));
+    assert!(rt; !set.remove(4294967295));
+    assert_eq!(rt;
+        (set.layer2(64), set.layer1(4096), set.layer0(262144)),
+        (0, 0, 0)
+    );
+    Ok(())
+}
+
+#[test]
+fn one_of_two_blocks(rt: HostRuntime) -> Result<(), Fail> {
+    let mut set = atomic_of(rt.alloc(), 0, 4096, 2)?;
+    assert_eq!(rt; set.layer2(0), 3);
+    assert!(rt; set.remove(0));
+    assert!(rt; !set.remove(0));
+    assert_eq!(rt;
+        (set.layer3(), set.layer2(0), set.layer1(0), set.layer1(1)),
+        (1, 2, 0, 1)
+    );
+    assert_eq!(rt; (set.layer0(64), set.layer0(0)), (1, 0));
+    assert!(rt; set.contains(4096));
+    Ok(())
+}
+
+#[test]
+fn odd_and_even(rt: HostRuntime) -> Result<(), Fail> {
+    let odd = atomic_of(rt.alloc(), 1, 2, 50000)?;
+    let even = atomic_of(rt.alloc(), 0, 2, 50000)?;
+    assert_eq!(rt; list(rt.alloc(), &odd)?.len(), 50000);
+    assert_eq!(rt; list(rt.alloc(), &even)?.len(), 50000);
+    assert_eq!(rt; list(rt.alloc(), BitSetAnd(&odd, &even))?.len(), 0);
+    Ok(())
+}
+
+#[test]
+fn a_drain(rt: HostRuntime) -> Result<(), Fail> {
+    let mut set = atomic_of(rt.alloc(), 5, 4090, 3)?;
+    let drained: Vec<Index> = set.drain().collect(rt.alloc())?;
+    assert_eq!(rt; drained.as_slice(), [5, 4095, 8185].as_slice());
+    assert_eq!(rt; list(rt.alloc(), &set)?.len(), 0);
+    assert_eq!(rt; set.layer3(), 0);
+    Ok(())
+}
+
+// One request that is refused, whichever it is, leaves the members.
+#[test]
+fn refused(rt: HostRuntime) -> Result<(), Fail> {
+    let mut set = match AtomicBitSet::new(rt.alloc()) {
+        Ok(set) => set,
+        Err(_) => AtomicBitSet::new(rt.alloc())?,
+    };
+    if set.add(5).is_err() {
+        assert!(rt; set.is_empty());
+        assert!(rt; !set.add(5)?);
+    }
+    assert!(rt; !set.add(4095)?);
+    if set.add(4096).is_err() {
+        assert!(rt; !set.contains(4096) && set.contains(5) && set.contains(4095));
+        assert!(rt; !set.add(4096)?);
+    }
+    assert_eq!(rt;
+        list(rt.alloc(), &set)?.as_slice(),
+        [5, 4095, 4096].as_slice()
+    );
+    Ok(())
+}
