@@ -10,7 +10,7 @@ pub mod ops;
 pub mod set;
 
 pub use build::BuildError;
-pub use hibitset_atomic::{AtomicBitSet, atomic};
+pub use hibitset_atomic::{AtomicBitSet, Seat, SharedBitSet, atomic, shared};
 pub use hibitset_base::{
     BitIter, BitParIter, BitProducer, BitSetAll, BitSetAnd, BitSetLike, BitSetNot, BitSetOr, BitSetXor,
     DrainBitIter, DrainableBitSet, Index, drain, iter, like, parallel, util, virt,

@@ -2,3 +2,10 @@ pub mod Placed
 pub mod Layered
 pub mod Resting
 pub mod Clearing
+pub mod Lists
+pub mod OrBits
+pub mod Marks
+pub mod Views
+pub mod Keeps
+pub mod Told
+pub mod Rows

@@ -3,3 +3,7 @@ pub mod Blocks
 pub mod Layers
 pub mod AtomicBitSet
 pub mod Clearing
+pub mod Lists
+pub mod Rule
+pub mod Seats
+pub mod Row

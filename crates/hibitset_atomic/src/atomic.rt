@@ -31,6 +31,37 @@ impl AtomicBitSet {
         Ok(AtomicBitSet { layers })
     }
 
+    /// What the set takes memory from.
+    #[inline]
+    pub(crate) fn allocator(&self) -> Global {
+        *self.layers.layer1.allocator()
+    }
+
+    /// The empty set, with the room for all blocks.
+    pub(crate) fn with_room(alloc: Global) -> Result<AtomicBitSet, AllocError>
+        ensures zero { IfOk result (λ set. (l p : ℕ) → word_of set l p ≡ 0) }
+        ensures room { IfOk result (λ set. HasRoom set.layers.layer0) }
+    {
+        let mut layers = Layers::new(alloc)?;
+        layers.make_room()?;
+        Ok(AtomicBitSet { layers })
+    }
+
+    /// Puts a word into layer 0, where there is room for all blocks, and sets the summaries over it right.
+    #[inline]
+    pub(crate) fn put_word(&mut self, place: usize, word: usize)
+        requires place { place < 262144 }
+        requires room { HasRoom self.old.layers.layer0 }
+        ensures here { word_of self.new 0 place ≡ word }
+        ensures others { (p : ℕ) → p ≢ place → word_of self.new 0 p ≡ word_of self.old 0 p }
+        ensures room { HasRoom self.new.layers.layer0 }
+    {
+        if self.layers.make(place).is_ok() {
+            let before = self.layers.layer0(place);
+            self.layers.put_word(place, before, word);
+        }
+    }
+
     // Puts an index in or takes it out, where its block is made, and tells whether it was there.
     #[inline]
     fn put(&mut self, id: Index, stands: bool) -> bool

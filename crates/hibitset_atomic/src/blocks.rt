@@ -58,6 +58,14 @@ impl Blocks {
         Ok(Blocks { places, words })
     }
 
+    /// Makes the room for all blocks, and none of them.
+    pub(crate) fn make_room(&mut self) -> Result<(), AllocError>
+        ensures same { (p : ℕ) → block_word self.new p ≡ block_word self.old p }
+        ensures room { OnOk result (HasRoom self.new) }
+    {
+        self.words.reserve(64 * BLOCKS)
+    }
+
     /// The word at a position.
     #[inline]
     pub(crate) fn word(&self, position: usize) -> usize

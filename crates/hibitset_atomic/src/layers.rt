@@ -41,6 +41,14 @@ impl Layers {
         })
     }
 
+    /// Makes the room for all blocks, and changes no word.
+    pub(crate) fn make_room(&mut self) -> Result<(), AllocError>
+        ensures same { (l p : ℕ) → layer_word self.new l p ≡ layer_word self.old l p }
+        ensures room { OnOk result (HasRoom self.new.layer0) }
+    {
+        self.layer0.make_room()
+    }
+
     // Makes the word of layer 2 at a place 0, and all words under it. It goes by the bits, and only to words that are not 0.
     fn clear_under(&mut self, place: usize)
         requires place { place < 64 }

@@ -1,5 +1,7 @@
 //! Values from outside: worked rows, and each public call at least once.
 mod held;
+mod meet;
+mod shares;
 
 use hibitset_base::{BitSetLike, Index};
 use std::alloc::{AllocError, Global};

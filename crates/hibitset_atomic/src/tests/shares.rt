@@ -1,0 +1,107 @@
+//! A set that seats add to, and what it is afterwards.
+ghost use Rattle.std.specs.Prelude.{◌≡◌, ◌<◌, IfOk};
+ghost use Rattle.hibitset_atomic.specs.Seats.{Came};
+
+use crate::tests::list;
+use crate::{AtomicBitSet, Seat, SharedBitSet};
+use hibitset_base::BitSetLike;
+use std::test::Fail;
+
+// Adds each of these indices twice, and counts the answers false and then those true.
+fn add_twice(set: &SharedBitSet, seat: &mut Seat, count: u32) -> (u32, u32)
+    requires { Came set.now seat.old × (count < 16777216) }
+    ensures { Came set.now seat.new }
+{
+    let mut new = 0u32;
+    let mut there = 0u32;
+    for id in 0..count {
+        if !set.add_atomic(seat, id) {
+            new = new.wrapping_add(1);
+        }
+        if set.add_atomic(seat, id) {
+            there = there.wrapping_add(1);
+        }
+    }
+    (new, there)
+}
+
+#[test]
+fn shared_adds(rt: HostRuntime) -> Result<(), Fail> {
+    let set = AtomicBitSet::new(rt.alloc())?;
+    let Ok((set, mut seat)) = set.share() else {
+        panic!(rt; "no memory")
+    };
+    assert_eq!(rt; add_twice(&set, &mut seat, 1000), (1000, 1000));
+    assert!(rt; seat.is_whole());
+    let Ok(set) = set.settle(seat) else {
+        panic!(rt; "no memory")
+    };
+    assert_eq!(rt; list(rt.alloc(), &set)?.len(), 1000);
+    assert_eq!(rt;
+        (&set)
+            .iter()
+            .fold(0u64, |sum, id| sum.wrapping_add(u64::from(id))),
+        499500
+    );
+    assert_eq!(rt;
+        (set.layer3(), set.layer2(0), set.layer1(0), set.layer0(15)),
+        (1, 1, 65535, (1 << 40) - 1)
+    );
+    Ok(())
+}
+
+#[test]
+fn a_seat_that_is_dropped(rt: HostRuntime) -> Result<(), Fail> {
+    let mut set = AtomicBitSet::new(rt.alloc())?;
+    set.add(7)?;
+    let Ok((set, mut seat)) = set.share() else {
+        panic!(rt; "no memory")
+    };
+    assert!(rt; !set.add_atomic(&mut seat, 5));
+    let (mut a, b) = set.divide(seat);
+    let Some(mut b) = b else {
+        panic!(rt; "one part")
+    };
+    assert!(rt; !set.add_atomic(&mut b, 9));
+    assert!(rt; set.add_atomic(&mut a, 9));
+    assert!(rt;
+        set.contains(&mut b, 5) && set.contains(&mut b, 7) && !set.contains(&mut a, 16777216)
+    );
+    assert!(rt; a.weight() == 32768 && !a.is_whole());
+    let Ok(set) = set.settle(a) else {
+        panic!(rt; "no memory")
+    };
+    assert_eq!(rt; list(rt.alloc(), &set)?.as_slice(), [5, 7, 9].as_slice());
+    Ok(())
+}
+
+// One request that is refused, whichever it is, leaves what was handed over, and the call can be made again.
+#[test]
+fn refused_and_again(rt: HostRuntime) -> Result<(), Fail> {
+    let mut set = AtomicBitSet::new(rt.alloc())?;
+    set.add(70000)?;
+    let shared = match set.share() {
+        Ok(both) => Ok(both),
+        Err(set) => {
+            assert!(rt; set.contains(70000));
+            set.share()
+        }
+    };
+    let Ok((set, mut seat)) = shared else {
+        panic!(rt; "no memory")
+    };
+    assert!(rt; !set.add_atomic(&mut seat, 16777215));
+    let settled = match set.settle(seat) {
+        Ok(set) => Ok(set),
+        Err((set, seat)) => set.settle(seat),
+    };
+    let Ok(set) = settled else {
+        panic!(rt; "no memory")
+    };
+    assert_eq!(rt;
+        list(rt.alloc(), &set)?.as_slice(),
+        [70000, 16777215].as_slice()
+    );
+    assert_eq!(rt; (set.layer3(), set.layer0(262143)), (1 << 63 | 1, 1 << 63));
+    Ok(())
+}
