@@ -10,7 +10,9 @@ pub mod ops;
 pub mod set;
 
 pub use build::BuildError;
-pub use hibitset_atomic::{AtomicBitSet, Seat, SharedBitSet, atomic, shared};
+pub use hibitset_atomic::{
+    AtomicBitSet, Event, Reply, Seat, SharedBitSet, StepError, World, atomic, path, shared, steps,
+};
 pub use hibitset_base::{
     BitIter, BitParIter, BitProducer, BitSetAll, BitSetAnd, BitSetLike, BitSetNot, BitSetOr, BitSetXor,
     DrainBitIter, DrainableBitSet, Index, drain, iter, like, parallel, util, virt,

@@ -9,3 +9,17 @@ pub mod Views
 pub mod Keeps
 pub mod Told
 pub mod Rows
+pub mod Spans
+pub mod Standing
+pub mod WordReads
+pub mod Honesty
+pub mod Passers
+pub mod WalkLaws
+pub mod Stepped
+pub mod Below
+pub mod MoreMembers
+pub mod PathBits
+pub mod Taken
+pub mod Answering
+pub mod After
+pub mod Callers

@@ -7,3 +7,11 @@ pub mod Lists
 pub mod Rule
 pub mod Seats
 pub mod Row
+pub mod LayerBits
+pub mod Pasts
+pub mod Honest
+pub mod Ahead
+pub mod Kept
+pub mod Replies
+pub mod Worlds
+pub mod WorldLaws

@@ -31,6 +31,22 @@ impl AtomicBitSet {
         Ok(AtomicBitSet { layers })
     }
 
+    /// The words alone.
+    pub(crate) fn into_layers(self) -> Layers
+        ensures same { result ≡ self.layers }
+        ensures summed { IsSummed LAYERS (layer_word result) }
+    {
+        self.layers
+    }
+
+    /// The set of these words, whose summaries are exact.
+    pub(crate) fn from_layers(layers: Layers) -> AtomicBitSet
+        requires { IsSummed LAYERS (layer_word layers) }
+        ensures { result.layers ≡ layers }
+    {
+        AtomicBitSet { layers }
+    }
+
     /// What the set takes memory from.
     #[inline]
     pub(crate) fn allocator(&self) -> Global {

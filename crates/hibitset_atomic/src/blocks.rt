@@ -121,6 +121,20 @@ impl Blocks {
         self.words[place as usize * 64 + position % 64] = word;
     }
 
+    /// Sets a bit of a word, and tells the word as it was. Where memory is refused no word changes.
+    pub(crate) fn fetch_or(&mut self, position: usize, bit: u32) -> Result<usize, AllocError>
+        requires position { position < 262144 }
+        requires bit { bit < 64 }
+        ensures before { IfOk result (λ word. word ≡ block_word self.old position) }
+        ensures after { OnOk result ((p : ℕ) → block_word self.new p ≡ cond (p == position) (bit_or (block_word self.old p) (2 ^ bit)) (block_word self.old p)) }
+        ensures refused { OnErr result ((p : ℕ) → block_word self.new p ≡ block_word self.old p) }
+    {
+        self.make(position)?;
+        let before = self.word(position);
+        self.put(position, before | (1 << bit));
+        Ok(before)
+    }
+
     /// Makes the words of a block 0.
     pub(crate) fn clear_block(&mut self, block: usize)
         requires { block < 4096 }

@@ -22,6 +22,29 @@ pub(crate) struct Layers {
     ghost fits: { ((p : ℕ) → get_or layer1.items p 0 < 2 ^ 64) × ((p : ℕ) → get_or layer2.items p 0 < 2 ^ 64) × (layer3 < 2 ^ 64) },
 }
 
+// The word with one bit set.
+#[inline]
+pub(crate) fn or_bit(word: usize, bit: u32) -> usize
+    requires { bit < 64 }
+    ensures { result ≡ bit_or word (2 ^ bit) }
+{
+    word | (1 << bit)
+}
+
+// Sets a bit of a word, and tells the word as it was.
+fn or_at(words: &mut Vec<usize>, position: usize, bit: u32) -> usize
+    requires position { position < length words.old.items }
+    requires bit { bit < 64 }
+    ensures length { length words.new.items ≡ length words.old.items }
+    ensures before { result ≡ get_or words.old.items position 0 }
+    ensures fits { (p : ℕ) → get_or words.new.items p 0 < 2 ^ 64 }
+    ensures after { (p : ℕ) → get_or words.new.items p 0 ≡ cond (p == position) (bit_or (get_or words.old.items p 0) (2 ^ bit)) (get_or words.old.items p 0) }
+{
+    let before = words[position];
+    words[position] = or_bit(before, bit);
+    before
+}
+
 impl Layers {
     ghost use Rattle.hibitset_atomic.specs.Blocks.{IsMade, HasRoom};
     ghost use Rattle.hibitset_atomic.specs.Layers.{layer_word};
@@ -140,5 +163,45 @@ impl Layers {
             return;
         }
         self.layer3 = with_bit(self.layer3, place / 4_096, word2 != 0);
+    }
+
+    /// The word of a layer at a position.
+    #[inline]
+    pub(crate) fn word(&self, layer: usize, position: usize) -> usize
+        requires { layer < LAYERS }
+        ensures { result ≡ layer_word self.now layer position }
+    {
+        match layer {
+            0 => self.layer0(position),
+            1 => self.layer1(position),
+            2 => self.layer2(position),
+            _ => { if position == 0 { self.layer3 } else { 0 } }
+        }
+    }
+
+    /// Sets a bit of a word, and tells the word as it was. Nothing else changes, no summary either; where memory is refused, nothing does.
+    pub(crate) fn fetch_or(
+        &mut self,
+        layer: usize,
+        position: usize,
+        bit: u32,
+    ) -> Result<usize, AllocError>
+        requires layer { layer < LAYERS }
+        requires position { position < 64 ^ (LAYERS - 1 - layer) }
+        requires bit { bit < 64 }
+        ensures before { IfOk result (λ word. word ≡ layer_word self.old layer position) }
+        ensures after { OnOk result ((l p : ℕ) → layer_word self.new l p ≡ cond (l == layer && p == position) (bit_or (layer_word self.old l p) (2 ^ bit)) (layer_word self.old l p)) }
+        ensures refused { OnErr result ((l p : ℕ) → layer_word self.new l p ≡ layer_word self.old l p) }
+    {
+        match layer {
+            0 => self.layer0.fetch_or(position, bit),
+            1 => Ok(or_at(&mut self.layer1, position, bit)),
+            2 => Ok(or_at(&mut self.layer2, position, bit)),
+            _ => {
+                let before = self.layer3;
+                self.layer3 = or_bit(before, bit);
+                Ok(before)
+            }
+        }
     }
 }

@@ -5,9 +5,11 @@ pub mod atomic;
 mod blocks;
 mod layers;
 pub mod shared;
+pub mod steps;
 
 pub use atomic::AtomicBitSet;
 pub use shared::{Seat, SharedBitSet};
+pub use steps::{Event, Reply, StepError, World, path};
 
 #[cfg(test)]
 mod tests;

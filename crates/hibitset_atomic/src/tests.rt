@@ -2,6 +2,7 @@
 mod held;
 mod meet;
 mod shares;
+mod worlds;
 
 use hibitset_base::{BitSetLike, Index};
 use std::alloc::{AllocError, Global};

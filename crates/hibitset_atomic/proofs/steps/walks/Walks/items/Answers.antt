@@ -1,0 +1,6 @@
+use Rattle.std.proofs.Common.{ap, sym}
+use Rattle.hibitset_atomic.specs.Kept.{shown_progress, left_of}
+use Rattle.hibitset_atomic.proofs.steps.walks.Walks.items.Goals as goal
+
+pub returns-in-Some : goal.returns-in-Some
+returns-in-Some c = (record { items = c.in-Some.walk.now.items.items; left = left_of c.in-Some.walk.now }, sym (ap shown_progress c.in-Some.ensures.value), sym c.as_slice.ensures.value)
