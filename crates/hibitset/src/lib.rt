@@ -11,7 +11,8 @@ pub mod set;
 
 pub use build::BuildError;
 pub use hibitset_atomic::{
-    AtomicBitSet, Event, Reply, Seat, SharedBitSet, StepError, World, atomic, path, shared, steps,
+    AtomicBitSet, Event, Reply, Seat, SharedBitSet, SharedWalk, StepError, World, atomic, path,
+    shared, steps,
 };
 pub use hibitset_base::{
     BitIter, BitParIter, BitProducer, BitSetAll, BitSetAnd, BitSetLike, BitSetNot, BitSetOr, BitSetXor,

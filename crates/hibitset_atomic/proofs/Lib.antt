@@ -9,6 +9,10 @@ pub mod Views
 pub mod Keeps
 pub mod Told
 pub mod Rows
+pub mod Walks
+pub mod Levels
+pub mod Ahead
+pub mod SharedSteps
 pub mod Spans
 pub mod Standing
 pub mod WordReads

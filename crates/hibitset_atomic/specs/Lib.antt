@@ -7,6 +7,8 @@ pub mod Lists
 pub mod Rule
 pub mod Seats
 pub mod Row
+pub mod Levels
+pub mod SharedWalk
 pub mod LayerBits
 pub mod Pasts
 pub mod Honest

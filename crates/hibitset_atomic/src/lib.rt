@@ -8,7 +8,7 @@ pub mod shared;
 pub mod steps;
 
 pub use atomic::AtomicBitSet;
-pub use shared::{Seat, SharedBitSet};
+pub use shared::{Seat, SharedBitSet, SharedWalk};
 pub use steps::{Event, Reply, StepError, World, path};
 
 #[cfg(test)]

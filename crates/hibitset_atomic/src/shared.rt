@@ -20,8 +20,10 @@ mod parts;
 pub mod rule;
 mod steps;
 pub mod view;
+pub mod walk;
 
 pub use parts::{Seat, SharedBitSet};
+pub use walk::SharedWalk;
 
 // The word at a place of the row of all words, layer 0 first.
 fn row_word(set: &AtomicBitSet, place: usize) -> u64

@@ -1,7 +1,9 @@
 // One step each.
-ghost use Rattle.std.specs.Prelude.{◌≡◌, ℕ, ◌+◌, ◌-◌, ◌*◌, ◌/◌, ◌%◌, ◌<◌, true, false, [], ◌∷◌, length};
+ghost use Rattle.std.specs.Prelude.{◌≡◌, ℕ, ◌+◌, ◌-◌, ◌*◌, ◌/◌, ◌%◌, ◌^◌, ◌<◌, true, false, [], ◌∷◌, length};
+ghost use Rattle.std.specs.Int.{bit_at};
 ghost use Rattle.hibitset_atomic.specs.Lists.{Has};
-ghost use Rattle.hibitset_atomic.specs.Rule.{Settled, Grew, Gap, Lit, above, Looks_at};
+ghost use Rattle.hibitset_atomic.specs.Levels.{first_mark};
+ghost use Rattle.hibitset_atomic.specs.Rule.{Settled, Grew, Gap, Knows, Lit, above, Looks_at};
 
 use crate::shared::parts::{Pass, SharedBitSet};
 use crate::shared::rule::{Enters, Looks, Marks};
@@ -12,6 +14,19 @@ pub(crate) fn over(mark: u32) -> u32
     ensures { result ≡ above mark }
 {
     16777216 + mark / 64
+}
+
+// Where a layer begins in the row of all words.
+pub(crate) fn first_word(layer: usize) -> usize
+    requires { layer < 4 }
+    ensures { result ≡ first_mark layer / 64 }
+{
+    match layer {
+        0 => 0,
+        1 => 262_144,
+        2 => 266_240,
+        _ => 266_304,
+    }
 }
 
 impl SharedBitSet {
@@ -65,5 +80,20 @@ impl SharedBitSet {
     {
         let word = self.look(pass, (mark / 64) as usize);
         (word >> (mark % 64)) & 1 != 0
+    }
+
+    // The word of a layer at a position. Under a summary bit that the seat has seen it is not zero, and it has each bit over an old or known index.
+    pub(crate) fn word(&self, pass: &mut Pass, layer: usize, position: u32) -> u64
+        requires came { pass.old.table_id ≡ self.now.table.shared.table_id }
+        requires seat { 0 < length pass.old.me.0.shares }
+        requires layer { layer < 4 }
+        requires position { position < 64 ^ (3 - layer) }
+        ensures same { (pass.new.table_id ≡ pass.old.table_id) × (pass.new.id ≡ pass.old.id) × Grew pass.old.me pass.new.me × (pass.new.me.0.reports ≡ pass.old.me.0.reports) }
+        ensures some { Has pass.old.me.0.seen (first_mark (layer + 1) + position) → 0 < result }
+        ensures seen { (b : ℕ) → b < 64 → bit_at result b ≡ 1 → Has pass.new.me.0.seen (first_mark layer + (64 * position + b)) }
+        ensures known { (i : ℕ) → Knows pass.old.me.0 i → i / 64 ^ (layer + 1) ≡ position → bit_at result (i / 64 ^ layer % 64) ≡ 1 }
+        ensures old { (i : ℕ) → i < 16777216 → Lit pass.old.me.0.old i → i / 64 ^ (layer + 1) ≡ position → bit_at result (i / 64 ^ layer % 64) ≡ 1 }
+    {
+        self.look(pass, first_word(layer) + position as usize)
     }
 }

@@ -1,0 +1,9 @@
+use Rattle.std.proofs.Common.{refl}
+use Rattle.hibitset_atomic.proofs.SharedSteps.{shared_steps, nearer_end}
+use Rattle.hibitset_atomic.proofs.shared.walk.SharedWalkIterator.next.Goals as goal
+
+pub returns-clause-steps : goal.returns-clause-steps
+returns-clause-steps c = shared_steps c.args.self.now _ refl refl c.requires c.step.result c.step.ensures.end c.step.ensures.goes c.step.ensures.before
+
+pub returns-clause-goes : goal.returns-clause-goes
+returns-clause-goes c = nearer_end c.args.self.now _ c.step.result (returns-clause-steps c)

@@ -1,0 +1,115 @@
+-- What a contract sees of a walk over a shared set.
+use Rattle.std.specs.Prelude.{◌≡◌, ◌⊎◌, ℕ, ◌+◌, ◌-◌, ◌*◌, ◌/◌, ◌^◌, ◌<◌, ◌≤◌, List, [], ◌∷◌, All, Option, MatchOption, IfSome}
+use Rattle.std.specs.Borrow.{GName}
+use Rattle.hibitset_base.specs.Places.{Place}
+use Rattle.hibitset_base.specs.Cursor.{left}
+use Rattle.hibitset_base.specs.Reading.{depth}
+use Rattle.hibitset_atomic.specs.declared.shared.view.View.{View}
+use Rattle.hibitset_atomic.specs.declared.shared.parts.Seat.{Seat}
+use Rattle.hibitset_atomic.specs.declared.shared.parts.SharedBitSet.{SharedBitSet}
+use Rattle.hibitset_atomic.specs.declared.shared.walk.SharedWalk.{SharedWalk}
+use Rattle.hibitset_atomic.specs.Lists.{Has}
+use Rattle.hibitset_atomic.specs.Levels.{first_mark}
+use Rattle.hibitset_atomic.specs.Seats.{IsOld, Came, Known, weight_of, reports_of}
+
+-- ---- places among words that others write
+
+abbrev pub view_of : Seat → View
+view_of s = s.pass.me.0
+
+-- The seat has seen the bit of this place, and each bit above it. Layer 4 has one place, the root, over the word of layer 3, and no bits.
+pub record IsSeen (v : View) (place : Place) : Type 0 where
+  pub layer : place.layer ≤ 4
+  pub within : place.position < 64 ^ (4 - place.layer)
+  pub seen : (l : ℕ) → place.layer ≤ l → l < 4 → Has v.seen (first_mark l + place.position / 64 ^ (l - place.layer))
+
+-- a place that is not the root
+abbrev pub IsLow : Place → Type 0
+IsLow place = place.layer < 4
+
+-- the root can only be first
+abbrev pub RestIsLow : List Place → Type 0
+RestIsLow [] = Unit {0}
+RestIsLow (place ∷ ps) = All IsLow ps
+
+-- A walk that has made so many loads may have these places left.
+pub record MayStand (v : View) (loads : ℕ) (ps : List Place) : Type 0 where
+  pub seen : All (IsSeen v) ps
+  pub rest : RestIsLow ps
+  pub opened : 0 < loads → All IsLow ps
+  pub fresh : All IsLow ps → 0 < loads
+
+-- the index lies under one of these places
+abbrev pub IsUnder : List Place → ℕ → Type 0
+IsUnder [] i = ⊥
+IsUnder (place ∷ ps) i = (i / 64 ^ place.layer ≡ place.position) ⊎ IsUnder ps i
+
+-- the least index that may lie under these places
+abbrev pub lowest : List Place → ℕ
+lowest [] = 16777216
+lowest (place ∷ ps) = place.position * 64 ^ place.layer
+
+-- old, or known to the seat
+abbrev pub IsSure : SharedBitSet → Seat → ℕ → Type 0
+IsSure set s i = IsOld set i ⊎ Known s i
+
+-- what a load keeps of a seat
+pub record Keeps (set : SharedBitSet) (old new : Seat) : Type 0 where
+  pub came : Came set new
+  pub weight : weight_of new ≡ weight_of old
+  pub reports : reports_of new ≡ reports_of old
+  pub seen : (m : ℕ) → Has (view_of old).seen m → Has (view_of new).seen m
+
+-- A walk that had made so many loads, with the places ps left, has come to the later count and the places qs without giving an item.
+pub record Goes (set : SharedBitSet) (old new : Seat) (loads : ℕ) (ps : List Place) (later : ℕ) (qs : List Place) : Type 0 where
+  pub keeps : Keeps set old new
+  pub stands : MayStand (view_of new) later qs
+  pub due : (i : ℕ) → IsSure set old i → IsUnder ps i → IsUnder qs i
+  pub from : lowest ps ≤ lowest qs
+  pub few : later + depth qs ≤ loads + depth ps
+
+-- ---- the walk, as its users see it
+
+abbrev pub set_of : SharedWalk → SharedBitSet
+set_of walk = walk.set.now
+
+-- the walk's seat, as it is now
+abbrev pub seat_of : SharedWalk → Seat
+seat_of walk = walk.seat.now
+
+-- the ghost name of the reference to the seat
+abbrev pub lender : SharedWalk → GName
+lender walk = walk.seat.ghost_name
+
+-- how many words the walk has loaded
+abbrev pub loads_of : SharedWalk → ℕ
+loads_of walk = walk.reads.count
+
+-- no index below this one comes any more
+abbrev pub next_from : SharedWalk → ℕ
+next_from walk = lowest (left walk.cursor)
+
+-- The seat came from the walk's set, and has seen what the walk goes by.
+pub record IsReady (walk : SharedWalk) : Type 0 where
+  pub came : Came (set_of walk) (seat_of walk)
+  pub stands : MayStand (view_of (seat_of walk)) (loads_of walk) (left walk.cursor)
+
+-- the walk has still to give this index
+unfoldable pub IsDue : SharedWalk → ℕ → Type 0
+IsDue walk i = IsSure (set_of walk) (seat_of walk) i × IsUnder (left walk.cursor) i
+
+-- what a step of a walk gives
+pub record SharedSteps (old : SharedWalk) (item : Option ℕ) (new : SharedWalk) : Type 0 where
+  pub ready : IsReady new
+  pub same_reference : lender new ≡ lender old
+  pub set : set_of new ≡ set_of old
+  pub came : Came (set_of new) (seat_of new)
+  pub weight : weight_of (seat_of new) ≡ weight_of (seat_of old)
+  pub reports : reports_of (seat_of new) ≡ reports_of (seat_of old)
+  pub known : (i : ℕ) → Known (seat_of old) i → Known (seat_of new) i
+  pub given : MatchOption item (next_from new ≡ 16777216) (λ i. Known (seat_of new) i × (i < 16777216) × (next_from old ≤ i) × (i < next_from new))
+  pub ahead : IfSome item (λ x. (i : ℕ) → IsDue new i → x < i)
+  pub due : (i : ℕ) → IsDue old i → MatchOption item ⊥ (λ x. (i ≡ x) ⊎ IsDue new i)
+  pub first : loads_of new ≤ loads_of old + 4
+  pub later : 0 < loads_of old → loads_of new ≤ loads_of old + 3
+  pub begun : 0 < loads_of new

@@ -1,0 +1,144 @@
+//! Walks over a shared set, while others add to it.
+ghost use Rattle.std.specs.Prelude.{◌≡◌, ◌⊎◌, ℕ, ◌+◌, ◌-◌, ◌*◌, ◌/◌, ◌%◌, ◌^◌, ◌<◌, ◌≤◌, ◌∷◌, [], true, false, IfSome, MatchOption, Option, None};
+ghost use Rattle.std.specs.Iterator.{at_most};
+ghost use Rattle.std.specs.Int.{bit_at};
+ghost use Rattle.hibitset_base.specs.Places.{Place};
+ghost use Rattle.hibitset_base.specs.Cursor.{left, MayGoOn};
+ghost use Rattle.hibitset_base.specs.Reading.{depth};
+ghost use Rattle.hibitset_atomic.specs.Lists.{Has};
+ghost use Rattle.hibitset_atomic.specs.Levels.{first_mark};
+ghost use Rattle.hibitset_atomic.specs.Seats.{IsOld, Came, Known, weight_of, reports_of};
+ghost use Rattle.hibitset_atomic.specs.SharedWalk.{view_of, IsSure, Keeps, Goes, MayStand, set_of, seat_of, lender, loads_of, next_from, IsReady, IsDue, SharedSteps};
+
+use crate::shared::parts::{Seat, SharedBitSet};
+use hibitset_base::cursor::Cursor;
+use hibitset_base::reads::Reads;
+use hibitset_base::util::Index;
+
+/// A walk over a shared set, in ascending order, while others add to it. What it gives becomes known to its seat.
+///
+/// Once it has ended, it has given each index from before `share`, and each that the seat knew when the walk was made.
+pub struct SharedWalk<'a> {
+    pub(crate) seat: &'a mut Seat,
+    pub(crate) set: &'a SharedBitSet,
+    pub(crate) cursor: Cursor<5>,
+    pub(crate) reads: Reads,
+}
+
+impl Drop for SharedWalk<'_> {
+    fn drop(self)
+        ensures { self.exit.0.now ≡ self.entry.seat.now }
+    {
+        let SharedWalk {
+            seat: _,
+            set: _,
+            cursor,
+            reads,
+        } = self;
+        drop(cursor);
+        drop(reads);
+    }
+}
+
+// Loads the word of a layer at a position. Each load of a walk is made here.
+#[inline]
+#[tactic(auto, unfolding(crate::specs::Seats::Came, crate::specs::Seats::Known, crate::specs::Seats::IsOld))]
+fn load(
+    set: &SharedBitSet,
+    seat: &mut Seat,
+    reads: &mut Reads,
+    layer: usize,
+    position: u32,
+) -> usize
+    requires came { Came set.now seat.old }
+    requires layer { layer < 4 }
+    requires position { position < 64 ^ (3 - layer) }
+    ensures keeps { Keeps set.now seat.old seat.new }
+    ensures some { Has (view_of seat.old).seen (first_mark (layer + 1) + position) → 0 < result }
+    ensures seen { (b : ℕ) → b < 64 → bit_at result b ≡ 1 → Has (view_of seat.new).seen (first_mark layer + (64 * position + b)) }
+    ensures due { (i : ℕ) → IsSure set.now seat.old i → i / 64 ^ (layer + 1) ≡ position → bit_at result (i / 64 ^ layer % 64) ≡ 1 }
+    ensures reads { reads.new.count ≡ reads.old.count + 1 }
+{
+    *reads = Reads::one_more(reads);
+    set.word(&mut seat.pass, layer, position) as usize
+}
+
+// Loads the word under a place that was taken, and puts its bits in the place's stead.
+#[inline]
+fn descend(
+    set: &SharedBitSet,
+    seat: &mut Seat,
+    cursor: &mut Cursor<5>,
+    reads: &mut Reads,
+    layer: usize,
+    position: u32,
+)
+    requires came { Came set.now seat.old }
+    requires layer { layer < 5 }
+    requires above { 0 < layer }
+    requires rest { MayGoOn cursor.old layer position }
+    requires stands { MayStand (view_of seat.old) reads.old.count ((record { layer = layer; position = position }) ∷ left cursor.old) }
+    ensures goes { Goes set.now seat.old seat.new reads.old.count ((record { layer = layer; position = position }) ∷ left cursor.old) reads.new.count (left cursor.new) }
+    ensures fewer { depth (left cursor.new) < layer }
+{
+    let word = load(set, seat, reads, layer - 1, position);
+    cursor.put(layer - 1, position, word);
+}
+
+// The first index that is left, which is taken.
+#[inline]
+fn step(
+    set: &SharedBitSet,
+    seat: &mut Seat,
+    cursor: &mut Cursor<5>,
+    reads: &mut Reads,
+) -> Option<Index>
+    requires came { Came set.now seat.old }
+    requires stands { MayStand (view_of seat.old) reads.old.count (left cursor.old) }
+    ensures end { result ≡ None → (left cursor.new ≡ []) }
+    ensures goes { MatchOption result (Goes set.now seat.old seat.new reads.old.count (left cursor.old) reads.new.count (left cursor.new)) (λ i. Goes set.now seat.old seat.new reads.old.count (left cursor.old) reads.new.count ((record { layer = 0; position = i }) ∷ left cursor.new)) }
+    ensures before { IfSome result (λ i. MayGoOn cursor.new 0 i) }
+{
+    'places: while let Some((layer, position)) = cursor.take_lowest() {
+        if layer == 0 {
+            return Some(position);
+        }
+        descend(set, seat, cursor, reads, layer, position);
+    }
+    None
+}
+
+impl SharedBitSet {
+    /// A walk over the set, in ascending order, while others add to it.
+    #[inline]
+    pub fn walk<'a>(&'a self, seat: &'a mut Seat) -> SharedWalk<'a>
+        requires { Came self.now seat.old }
+        ensures same_reference { lender result ≡ seat.entry.ghost_name }
+        ensures over { (set_of result ≡ self.now) × (seat_of result ≡ seat.old) }
+        ensures ready { IsReady result }
+        ensures due { (i : ℕ) → IsOld self.now i ⊎ Known seat.old i → IsDue result i }
+        ensures loads { loads_of result ≡ 0 }
+    {
+        SharedWalk {
+            seat,
+            set: self,
+            cursor: Cursor::at_top(1),
+            reads: Reads::none(),
+        }
+    }
+}
+
+impl<'a> Iterator for SharedWalk<'a> {
+    type Item = Index;
+
+    ghost can_next = { IsReady };
+
+    ghost next_gives = { SharedSteps };
+
+    ghost remaining = { λ walk. at_most (16777216 - next_from walk) };
+
+    #[inline]
+    fn next(&mut self) -> Option<Index> {
+        step(self.set, self.seat, &mut self.cursor, &mut self.reads)
+    }
+}
