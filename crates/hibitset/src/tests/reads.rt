@@ -78,7 +78,7 @@ struct Everywhere {
 
 impl BitSetLike for Everywhere {
     ghost use Rattle.hibitset.specs.BitSet.{has, word_of};
-    ghost use Rattle.hibitset.specs.Stored.{stored_lawful};
+    ghost use Rattle.hibitset_base.specs.Stored.{stored_lawful};
     ghost use Rattle.hibitset.specs.Strangers.{full_word, full_lawful};
     ghost use Rattle.hibitset_base.specs.declared.util.TheConstants.{LAYERS};
 

@@ -77,7 +77,7 @@ impl Meeting {
 
 impl BitSetLike for Meeting {
     ghost use Rattle.hibitset.specs.BitSet.{has, word_of};
-    ghost use Rattle.hibitset.specs.Stored.{stored_lawful};
+    ghost use Rattle.hibitset_base.specs.Stored.{stored_lawful};
     ghost use Rattle.hibitset_base.specs.declared.util.TheConstants.{LAYERS};
 
     ghost holds = { λ s. has s.set };
