@@ -16,6 +16,7 @@ pub mod Draining
 pub mod Bounds
 pub mod Splitting
 pub mod Folding
+pub mod Given
 pub mod Mending
 pub mod Shapes
 pub mod Holding

@@ -1,0 +1,132 @@
+//! The rows: what is timed, and over which sets.
+use crate::sets::{Shape, set_of};
+use hibitset::{BitSet, BitSetLike, Index};
+use std::alloc::{AllocError, Global};
+use std::env;
+use std::rt::{Clock, Env};
+use std::thread::Threads;
+use std::time::Instant;
+
+// What is done with a set.
+#[derive(Clone, Copy)]
+enum Work {
+    Count,
+    Collect,
+    Fold,
+}
+
+const WORKS: [(&str, Work); 3] = [
+    ("count", Work::Count),
+    ("collect", Work::Collect),
+    ("fold", Work::Fold),
+];
+
+const SHAPES: [(&str, Shape); 5] = [
+    ("dense", Shape::Dense),
+    ("half", Shape::OneIn(2)),
+    ("10 %", Shape::OneIn(10)),
+    ("1 %", Shape::OneIn(100)),
+    ("clusters", Shape::Clusters),
+];
+
+const SIZES: [u32; 4] = [10_000, 100_000, 1_000_000, 4_000_000];
+
+// One walk in the calling thread.
+fn alone(alloc: Global, set: &BitSet, work: Work) -> Result<u64, AllocError> {
+    match work {
+        Work::Count => Ok(set.iter().count() as u64),
+        Work::Collect => {
+            let list: Vec<Index> = set.iter().collect(alloc)?;
+            Ok(u64::from(list.last().copied().unwrap_or(0)))
+        }
+        Work::Fold => {
+            Ok(
+                set.iter()
+                    .fold(0u64, |sum, index| sum.wrapping_add(u64::from(index))),
+            )
+        }
+    }
+}
+
+// The same in parts.
+fn in_parts(
+    rt: &(impl Threads + Sync),
+    alloc: Global,
+    set: &BitSet,
+    work: Work,
+) -> Result<u64, AllocError> {
+    match work {
+        Work::Count => Ok(set.par_iter().count(rt, alloc)? as u64),
+        Work::Collect => {
+            let list = set.par_iter().collect(rt, alloc)?;
+            Ok(u64::from(list.last().copied().unwrap_or(0)))
+        }
+        Work::Fold => {
+            set.par_iter().fold(
+                rt,
+                alloc,
+                || 0u64,
+                |sum: u64, index: Index| sum.wrapping_add(u64::from(index)),
+                |sum: u64, other: u64| sum.wrapping_add(other),
+            )
+        }
+    }
+}
+
+// The time between two readings of the clock, in nanoseconds.
+fn nanoseconds(rt: &impl Clock, start: Instant) -> anyhow::Result<u64> {
+    Ok(u64::try_from(start.elapsed(rt)?.as_nanos()).unwrap_or(u64::MAX))
+}
+
+// The middle one of some times.
+fn median(times: &mut Vec<u64>) -> anyhow::Result<u64> {
+    times.sort()?;
+    Ok(times.get(times.len() / 2).copied().unwrap_or(0))
+}
+
+// How long one call takes: the median of so many.
+fn time_of<R: Clock + Threads + Sync>(
+    rt: &R,
+    alloc: Global,
+    set: &BitSet,
+    work: Work,
+    is_in_parts: bool,
+    repeats: usize,
+) -> anyhow::Result<u64> {
+    let mut times = Vec::new(alloc);
+    for _ in 0..repeats {
+        let start = Instant::now(rt)?;
+        let sum = if is_in_parts {
+            in_parts(rt, alloc, set, work)?
+        } else {
+            alone(alloc, set, work)?
+        };
+        let time = nanoseconds(rt, start)?;
+        // The sum is used, so that the work is not left out.
+        times.push(if sum == u64::MAX { 0 } else { time })?;
+    }
+    median(&mut times)
+}
+
+// Prints all rows: where there is an argument, and it is a number, so many repeats each.
+pub(crate) fn print_all<R: Alloc + Clock + Env + Print + Threads + Sync>(
+    rt: &R,
+    alloc: Global,
+) -> anyhow::Result<()> {
+    let Some(argument) = env::args(rt)?.nth(1) else {
+        return Ok(());
+    };
+    let repeats: usize = argument.parse()?;
+    for (shape_name, shape) in SHAPES {
+        for size in SIZES {
+            let set = set_of(alloc, shape, size)?;
+            for (work_name, work) in WORKS {
+                for (way_name, is_in_parts) in [("alone", false), ("in parts", true)] {
+                    let time = time_of(rt, alloc, &set, work, is_in_parts, repeats)?;
+                    println!(rt; "{work_name}\t{shape_name}\t{size}\t{way_name}\t{time}")?;
+                }
+            }
+        }
+    }
+    Ok(())
+}
