@@ -3,3 +3,5 @@ pub mod Kept
 pub mod Steps
 pub mod Pairs
 pub mod Runs
+pub mod Ranges
+pub mod Splits

@@ -8,7 +8,8 @@ use Rattle.hibitset_base.specs.Members.{members_below}
 use Rattle.hibitset_base.specs.declared.util.TheConstants.{MAX_EID}
 use Rattle.hibitset_run.specs.declared.script.Slot.{Slot}
 use Rattle.hibitset_run.specs.declared.script.Command.TheVariants as command
-use Rattle.hibitset_run.specs.Script.{bool, list, count, done, no_memory, sets_of, slot_number, IsStep}
+use Rattle.hibitset_run.specs.declared.script.Layers.{Layers}
+use Rattle.hibitset_run.specs.Script.{bool, list, count, done, no_memory, members_of, sets_of, slot_number, unsplit_size, parts_in, IsStep}
 use Rattle.hibitset_run.proofs.Members.{has-past, has-in_range}
 use Rattle.hibitset_run.proofs.Kept.{sets_of-at, sets_of-set, sets_of-set_same}
 
@@ -44,6 +45,9 @@ module _ (kept : List BitSet) (slot : Slot) (d : BitSet) (long : length kept ≡
 
   pub counted : (number : ℕ) → number ≡ length (members_below MAX_EID (has (get_or kept (slot_number slot) d))) → IsStep (command.Count slot) (sets_of kept) (count number) (sets_of kept)
   counted number is = (ap count (is ∙ ap (λ f. length (members_below MAX_EID f)) (sym (sets_of-at kept slot d long))), refl)
+
+  pub divided : (layers : Layers) (number : ℕ) → number ≡ parts_in (unsplit_size layers) (members_of (has (get_or kept (slot_number slot) d))) → IsStep (command.Split slot layers) (sets_of kept) (count number) (sets_of kept)
+  divided layers number is = (ap count (is ∙ ap (λ f. parts_in (unsplit_size layers) (members_of f)) (sym (sets_of-at kept slot d long))), refl)
 
   pub cleared : (new : BitSet) → ((i : ℕ) → has new i ≡ false) → IsStep (command.Clear slot) (sets_of kept) done (sets_of (set kept (slot_number slot) new))
   cleared new empty = (refl, sets_of-set kept slot d long new _ empty)

@@ -1,14 +1,17 @@
 -- What commands do to eight sets, and what they reply.
-use Rattle.std.specs.Prelude.{◌≡◌, ℕ, Bool, true, false, not, ◌&&◌, ◌||◌, ◌==◌, nat_lt, if◌then◌else◌, IsTrue, List, [], ◌∷◌, length, slice_get}
+use Rattle.std.specs.Prelude.{◌≡◌, ℕ, ◌-◌, ◌/◌, ◌^◌, max, Bool, true, false, not, ◌&&◌, ◌||◌, ◌==◌, nat_lt, if◌then◌else◌, IsTrue, List, [], ◌∷◌, length, slice_get}
+use Rattle.std.specs.List.{list_any}
 use Rattle.std.specs.Option.{option_map_or}
 use Rattle.std.specs.Cmp.Lexicographic.{pointwise}
 use Rattle.hibitset.specs.declared.set.BitSet.{BitSet}
 use Rattle.hibitset.specs.BitSet.{has}
 use Rattle.hibitset_base.specs.Members.{members_below}
 use Rattle.hibitset_base.specs.Virtual.{differ}
-use Rattle.hibitset_base.specs.declared.util.TheConstants.{MAX_EID}
+use Rattle.hibitset_base.specs.declared.util.TheConstants.{LAYERS, MAX_EID}
 use Rattle.hibitset_run.specs.declared.script.Slot.{Slot}
 use Rattle.hibitset_run.specs.declared.script.Slot.TheVariants.{A, B, C, D, E, F, G, H}
+use Rattle.hibitset_run.specs.declared.script.Layers.{Layers}
+use Rattle.hibitset_run.specs.declared.script.Layers.TheVariants.{One, Two, Three}
 use Rattle.hibitset_run.specs.declared.script.Command.{Command}
 use Rattle.hibitset_run.specs.declared.script.Command.TheVariants as command
 use Rattle.hibitset_run.specs.declared.script.Reply.{Reply}
@@ -24,6 +27,12 @@ slot_number E = 4
 slot_number F = 5
 slot_number G = 6
 slot_number H = 7
+
+-- how many layers it is
+abbrev pub layers_number : Layers → ℕ
+layers_number One = 1
+layers_number Two = 2
+layers_number Three = 3
 
 -- the eight sets, each as a test of numbers
 abbrev pub Sets : Type 0
@@ -48,6 +57,18 @@ are_same p q = pointwise ◌==◌ (members_of p) (members_of q)
 -- no member of p is missing from q
 abbrev pub is_within : (ℕ → Bool) → (ℕ → Bool) → Bool
 is_within p q = length (members_of (λ i. p i && not (q i))) == 0
+
+-- how many indices an aligned range has that is not split, where so many layers are looked at
+abbrev pub unsplit_size : Layers → ℕ
+unsplit_size layers = 64 ^ (LAYERS - layers_number layers)
+
+-- The numbers of the aligned ranges of a size that hold one of the indices. Range q has the indices q * size to q * size + size - 1.
+abbrev pub ranges_of : ℕ → List ℕ → ℕ → Bool
+ranges_of size indices q = list_any (λ i. i / size == q) indices
+
+-- how many parts they are split into: the greater of 1 and how many ranges of the size hold one of them
+abbrev pub parts_in : ℕ → List ℕ → ℕ
+parts_in size indices = max 1 (length (members_of (ranges_of size indices)))
 
 -- a reply, with the indices as a list
 pub data Answer : Type 0 where
@@ -79,6 +100,7 @@ answer (command.Xor slot other) sets = done
 answer (command.Clear slot) sets = done
 answer (command.Same slot other) sets = bool (are_same (sets slot) (sets other))
 answer (command.Within slot other) sets = bool (is_within (sets slot) (sets other))
+answer (command.Split slot layers) sets = count (parts_in (unsplit_size layers) (members_of (sets slot)))
 
 -- the sets after a command that is not refused memory
 abbrev pub effect : Command → Sets → Sets
@@ -93,8 +115,9 @@ effect (command.Xor slot other) sets = with_set sets slot (λ i. differ (sets sl
 effect (command.Clear slot) sets = with_set sets slot (λ i. false)
 effect (command.Same slot other) sets = sets
 effect (command.Within slot other) sets = sets
+effect (command.Split slot layers) sets = sets
 
--- The command may be refused memory: an `Add` of an index that is in range and not there, a `List`, an `Or`, a `Xor`.
+-- The command may be refused memory: an `Add` of an index that is in range and not there, a `List`, an `Or`, a `Xor`, a `Split`.
 abbrev pub may_lack_memory : Command → Sets → Bool
 may_lack_memory (command.Add slot id) sets = nat_lt id MAX_EID && not (sets slot id)
 may_lack_memory (command.Remove slot id) sets = false
@@ -107,6 +130,7 @@ may_lack_memory (command.Xor slot other) sets = true
 may_lack_memory (command.Clear slot) sets = false
 may_lack_memory (command.Same slot other) sets = false
 may_lack_memory (command.Within slot other) sets = false
+may_lack_memory (command.Split slot layers) sets = true
 
 -- From the old sets the command gives this answer, and leaves the new sets. One that is refused memory changes nothing.
 abbrev pub IsStep : Command → Sets → Answer → Sets → Type 0

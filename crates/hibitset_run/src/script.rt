@@ -2,11 +2,12 @@
 ghost use Rattle.std.specs.Prelude.{◌≡◌, IfOk, OnErr, length, map};
 ghost use Rattle.hibitset.specs.BitSet.{has};
 ghost use Rattle.hibitset_base.specs.Members.{members_below};
-ghost use Rattle.hibitset_run.specs.Script.{IsRun, IsStep, answer_of, sets_of, slot_number};
+ghost use Rattle.hibitset_run.specs.Script.{IsRun, IsStep, answer_of, layers_number, sets_of, slot_number};
 
 mod pairs;
 mod parse;
 mod print;
+mod splits;
 mod text;
 
 use hibitset::util::MAX_EID;
@@ -36,6 +37,23 @@ impl Slot {
     }
 }
 
+/// How many layers, from the top one on, a split looks at, written `1`, `2` or `3`.
+#[derive(Clone, Copy, Debug, PartialEq, Eq)]
+pub enum Layers {
+    One = 1,
+    Two = 2,
+    Three = 3,
+}
+
+impl Layers {
+    // The number itself.
+    fn number(self) -> u8
+        ensures { result ≡ layers_number self }
+    {
+        self as u8
+    }
+}
+
 /// What a script asks of the eight sets.
 #[derive(Clone, Copy, Debug, PartialEq, Eq)]
 pub enum Command {
@@ -61,6 +79,8 @@ pub enum Command {
     Same { set: Slot, other: Slot },
     /// Asks whether each index of a set is in the other.
     Within { set: Slot, other: Slot },
+    /// Asks how many parts a set has that split no further.
+    Split { set: Slot, layers: Layers },
 }
 
 /// What is answered to one command.
@@ -70,7 +90,7 @@ pub enum Reply {
     Bool(bool),
     /// The indices of a set, ascending.
     List(Vec<Index>),
-    /// How many indices a set has.
+    /// To `Count`: how many indices the set has. To `Split`: how many parts.
     Count(usize),
     /// The set has changed as was asked.
     Done,
@@ -116,6 +136,7 @@ fn step(alloc: Global, sets: &mut [BitSet; 8], command: Command) -> Reply
         Command::Clear { set } => clear(sets, set),
         Command::Same { set, other } => pairs::same(sets, set, other),
         Command::Within { set, other } => pairs::within(sets, set, other),
+        Command::Split { set, layers } => splits::split(alloc, sets, set, layers),
     }
 }
 

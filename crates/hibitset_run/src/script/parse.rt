@@ -1,5 +1,5 @@
 //! From the text of a script to its commands.
-use super::{Command, Ended, Slot};
+use super::{Command, Ended, Layers, Slot};
 use hibitset::Index;
 use std::alloc::Global;
 
@@ -63,6 +63,10 @@ fn command_of(line: &[u8]) -> Option<Command> {
             set,
             other: slot_of(other)?,
         }),
+        (b"split", Some(layers)) => Some(Command::Split {
+            set,
+            layers: layers_of(layers)?,
+        }),
         _ => None,
     }
 }
@@ -78,6 +82,16 @@ fn slot_of(word: &[u8]) -> Option<Slot> {
         b"f" => Some(Slot::F),
         b"g" => Some(Slot::G),
         b"h" => Some(Slot::H),
+        _ => None,
+    }
+}
+
+// The number of layers that a word writes: one digit from `1` to `3`.
+fn layers_of(word: &[u8]) -> Option<Layers> {
+    match word {
+        b"1" => Some(Layers::One),
+        b"2" => Some(Layers::Two),
+        b"3" => Some(Layers::Three),
         _ => None,
     }
 }

@@ -104,6 +104,14 @@ fn prints_one_line_a_reply(rt: HostRuntime) {
             "add h 1\nadd h 3\nadd g 3\nadd g 70\nxor h g\nlist h\nlist g\n",
             "false\nfalse\nfalse\nfalse\nok\n1 70\n3 70\n",
         ),
+        (
+            "add a 0\nadd a 64\nadd a 4096\nadd a 262144\nsplit a 1\nsplit a 2\nsplit a 3\nsplit b 3\nlist a\n",
+            "false\nfalse\nfalse\nfalse\n2\n3\n4\n1\n0 64 4096 262144\n",
+        ),
+        (
+            "add h 1048575\nsplit h 1\nsplit h 2\nsplit h 3\n",
+            "false\n1\n1\n1\n",
+        ),
     ];
     for (script, text) in rows {
         let (output, ended) = printed(rt.alloc(), script);
@@ -130,6 +138,9 @@ fn takes_a_line_as_it_is_written(rt: HostRuntime) {
         "clear c",
         "same d e",
         "within e d",
+        "split a 1",
+        "split b 2",
+        "split h 3",
     ];
     for line in good {
         assert_eq!(rt; printed(rt.alloc(), line).1, Ended::Done, "after {line:?}");
@@ -190,7 +201,20 @@ fn refuses_every_other_line(rt: HostRuntime) {
         "same a B",
         "within a",
         "within a bb",
-        "split a 2",
+        "split",
+        "split a",
+        "split a ",
+        "split a 0",
+        "split a 4",
+        "split a 02",
+        "split a 22",
+        "split a +2",
+        "split a b",
+        "split a 2 ",
+        "split a 2 2",
+        "split 2 a",
+        "split i 2",
+        "splits a 2",
     ];
     for line in bad {
         let (output, ended) = printed(rt.alloc(), line);
@@ -317,6 +341,49 @@ fn runs_commands_on_the_sets_that_are_there(rt: HostRuntime) -> Result<(), Fail>
         Reply::Bool(true),
         Reply::Count(1),
         Reply::Done,
+    ];
+    assert_eq!(rt; replies.as_slice(), wanted.as_slice());
+    Ok(())
+}
+
+#[test]
+fn splits_to_the_end(rt: HostRuntime) -> Result<(), Fail> {
+    let alloc = rt.alloc();
+    let mut sets = array::from_fn(|_| BitSet::new(alloc));
+    let set = Slot::A;
+    let commands = [
+        Command::Add { set, id: 0 },
+        Command::Add { set, id: 64 },
+        Command::Add { set, id: 4096 },
+        Command::Add { set, id: 262_144 },
+    ];
+    let _ = run(alloc, &mut sets, &commands)?;
+    let commands = [
+        Command::Split {
+            set,
+            layers: Layers::One,
+        },
+        Command::Split {
+            set,
+            layers: Layers::Two,
+        },
+        Command::Split {
+            set,
+            layers: Layers::Three,
+        },
+        Command::Split {
+            set: Slot::B,
+            layers: Layers::Three,
+        },
+        Command::Count { set },
+    ];
+    let replies = run(alloc, &mut sets, &commands)?;
+    let wanted = [
+        Reply::Count(2),
+        Reply::Count(3),
+        Reply::Count(4),
+        Reply::Count(1),
+        Reply::Count(4),
     ];
     assert_eq!(rt; replies.as_slice(), wanted.as_slice());
     Ok(())
