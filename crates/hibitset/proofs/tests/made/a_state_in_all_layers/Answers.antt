@@ -66,5 +66,5 @@ new-requires g c = formed
 pub new-requires-2 : goal.new-requires-2
 new-requires-2 g c = formed
 
-pub new-requires-3 : goal.new-requires-3
-new-requires-3 g c = formed
+pub new-drain-requires : goal.new-drain-requires
+new-drain-requires g c = formed
