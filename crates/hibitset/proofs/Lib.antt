@@ -3,4 +3,3 @@ pub mod Merging
 pub mod Blocks
 pub mod Comparing
 pub mod Equality
-pub mod Building

@@ -1,7 +1,7 @@
 -- What a contract sees of an `AtomicBitSet`.
 use Rattle.std.specs.Prelude.{◌≡◌, ℕ, ◌/◌, Bool, true, List}
 use Rattle.hibitset_base.specs.Members.{members_below}
-use Rattle.hibitset_base.specs.declared.util.TheConstants.{MAX_EID}
+use Rattle.hibitset_atomic.specs.declared.atomic.TheConstants.{ATOMIC_MAX_EID}
 use Rattle.hibitset_base.specs.Words.{holds_at}
 use Rattle.hibitset_atomic.specs.Layers.{layer_word}
 use Rattle.hibitset_atomic.specs.declared.atomic.AtomicBitSet.{AtomicBitSet}
@@ -16,7 +16,7 @@ has set = holds_at (word_of set)
 
 -- the members, ascending
 abbrev pub members_of : AtomicBitSet → List ℕ
-members_of set = members_below MAX_EID (has set)
+members_of set = members_below ATOMIC_MAX_EID (has set)
 
 -- some member lies in the same 4,096 indices
 abbrev pub HasNear : AtomicBitSet → ℕ → Type 0

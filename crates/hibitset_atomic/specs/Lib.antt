@@ -2,6 +2,8 @@ pub mod Placed
 pub mod Blocks
 pub mod Layers
 pub mod AtomicBitSet
+pub mod Building
+pub mod Laws
 pub mod Clearing
 pub mod Lists
 pub mod Rule

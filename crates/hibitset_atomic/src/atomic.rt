@@ -2,21 +2,26 @@
 ghost use Rattle.std.specs.Prelude.{◌≡◌, ◌≢◌, ℕ, ◌+◌, ◌-◌, ◌*◌, ◌/◌, ◌%◌, ◌<◌, ◌≤◌, ◌==◌, ◌||◌, ◌&&◌, not, if◌then◌else◌, Bool, true, false, OnOk, OnErr, IfOk, IsOk};
 ghost use Rattle.hibitset_base.specs.Words.{IsSummed, holds_at};
 ghost use Rattle.hibitset_atomic.specs.Layers.{layer_word};
-ghost use Rattle.hibitset_base.specs.declared.util.TheConstants.{LAYERS, MAX_EID};
+ghost use Rattle.hibitset_base.specs.declared.util.TheConstants.{LAYERS};
+ghost use Rattle.hibitset_atomic.specs.declared.layers.TheConstants.{ATOMIC_LAYERS};
+ghost use Rattle.hibitset_atomic.specs.declared.atomic.TheConstants.{ATOMIC_MAX_EID};
 
-use crate::layers::Layers;
+use crate::layers::{ATOMIC_LAYERS, Layers};
 use hibitset_base::bits::with_bit;
 use hibitset_base::like::{BitSetLike, DrainableBitSet};
-use hibitset_base::util::{Index, MAX_EID};
+use hibitset_base::util::{BITS, Index};
 use std::alloc::{AllocError, Global};
 
-/// A set of indices below `MAX_EID`, kept as words in four layers, that can be shared between threads.
+/// Members of an atomic set lie below this bound. It keeps four layers, whatever the number of layers of a `BitSet` is.
+pub const ATOMIC_MAX_EID: usize = 1 << (BITS * ATOMIC_LAYERS);
+
+/// A set of indices below `ATOMIC_MAX_EID`, kept as words in four layers, that can be shared between threads.
 ///
 /// A bit of a layer above the lowest stands exactly over a word that is not 0, at all times.
 #[derive(Debug, Drop)]
 pub struct AtomicBitSet {
     pub(crate) layers: Layers,
-    ghost summed: { IsSummed LAYERS (layer_word layers) },
+    ghost summed: { IsSummed ATOMIC_LAYERS (layer_word layers) },
 }
 
 impl AtomicBitSet {
@@ -34,14 +39,14 @@ impl AtomicBitSet {
     /// The words alone.
     pub(crate) fn into_layers(self) -> Layers
         ensures same { result ≡ self.layers }
-        ensures summed { IsSummed LAYERS (layer_word result) }
+        ensures summed { IsSummed ATOMIC_LAYERS (layer_word result) }
     {
         self.layers
     }
 
     /// The set of these words, whose summaries are exact.
     pub(crate) fn from_layers(layers: Layers) -> AtomicBitSet
-        requires { IsSummed LAYERS (layer_word layers) }
+        requires { IsSummed ATOMIC_LAYERS (layer_word layers) }
         ensures { result.layers ≡ layers }
     {
         AtomicBitSet { layers }
@@ -95,12 +100,12 @@ impl AtomicBitSet {
         !stands
     }
 
-    /// Adds an index below `MAX_EID`, and tells whether it was there. Where memory is refused the members stay.
+    /// Adds an index below `ATOMIC_MAX_EID`, and tells whether it was there. Where memory is refused the members stay.
     ///
     /// It needs no memory where some member `j` has the same `j / 4096`.
     #[inline]
     pub fn add(&mut self, id: Index) -> Result<bool, AllocError>
-        requires { id < MAX_EID }
+        requires { id < ATOMIC_MAX_EID }
         ensures was { IfOk result (λ was. was ≡ has self.old id) }
         ensures added { OnOk result ((i : ℕ) → has self.new i ≡ (has self.old i || i == id)) }
         ensures refused { OnErr result ((i : ℕ) → has self.new i ≡ has self.old i) }

@@ -2,11 +2,14 @@
 ghost use Rattle.std.specs.Prelude.{◌≡◌, ◌≢◌, ℕ, ◌+◌, ◌*◌, ◌/◌, ◌%◌, ◌^◌, ◌<◌, ◌≤◌, ◌↔◌, ◌-◌, ◌==◌, ◌&&◌, cond, bit_or, get_or, length, OnOk, OnErr, IfOk, IsOk};
 ghost use Rattle.hibitset_base.specs.Words.{IsSummed};
 ghost use Rattle.hibitset_atomic.specs.Clearing.{IsCovered, IsClearUnder, IsSameBeside};
-ghost use Rattle.hibitset_base.specs.declared.util.TheConstants.{LAYERS};
+ghost use Rattle.hibitset_atomic.specs.declared.layers.TheConstants.{ATOMIC_LAYERS};
 
 use crate::blocks::{Blocks, zeros};
 use hibitset_base::bits::{replace, take_bit, with_bit};
 use std::alloc::{AllocError, Global};
+
+/// Number of layers of an atomic set.
+pub(crate) const ATOMIC_LAYERS: usize = 4;
 
 /// The words of an atomic set. A set with one member takes some 42 KB: 32,768 bytes for layer 1, 8,192 for the places of the blocks, and two blocks of 512.
 ///
@@ -91,7 +94,7 @@ impl Layers {
 
     /// Makes all words 0, and takes no memory. It goes only to words that are not 0.
     pub(crate) fn clear(&mut self)
-        requires { IsSummed LAYERS (layer_word self.old) }
+        requires { IsSummed ATOMIC_LAYERS (layer_word self.old) }
         ensures { (l p : ℕ) → layer_word self.new l p ≡ 0 }
     {
         let mut left = self.layer3;
@@ -142,10 +145,10 @@ impl Layers {
     pub(crate) fn put_word(&mut self, place: usize, before: usize, word: usize)
         requires made { IsMade self.old.layer0 place }
         requires before { before ≡ layer_word self.old 0 place }
-        requires summed { IsSummed LAYERS (layer_word self.old) }
+        requires summed { IsSummed ATOMIC_LAYERS (layer_word self.old) }
         ensures here { layer_word self.new 0 place ≡ word }
         ensures others { (p : ℕ) → p ≢ place → layer_word self.new 0 p ≡ layer_word self.old 0 p }
-        ensures summed { IsSummed LAYERS (layer_word self.new) }
+        ensures summed { IsSummed ATOMIC_LAYERS (layer_word self.new) }
         ensures room { HasRoom self.old.layer0 → HasRoom self.new.layer0 }
     {
         self.layer0.put(place, word);
@@ -168,7 +171,7 @@ impl Layers {
     /// The word of a layer at a position.
     #[inline]
     pub(crate) fn word(&self, layer: usize, position: usize) -> usize
-        requires { layer < LAYERS }
+        requires { layer < ATOMIC_LAYERS }
         ensures { result ≡ layer_word self.now layer position }
     {
         match layer {
@@ -186,8 +189,8 @@ impl Layers {
         position: usize,
         bit: u32,
     ) -> Result<usize, AllocError>
-        requires layer { layer < LAYERS }
-        requires position { position < 64 ^ (LAYERS - 1 - layer) }
+        requires layer { layer < ATOMIC_LAYERS }
+        requires position { position < 64 ^ (ATOMIC_LAYERS - 1 - layer) }
         requires bit { bit < 64 }
         ensures before { IfOk result (λ word. word ≡ layer_word self.old layer position) }
         ensures after { OnOk result ((l p : ℕ) → layer_word self.new l p ≡ cond (l == layer && p == position) (bit_or (layer_word self.old l p) (2 ^ bit)) (layer_word self.old l p)) }

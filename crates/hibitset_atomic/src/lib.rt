@@ -3,7 +3,10 @@
 
 pub mod atomic;
 mod blocks;
+mod build;
+pub mod laws;
 mod layers;
+pub mod ops;
 pub mod shared;
 pub mod steps;
 

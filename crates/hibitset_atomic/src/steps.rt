@@ -21,7 +21,7 @@ pub use event::{Event, Reply, StepError};
 pub use state::World;
 
 /// The layers of an atomic set, of the step core and of the shared form.
-pub(crate) const ATOMIC_LAYERS: usize = 4;
+pub(crate) const ATOMIC_LAYERS: usize = crate::layers::ATOMIC_LAYERS;
 
 /// The bits that an addition of an index below `MAX_EID` sets, from the lowest layer up: each as its layer, the position of its word, and the word that has it alone.
 #[inline]

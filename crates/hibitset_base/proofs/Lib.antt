@@ -20,3 +20,4 @@ pub mod Given
 pub mod Mending
 pub mod Shapes
 pub mod Holding
+pub mod Building

@@ -122,13 +122,11 @@ fn each_of_many(rt: HostRuntime) -> Result<(), Fail> {
     let all = (&many).par_iter().collect(&rt, rt.alloc())?;
     assert_eq!(rt; all.as_slice(), list(rt.alloc(), &many)?.as_slice());
     let visited = AtomicUsize::new(0);
-    (&many).par_iter().for_each(
-        &rt,
-        rt.alloc(),
-        |_index: Index| {
+    (&many)
+        .par_iter()
+        .for_each(&rt, rt.alloc(), |_index: Index| {
             visited.fetch_add(1, Ordering::SeqCst);
-        },
-    )?;
+        })?;
     assert_eq!(rt; visited.load(Ordering::SeqCst), 524_288);
     Ok(())
 }

@@ -1,7 +1,7 @@
-use Rattle.std.proofs.Common.{◌≡◌, ◌≢◌, ℕ, zero, suc, ◌/◌, ◌%◌, ◌<◌, ◌==◌, not, List, [], ◌∷◌, get_or, refl, ◌∙◌, arith}
+use Rattle.std.proofs.Common.{◌≡◌, ◌≢◌, ℕ, zero, suc, ◌-◌, ◌/◌, ◌%◌, ◌^◌, ◌<◌, ◌==◌, not, List, [], ◌∷◌, get_or, refl, ◌∙◌, arith}
 use Rattle.std.specs.Int.{bit_at}
 use Rattle.hibitset_base.specs.Sets.{bit_of}
-use Rattle.hibitset_base.specs.declared.util.TheConstants.{LAYERS}
+use Rattle.hibitset_atomic.specs.declared.layers.TheConstants.{ATOMIC_LAYERS}
 use Rattle.hibitset_atomic.specs.Layers.{word_over}
 use Rattle.hibitset_atomic.specs.Blocks.{block_word}
 use Rattle.hibitset_base.proofs.Mending.{MendedUpTo, mended_first, mended_next, mended_last}
@@ -25,7 +25,7 @@ top_others d e zero other = absurd (other refl)
 top_others d e (suc p) other = refl
 
 -- Words of four layers, of which the lowest is `bottom`: a word x is put into it at q.
-module _ (bottom bottom' : ℕ → ℕ) (b c : List ℕ) (d q x : ℕ) (short : q < 262144) (here : bottom' q ≡ x) (others : (p : ℕ) → p ≢ q → bottom' p ≡ bottom p) where
+module _ (bottom bottom' : ℕ → ℕ) (b c : List ℕ) (d q x : ℕ) (short : q < 64 ^ (ATOMIC_LAYERS - 1)) (here : bottom' q ≡ x) (others : (p : ℕ) → p ≢ q → bottom' p ≡ bottom p) where
   old : ℕ → ℕ → ℕ
   old = word_over bottom (b ∷ c ∷ (d ∷ []) ∷ [])
 
@@ -76,23 +76,23 @@ module _ (bottom bottom' : ℕ → ℕ) (b c : List ℕ) (d q x : ℕ) (short : 
 pub returns-then-before-word-clause-summed : goal.returns-then-before-word-clause-summed
 returns-then-before-word-clause-summed c =
     let self = c.args.self.now in
-    let short : c.args.place < 262144 = (let e = made_within 4096 self.layer0.places.items self.layer0.words.items (c.args.place / 64) self.layer0.placed c.requires.made in omega (arith, e)) in
+    let short : c.args.place < 64 ^ (ATOMIC_LAYERS - 1) = (let e = made_within 4096 self.layer0.places.items self.layer0.words.items (c.args.place / 64) self.layer0.placed c.requires.made in omega (arith, e)) in
     let p = c.put.ensures in
     let one : c.args.place / 1 ≡ c.args.place = omega arith in
     let stays = same_test c.args.before c.args.word c.if-before-word.true in
-    mended_last LAYERS 0 _ _ c.args.place
+    mended_last ATOMIC_LAYERS 0 _ _ c.args.place
     (first (block_word self.layer0) (block_word c.put.new.self) self.layer1.items self.layer2.items self.layer3 c.args.place c.args.word short p.here p.others)
     (λ _. rw (one, p.here, ← c.requires.before) stays) c.requires.summed
 
 pub returns-then-not-replace-clause-summed : goal.returns-then-not-replace-clause-summed
 returns-then-not-replace-clause-summed c =
     let self = c.args.self.now in
-    let short : c.args.place < 262144 = (let e = made_within 4096 self.layer0.places.items self.layer0.words.items (c.args.place / 64) self.layer0.placed c.requires.made in omega (arith, e)) in
+    let short : c.args.place < 64 ^ (ATOMIC_LAYERS - 1) = (let e = made_within 4096 self.layer0.places.items self.layer0.words.items (c.args.place / 64) self.layer0.placed c.requires.made in omega (arith, e)) in
     let p = c.put.ensures in
     let e = c.replace.ensures in
     let stays = e.stays c.if-not-replace.true in
     let read1 : c.index-before1.result.now ≡ get_or self.layer1.items (c.args.place / 64) 0 = c.index-before1.ensures ∙ get_or_any self.layer1.items (c.args.place / 64) c.index-before1.result.now 0 (let w = self.whole1 in omega (arith, w, short)) in
-    mended_last LAYERS 1 _ _ c.args.place
+    mended_last ATOMIC_LAYERS 1 _ _ c.args.place
     (second (block_word self.layer0) (block_word c.put.new.self) self.layer1.items self.layer2.items self.layer3 c.args.place c.args.word short p.here p.others
     c.replace.new.words.items c.with_bit-word1.result (record { here = e.here; others = e.others }) c.index-before1.result.now read1 (record { same = c.with_bit-word1.ensures.same; here = c.with_bit-word1.ensures.here }))
     (λ _. rw e.here stays) c.requires.summed
@@ -100,14 +100,14 @@ returns-then-not-replace-clause-summed c =
 pub returns-then-not-replace-2-clause-summed : goal.returns-then-not-replace-2-clause-summed
 returns-then-not-replace-2-clause-summed c =
     let self = c.args.self.now in
-    let short : c.args.place < 262144 = (let e = made_within 4096 self.layer0.places.items self.layer0.words.items (c.args.place / 64) self.layer0.placed c.requires.made in omega (arith, e)) in
+    let short : c.args.place < 64 ^ (ATOMIC_LAYERS - 1) = (let e = made_within 4096 self.layer0.places.items self.layer0.words.items (c.args.place / 64) self.layer0.placed c.requires.made in omega (arith, e)) in
     let p = c.put.ensures in
     let e = c.replace.ensures in
     let f = c.replace-2.ensures in
     let stays = f.stays c.if-not-replace-2.true in
     let read1 : c.index-before1.result.now ≡ get_or self.layer1.items (c.args.place / 64) 0 = c.index-before1.ensures ∙ get_or_any self.layer1.items (c.args.place / 64) c.index-before1.result.now 0 (let w = self.whole1 in omega (arith, w, short)) in
     let read2 : c.index-before2.result.now ≡ get_or self.layer2.items (c.args.place / 4096) 0 = c.index-before2.ensures ∙ get_or_any self.layer2.items (c.args.place / 4096) c.index-before2.result.now 0 (let w = self.whole2 in omega (arith, w, short)) in
-    mended_last LAYERS 2 _ _ c.args.place
+    mended_last ATOMIC_LAYERS 2 _ _ c.args.place
     (third (block_word self.layer0) (block_word c.put.new.self) self.layer1.items self.layer2.items self.layer3 c.args.place c.args.word short p.here p.others
     c.replace.new.words.items c.with_bit-word1.result (record { here = e.here; others = e.others }) c.index-before1.result.now read1 (record { same = c.with_bit-word1.ensures.same; here = c.with_bit-word1.ensures.here })
     c.replace-2.new.words.items c.with_bit-word2.result (record { here = f.here; others = f.others }) c.index-before2.result.now read2 (record { same = c.with_bit-word2.ensures.same; here = c.with_bit-word2.ensures.here }))
@@ -116,13 +116,13 @@ returns-then-not-replace-2-clause-summed c =
 pub returns-clause-summed : goal.returns-clause-summed
 returns-clause-summed c =
     let self = c.args.self.now in
-    let short : c.args.place < 262144 = (let e = made_within 4096 self.layer0.places.items self.layer0.words.items (c.args.place / 64) self.layer0.placed c.requires.made in omega (arith, e)) in
+    let short : c.args.place < 64 ^ (ATOMIC_LAYERS - 1) = (let e = made_within 4096 self.layer0.places.items self.layer0.words.items (c.args.place / 64) self.layer0.placed c.requires.made in omega (arith, e)) in
     let p = c.put.ensures in
     let e = c.replace.ensures in
     let f = c.replace-2.ensures in
     let read1 : c.index-before1.result.now ≡ get_or self.layer1.items (c.args.place / 64) 0 = c.index-before1.ensures ∙ get_or_any self.layer1.items (c.args.place / 64) c.index-before1.result.now 0 (let w = self.whole1 in omega (arith, w, short)) in
     let read2 : c.index-before2.result.now ≡ get_or self.layer2.items (c.args.place / 4096) 0 = c.index-before2.ensures ∙ get_or_any self.layer2.items (c.args.place / 4096) c.index-before2.result.now 0 (let w = self.whole2 in omega (arith, w, short)) in
-    mended_last LAYERS 3 _ _ c.args.place
+    mended_last ATOMIC_LAYERS 3 _ _ c.args.place
     (fourth (block_word self.layer0) (block_word c.put.new.self) self.layer1.items self.layer2.items self.layer3 c.args.place c.args.word short p.here p.others
     c.replace.new.words.items c.with_bit-word1.result (record { here = e.here; others = e.others }) c.index-before1.result.now read1 (record { same = c.with_bit-word1.ensures.same; here = c.with_bit-word1.ensures.here })
     c.replace-2.new.words.items c.with_bit-word2.result (record { here = f.here; others = f.others }) c.index-before2.result.now read2 (record { same = c.with_bit-word2.ensures.same; here = c.with_bit-word2.ensures.here })

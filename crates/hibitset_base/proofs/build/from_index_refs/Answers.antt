@@ -1,5 +1,5 @@
-use Rattle.hibitset.proofs.Building.{IfErr-handed_on}
-use Rattle.hibitset.proofs.set.BitSet.from_index_refs.Goals as goal
+use Rattle.hibitset_base.proofs.Building.{IfErr-handed_on}
+use Rattle.hibitset_base.proofs.build.from_index_refs.Goals as goal
 
 pub returns-in_err-extend_index_refs-clause-stops : goal.returns-in_err-extend_index_refs-clause-stops
 returns-in_err-extend_index_refs-clause-stops g c =

@@ -1,5 +1,5 @@
-use Rattle.hibitset.proofs.Building.{IfErr-handed_on}
-use Rattle.hibitset.proofs.set.BitSet.from_indices.Goals as goal
+use Rattle.hibitset_base.proofs.Building.{IfErr-handed_on}
+use Rattle.hibitset_base.proofs.build.from_indices.Goals as goal
 
 pub returns-in_err-extend_indices-clause-stops : goal.returns-in_err-extend_indices-clause-stops
 returns-in_err-extend_indices-clause-stops g c =

@@ -1,0 +1,90 @@
+//! Atomic sets made of the items of an iterator, or extended by them.
+ghost use Rattle.std.specs.Prelude.{◌≡◌, ℕ, ◌<◌, ◌≤◌, ◌⊎◌, ◌||◌, Bool, false, OnOk, OnErr, IfOk, IfErr};
+ghost use Rattle.std.specs.Iterator.{IsFiniteIterable};
+ghost use Rattle.hibitset_base.specs.declared.build.BuildError.TheVariants.{Memory};
+ghost use Rattle.hibitset_atomic.specs.declared.atomic.TheConstants.{ATOMIC_MAX_EID};
+ghost use Rattle.hibitset_atomic.specs.AtomicBitSet.{has};
+ghost use Rattle.hibitset_atomic.specs.Building.{Refuses, TakesAll, StopsAtRefused};
+
+use crate::atomic::{ATOMIC_MAX_EID, AtomicBitSet};
+use hibitset_base::build::{self, BuildError, Extendable};
+use hibitset_base::util::Index;
+use std::alloc::{AllocError, Global};
+
+impl Extendable for AtomicBitSet {
+    ghost RANGE = { ATOMIC_MAX_EID };
+
+    ghost size = { λ _. 0 };
+
+    const RANGE: usize = ATOMIC_MAX_EID;
+
+    #[inline]
+    fn add_index(&mut self, index: Index) -> Result<bool, AllocError> {
+        self.add(index)
+    }
+}
+
+// The empty set, whose words are made before any item is drawn.
+fn empty_set(alloc: Global) -> Result<AtomicBitSet, BuildError>
+    ensures empty { IfOk result (λ set. (i : ℕ) → has set i ≡ false) }
+    ensures refused { IfErr result (λ error. error ≡ Memory 0) }
+{
+    match AtomicBitSet::new(alloc) {
+        Ok(set) => Ok(set),
+        Err(_) => Err(BuildError::Memory { place: 0 }),
+    }
+}
+
+impl AtomicBitSet {
+    /// Adds the items of an iterator, each of which is to be below `ATOMIC_MAX_EID`.
+    ///
+    /// It stops at the first item that is not, and where memory is refused: then the set has its old members and the items before that one, and no later item is drawn. It is `Extend` of the original.
+    pub fn extend_indices<U: IntoIterator<Item = Index>>(
+        &mut self,
+        iter: U,
+    ) -> Result<(), BuildError>
+        requires { IsFiniteIterable U.into_iter_gives U.IntoIter.can_next U.IntoIter.remaining iter }
+        ensures all { OnOk result (TakesAll U.into_iter_gives U.IntoIter.next_gives (λ i. i) iter (has self.old) (has self.new)) }
+        ensures stops { IfErr result (StopsAtRefused U.into_iter_gives U.IntoIter.next_gives (λ i. i) iter (has self.old) (has self.new)) }
+    {
+        build::extend_indices(self, iter)
+    }
+
+    /// Adds the items that an iterator gives by reference, as `extend_indices` does.
+    pub fn extend_index_refs<'a, U: IntoIterator<Item = &'a Index>>(
+        &mut self,
+        iter: U,
+    ) -> Result<(), BuildError>
+        requires { IsFiniteIterable U.into_iter_gives U.IntoIter.can_next U.IntoIter.remaining iter }
+        ensures all { OnOk result (TakesAll U.into_iter_gives U.IntoIter.next_gives (λ i. i.now) iter (has self.old) (has self.new)) }
+        ensures stops { IfErr result (StopsAtRefused U.into_iter_gives U.IntoIter.next_gives (λ i. i.now) iter (has self.old) (has self.new)) }
+    {
+        build::extend_index_refs(self, iter)
+    }
+
+    /// A set of the items of an iterator, each of which is to be below `ATOMIC_MAX_EID`.
+    ///
+    /// It stops at the first item that is not, and where memory is refused: then no later item is drawn. Where there is no memory for the empty set itself, it answers `Memory` at place 0 and draws no item. It is `FromIterator` of the original.
+    pub fn from_indices<U: IntoIterator<Item = Index> + Drop>(
+        alloc: Global,
+        iter: U,
+    ) -> Result<AtomicBitSet, BuildError>
+        requires { IsFiniteIterable U.into_iter_gives U.IntoIter.can_next U.IntoIter.remaining iter }
+        ensures all { IfOk result (λ set. TakesAll U.into_iter_gives U.IntoIter.next_gives (λ i. i) iter (λ _. false) (has set)) }
+        ensures stops { IfErr result (λ error. (error ≡ Memory 0) ⊎ Refuses U.into_iter_gives U.IntoIter.next_gives (λ i. i) iter error) }
+    {
+        build::from_indices(empty_set(alloc)?, iter)
+    }
+
+    /// A set of the items that an iterator gives by reference, as `from_indices` makes it.
+    pub fn from_index_refs<'a, U: IntoIterator<Item = &'a Index> + Drop>(
+        alloc: Global,
+        iter: U,
+    ) -> Result<AtomicBitSet, BuildError>
+        requires { IsFiniteIterable U.into_iter_gives U.IntoIter.can_next U.IntoIter.remaining iter }
+        ensures all { IfOk result (λ set. TakesAll U.into_iter_gives U.IntoIter.next_gives (λ i. i.now) iter (λ _. false) (has set)) }
+        ensures stops { IfErr result (λ error. (error ≡ Memory 0) ⊎ Refuses U.into_iter_gives U.IntoIter.next_gives (λ i. i.now) iter error) }
+    {
+        build::from_index_refs(empty_set(alloc)?, iter)
+    }
+}

@@ -1,0 +1,125 @@
+//! Operators over atomic sets held alone: `!`, `&`, `|` and `^` make a virtual set of their operands, and `into_iter` a walk.
+ghost use Rattle.std.specs.Prelude.{◌≡◌};
+ghost use Rattle.hibitset_base.specs.Walk.{Starts};
+ghost use Rattle.hibitset_atomic.specs.AtomicBitSet.{has, word_of};
+
+use crate::atomic::AtomicBitSet;
+use hibitset_base::iter::BitIter;
+use hibitset_base::like::BitSetLike;
+use hibitset_base::util::Index;
+use hibitset_base::virt::{BitSetAnd, BitSetNot, BitSetOr, BitSetXor};
+use std::ops::{BitAnd, BitOr, BitXor, Not};
+
+impl Not for AtomicBitSet {
+    type Output = BitSetNot<Self>;
+
+    ghost not_gives = { λ set result. result.0 ≡ set };
+
+    #[inline]
+    fn not(self) -> BitSetNot<Self> {
+        BitSetNot(self)
+    }
+}
+
+impl<T: BitSetLike> BitAnd<T> for AtomicBitSet {
+    type Output = BitSetAnd<Self, T>;
+
+    ghost bitand_gives = { λ set other result. (result.0 ≡ set) × (result.1 ≡ other) };
+
+    #[inline]
+    fn bitand(self, rhs: T) -> BitSetAnd<Self, T> {
+        BitSetAnd(self, rhs)
+    }
+}
+
+impl<T: BitSetLike> BitOr<T> for AtomicBitSet {
+    type Output = BitSetOr<Self, T>;
+
+    ghost bitor_gives = { λ set other result. (result.0 ≡ set) × (result.1 ≡ other) };
+
+    #[inline]
+    fn bitor(self, rhs: T) -> BitSetOr<Self, T> {
+        BitSetOr(self, rhs)
+    }
+}
+
+impl<T: BitSetLike> BitXor<T> for AtomicBitSet {
+    type Output = BitSetXor<Self, T>;
+
+    ghost bitxor_gives = { λ set other result. (result.0 ≡ set) × (result.1 ≡ other) };
+
+    #[inline]
+    fn bitxor(self, rhs: T) -> BitSetXor<Self, T> {
+        BitSetXor(self, rhs)
+    }
+}
+
+impl IntoIterator for AtomicBitSet {
+    type Item = Index;
+
+    type IntoIter = BitIter<AtomicBitSet>;
+
+    ghost into_iter_gives = { Starts has word_of };
+
+    #[inline]
+    fn into_iter(self) -> BitIter<AtomicBitSet> {
+        self.iter()
+    }
+}
+
+impl<'a> Not for &'a AtomicBitSet {
+    type Output = BitSetNot<Self>;
+
+    ghost not_gives = { λ set result. result.0 ≡ set };
+
+    #[inline]
+    fn not(self) -> BitSetNot<Self> {
+        BitSetNot(self)
+    }
+}
+
+impl<'a, T: BitSetLike> BitAnd<T> for &'a AtomicBitSet {
+    type Output = BitSetAnd<Self, T>;
+
+    ghost bitand_gives = { λ set other result. (result.0 ≡ set) × (result.1 ≡ other) };
+
+    #[inline]
+    fn bitand(self, rhs: T) -> BitSetAnd<Self, T> {
+        BitSetAnd(self, rhs)
+    }
+}
+
+impl<'a, T: BitSetLike> BitOr<T> for &'a AtomicBitSet {
+    type Output = BitSetOr<Self, T>;
+
+    ghost bitor_gives = { λ set other result. (result.0 ≡ set) × (result.1 ≡ other) };
+
+    #[inline]
+    fn bitor(self, rhs: T) -> BitSetOr<Self, T> {
+        BitSetOr(self, rhs)
+    }
+}
+
+impl<'a, T: BitSetLike> BitXor<T> for &'a AtomicBitSet {
+    type Output = BitSetXor<Self, T>;
+
+    ghost bitxor_gives = { λ set other result. (result.0 ≡ set) × (result.1 ≡ other) };
+
+    #[inline]
+    fn bitxor(self, rhs: T) -> BitSetXor<Self, T> {
+        BitSetXor(self, rhs)
+    }
+}
+
+impl<'a> IntoIterator for &'a AtomicBitSet {
+    type Item = Index;
+
+    type IntoIter = BitIter<Self>;
+
+    ghost into_iter_gives = { Starts (λ set. has set.now) (λ set. word_of set.now) };
+
+    #[inline]
+    fn into_iter(self) -> BitIter<Self> {
+        self.iter()
+    }
+}

@@ -1,0 +1,141 @@
+//! Sets made of the items of an iterator, or extended by them: one text for every set that keeps its words.
+ghost use Rattle.std.specs.Prelude.{◌≡◌, ℕ, ◌<◌, ◌≤◌, ◌==◌, ◌||◌, false, Some, OnOk, OnErr, IfOk, IfErr};
+ghost use Rattle.std.specs.Iterator.{IsFiniteIterable};
+ghost use Rattle.hibitset_base.specs.Building.{IsRefusalBelow, RefusesBelow, TakesAllBelow, StopsAtRefusedBelow, text_of};
+
+use crate::like::BitSetLike;
+use crate::util::Index;
+use std::alloc::AllocError;
+use std::error::Error;
+use std::fmt;
+
+/// Why an item of an iterator was not added.
+///
+/// Places count the items from 0, and stay at `usize::MAX` once there.
+#[derive(Clone, Copy, Debug, PartialEq, Eq)]
+pub enum BuildError {
+    /// The item at `place` is `index`, which the range of the set does not have.
+    OutOfRange { place: usize, index: Index },
+    /// There was no memory for the item at `place`.
+    Memory { place: usize },
+}
+
+impl fmt::Display for BuildError {
+    ghost output = { λ error. Some (text_of error) };
+
+    fn fmt<W: fmt::Write>(&self, f: &mut fmt::Formatter<W>) -> fmt::Result {
+        match self {
+            BuildError::OutOfRange { place, index } => {
+                write!(f, "index {index} at place {place} is out of range")
+            }
+            BuildError::Memory { place } => write!(f, "no memory for the index at place {place}"),
+        }
+    }
+}
+
+impl Error for BuildError {}
+
+/// A set that indices below a bound are added to, one by one.
+#[doc(hidden)]
+pub trait Extendable: BitSetLike {
+    // The bound below which an index can be added.
+    ghost RANGE: { ℕ };
+
+    // What no addition makes smaller.
+    ghost size: { Self → ℕ };
+
+    /// The bound below which an index can be added.
+    const RANGE: usize;
+
+    /// Adds an index below the bound. Where memory is refused the members stay.
+    fn add_index(&mut self, index: Index) -> Result<bool, AllocError>
+        requires { index < RANGE }
+        ensures added { OnOk result ((i : ℕ) → Self.holds self.new i ≡ (Self.holds self.old i || i == index)) }
+        ensures refused { OnErr result ((i : ℕ) → Self.holds self.new i ≡ Self.holds self.old i) }
+        ensures keeps { size self.old ≤ size self.new };
+}
+
+// Adds the item at `place`, if it is in range and there is memory for it.
+#[inline]
+fn add_item<T: Extendable>(set: &mut T, place: usize, index: Index) -> Result<(), BuildError>
+    ensures added { OnOk result ((i : ℕ) → T.holds set.new i ≡ (T.holds set.old i || index == i)) }
+    ensures in_range { OnOk result (index < T.RANGE) }
+    ensures refused { IfErr result (λ error. IsRefusalBelow T.RANGE error place index × ((i : ℕ) → T.holds set.new i ≡ T.holds set.old i)) }
+    ensures keeps { T.size set.old ≤ T.size set.new }
+{
+    if index as usize >= T::RANGE {
+        return Err(BuildError::OutOfRange { place, index });
+    }
+    match set.add_index(index) {
+        Ok(_) => Ok(()),
+        Err(_) => Err(BuildError::Memory { place }),
+    }
+}
+
+/// Adds the items of an iterator, up to the first that is refused.
+#[doc(hidden)]
+pub fn extend_indices<T: Extendable, U: IntoIterator<Item = Index>>(
+    set: &mut T,
+    iter: U,
+) -> Result<(), BuildError>
+    requires { IsFiniteIterable U.into_iter_gives U.IntoIter.can_next U.IntoIter.remaining iter }
+    ensures all { OnOk result (TakesAllBelow T.RANGE U.into_iter_gives U.IntoIter.next_gives (λ i. i) iter (T.holds set.old) (T.holds set.new)) }
+    ensures stops { IfErr result (StopsAtRefusedBelow T.RANGE U.into_iter_gives U.IntoIter.next_gives (λ i. i) iter (T.holds set.old) (T.holds set.new)) }
+    ensures keeps { T.size set.old ≤ T.size set.new }
+{
+    let mut place = 0usize;
+    for index in iter {
+        add_item(set, place, index)?;
+        place = place.saturating_add(1);
+    }
+    Ok(())
+}
+
+/// Adds the items that an iterator gives by reference, as `extend_indices` does.
+#[doc(hidden)]
+pub fn extend_index_refs<'a, T: Extendable, U: IntoIterator<Item = &'a Index>>(
+    set: &mut T,
+    iter: U,
+) -> Result<(), BuildError>
+    requires { IsFiniteIterable U.into_iter_gives U.IntoIter.can_next U.IntoIter.remaining iter }
+    ensures all { OnOk result (TakesAllBelow T.RANGE U.into_iter_gives U.IntoIter.next_gives (λ i. i.now) iter (T.holds set.old) (T.holds set.new)) }
+    ensures stops { IfErr result (StopsAtRefusedBelow T.RANGE U.into_iter_gives U.IntoIter.next_gives (λ i. i.now) iter (T.holds set.old) (T.holds set.new)) }
+    ensures keeps { T.size set.old ≤ T.size set.new }
+{
+    let mut place = 0usize;
+    for index in iter {
+        add_item(set, place, *index)?;
+        place = place.saturating_add(1);
+    }
+    Ok(())
+}
+
+/// A set without members, extended by the items of an iterator.
+#[doc(hidden)]
+pub fn from_indices<T: Extendable, U: IntoIterator<Item = Index>>(
+    mut set: T,
+    iter: U,
+) -> Result<T, BuildError>
+    requires finite { IsFiniteIterable U.into_iter_gives U.IntoIter.can_next U.IntoIter.remaining iter }
+    requires empty { (i : ℕ) → T.holds set i ≡ false }
+    ensures all { IfOk result (λ made. TakesAllBelow T.RANGE U.into_iter_gives U.IntoIter.next_gives (λ i. i) iter (λ _. false) (T.holds made)) }
+    ensures stops { IfErr result (RefusesBelow T.RANGE U.into_iter_gives U.IntoIter.next_gives (λ i. i) iter) }
+{
+    extend_indices(&mut set, iter)?;
+    Ok(set)
+}
+
+/// A set without members, extended by the items that an iterator gives by reference.
+#[doc(hidden)]
+pub fn from_index_refs<'a, T: Extendable, U: IntoIterator<Item = &'a Index>>(
+    mut set: T,
+    iter: U,
+) -> Result<T, BuildError>
+    requires finite { IsFiniteIterable U.into_iter_gives U.IntoIter.can_next U.IntoIter.remaining iter }
+    requires empty { (i : ℕ) → T.holds set i ≡ false }
+    ensures all { IfOk result (λ made. TakesAllBelow T.RANGE U.into_iter_gives U.IntoIter.next_gives (λ i. i.now) iter (λ _. false) (T.holds made)) }
+    ensures stops { IfErr result (RefusesBelow T.RANGE U.into_iter_gives U.IntoIter.next_gives (λ i. i.now) iter) }
+{
+    extend_index_refs(&mut set, iter)?;
+    Ok(set)
+}
