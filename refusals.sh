@@ -1,22 +1,24 @@
 #!/usr/bin/env bash
 # Runs the tests that speak of refused memory with a request refused in their middle, where they compare what is left.
 set -euo pipefail
-cd "$(dirname "$0")/crates/hibitset"
+cd "$(dirname "$0")/crates"
 
-# refused REQUEST TEST..: the tests pass where that request of each is refused
+# refused CRATE REQUEST TEST..: the crate's tests pass where that request of each is refused
 refused() {
-    local request=$1 out
-    shift
-    out=$(rt try --test --fail-alloc "$request" 2>&1 </dev/null || true)
+    local crate=$1 request=$2 out
+    shift 2
+    out=$(cd "$crate" && rt try --test --fail-alloc "$request" 2>&1 </dev/null || true)
     for name in "$@"; do
         if grep -qF "test tests::$name ... ok" <<<"$out"; then
-            echo "$name, request $request refused: ok"
+            echo "$crate: $name, request $request refused: ok"
         else
-            echo "$name, request $request refused: FAILED"
+            echo "$crate: $name, request $request refused: FAILED"
             exit 1
         fi
     done
 }
 
-refused 4 life::room_made_before building::extending_with_little_memory
-refused 7 assignments::a_union_that_grows
+refused hibitset 4 life::room_made_before building::extending_with_little_memory
+refused hibitset 7 assignments::a_union_that_grows
+refused hibitset_atomic 4 held::refused building::building_without_an_empty_set
+refused hibitset_atomic 6 held::refused building::extending_with_little_memory

@@ -1,4 +1,4 @@
-//! What the original needs of its dependency `atom`: a box that is set once. The bench measures nothing that uses it.
+//! What the original needs of its dependency `atom`: a box that is set once. The original's atomic set keeps its blocks in such boxes.
 use std::ops::Deref;
 use std::ptr;
 use std::sync::atomic::{AtomicPtr, Ordering};

@@ -241,6 +241,25 @@ fn builds(bench: &mut Bench, lists: [(&str, &[u32]); 2]) {
     }
 }
 
+/// Atomic sets held alone.
+fn atomics(bench: &mut Bench, random: &[u32], absent: &[u32], ascending: &[u32], walked: &[(&Sample, f64)]) {
+    bench.part("an atomic set held alone (ns per index)");
+    for (name, ids) in [("atomic add, 1M random below 2^24, from empty", random), ("atomic add, 1M ascending, from empty", ascending)] {
+        bench.run(Row::new(name, ids.len(), 0.5, both!(atomic_add, ids)));
+    }
+    bench.run(Row::new("atomic add again what is there", random.len(), 0.5, both!(atomic_add_again, random)));
+    bench.run(Row::new("atomic contains, hit", random.len(), 0.7, both!(atomic_contains, random, random)));
+    bench.run(Row::new("atomic contains, miss", absent.len(), 0.7, both!(atomic_contains, random, absent)));
+    bench.run(Row::new("atomic remove and add, 1M random", 2 * random.len(), 0.7, both!(atomic_renew, random)));
+    for (sample, aim) in walked {
+        let ids = &sample.ids[..];
+        bench.run(Row::new(format!("atomic walk, {}", sample.name), ids.len(), *aim, both!(atomic_walk, ids)));
+    }
+    bench.part("clear of an atomic set (ns per call)");
+    let ids = &walked[0].0.ids[..];
+    bench.run(Row::new("atomic clear and add one", 1, 0.5, both!(atomic_clear, ids)));
+}
+
 fn main() {
     let args: Vec<String> = std::env::args().collect();
     let number = |at: usize, default: u64| args.get(at).map_or(default, |n| n.parse().expect("a number"));
@@ -294,5 +313,6 @@ fn main() {
     drains(&mut bench, &[&half, &ten, &one, &clusters]);
     whole(&mut bench, &one, &[&half, &ten, &one, &few]);
     builds(&mut bench, [("1M random", &random), ("1M ascending", &ascending)]);
+    atomics(&mut bench, &random, &absent, &ascending, &[(&dense, 0.4), (&half, 0.6), (&ten, 0.6), (&one, 0.6), (&few, 0.6)]);
     bench.print();
 }

@@ -3,6 +3,7 @@
 //! Each makes its sets of the indices that it is given, does its work `times` times, and answers a sum of what came out, by which the driver compares it with the same kernel over another crate. Nothing else is promised of the sum. Indices out of range are left out. Where memory is refused the sum is `u64::MAX`.
 #![tactic(auto)]
 
+mod atomic;
 mod change;
 mod compare;
 mod copies;
@@ -181,4 +182,45 @@ pub extern "C" fn hibitset_bench_contains_set(
     times: usize,
 ) -> u64 {
     compare::contains_set(alloc, a, b, times).unwrap_or(u64::MAX)
+}
+
+/// The kernel `add` over a set that can be shared.
+#[unsafe(no_mangle)]
+pub extern "C" fn hibitset_bench_atomic_add(alloc: Global, ids: &[u32], times: usize) -> u64 {
+    atomic::add(alloc, ids, times).unwrap_or(u64::MAX)
+}
+
+/// The kernel `add_again` over a set that can be shared.
+#[unsafe(no_mangle)]
+pub extern "C" fn hibitset_bench_atomic_add_again(alloc: Global, ids: &[u32], times: usize) -> u64 {
+    atomic::add_again(alloc, ids, times).unwrap_or(u64::MAX)
+}
+
+/// The kernel `walk` over a set that can be shared.
+#[unsafe(no_mangle)]
+pub extern "C" fn hibitset_bench_atomic_walk(alloc: Global, ids: &[u32], times: usize) -> u64 {
+    atomic::walk(alloc, ids, times).unwrap_or(u64::MAX)
+}
+
+/// The kernel `clear` over a set that can be shared.
+#[unsafe(no_mangle)]
+pub extern "C" fn hibitset_bench_atomic_clear(alloc: Global, ids: &[u32], times: usize) -> u64 {
+    atomic::clear(alloc, ids, times).unwrap_or(u64::MAX)
+}
+
+/// The kernel `renew` over a set that can be shared.
+#[unsafe(no_mangle)]
+pub extern "C" fn hibitset_bench_atomic_renew(alloc: Global, ids: &[u32], times: usize) -> u64 {
+    atomic::renew(alloc, ids, times).unwrap_or(u64::MAX)
+}
+
+/// The kernel `contains` over a set that can be shared.
+#[unsafe(no_mangle)]
+pub extern "C" fn hibitset_bench_atomic_contains(
+    alloc: Global,
+    ids: &[u32],
+    asked: &[u32],
+    times: usize,
+) -> u64 {
+    atomic::contains(alloc, ids, asked, times).unwrap_or(u64::MAX)
 }

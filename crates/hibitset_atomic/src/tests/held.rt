@@ -1,7 +1,7 @@
 //! A set that can be shared, held alone.
 use crate::AtomicBitSet;
-use crate::tests::list;
-use hibitset_base::util::MAX_EID;
+use crate::atomic::ATOMIC_MAX_EID;
+use crate::tests::{list, set_of};
 use hibitset_base::{BitSetAnd, BitSetLike, DrainableBitSet, Index};
 use std::alloc::{AllocError, Global};
 use std::test::Fail;
@@ -16,7 +16,7 @@ fn atomic_of(
     let mut set = AtomicBitSet::new(alloc)?;
     let mut id = first;
     for _ in 0..count {
-        if (id as usize) < MAX_EID {
+        if (id as usize) < ATOMIC_MAX_EID {
             set.add(id)?;
         }
         id = id.wrapping_add(step);
@@ -100,12 +100,65 @@ fn refused(rt: HostRuntime) -> Result<(), Fail> {
     }
     assert!(rt; !set.add(4095)?);
     if set.add(4096).is_err() {
-        assert!(rt; !set.contains(4096) && set.contains(5) && set.contains(4095));
+        assert_eq!(rt; list(rt.alloc(), &set)?.as_slice(), [5, 4095].as_slice());
+        assert!(rt; !set.contains(4096));
         assert!(rt; !set.add(4096)?);
     }
     assert_eq!(rt;
         list(rt.alloc(), &set)?.as_slice(),
         [5, 4095, 4096].as_slice()
     );
+    Ok(())
+}
+
+// One block has lost its members, and the others were never made.
+#[test]
+fn blocks_without_bits_print(rt: HostRuntime) -> Result<(), Fail> {
+    let mut set = set_of(rt.alloc(), &[5])?;
+    assert!(rt; set.remove(5));
+    let text = format!(in rt.alloc(); "{set:?}")?;
+    assert!(rt; text.as_str().starts_with("AtomicBitSet"));
+    Ok(())
+}
+
+#[test]
+fn operators_of_references(rt: HostRuntime) -> Result<(), Fail> {
+    let a = set_of(rt.alloc(), &[1, 2, 70])?;
+    let b = set_of(rt.alloc(), &[2, 70, 5000])?;
+    assert_eq!(rt; list(rt.alloc(), &a & &b)?.as_slice(), [2, 70].as_slice());
+    assert_eq!(rt;
+        list(rt.alloc(), &a | &b)?.as_slice(),
+        [1, 2, 70, 5000].as_slice()
+    );
+    assert_eq!(rt; list(rt.alloc(), &a ^ &b)?.as_slice(), [1, 5000].as_slice());
+    let others = !&a;
+    assert!(rt; !others.contains(70) && others.contains(71));
+    let mut items = Vec::new(rt.alloc());
+    for id in &a {
+        items.push(id)?;
+    }
+    assert_eq!(rt; items.as_slice(), [1, 2, 70].as_slice());
+    Ok(())
+}
+
+#[test]
+fn operators_of_owned_sets(rt: HostRuntime) -> Result<(), Fail> {
+    let b = set_of(rt.alloc(), &[2, 70, 5000])?;
+    let both = set_of(rt.alloc(), &[1, 2, 70])? & &b;
+    assert_eq!(rt; list(rt.alloc(), both)?.as_slice(), [2, 70].as_slice());
+    let either = set_of(rt.alloc(), &[1, 2])? | &b;
+    assert_eq!(rt;
+        list(rt.alloc(), either)?.as_slice(),
+        [1, 2, 70, 5000].as_slice()
+    );
+    let one = set_of(rt.alloc(), &[1, 2])? ^ &b;
+    assert_eq!(rt; list(rt.alloc(), one)?.as_slice(), [1, 70, 5000].as_slice());
+    let others = !set_of(rt.alloc(), &[1, 2])?;
+    assert!(rt; !others.contains(2) && others.contains(3));
+    let mut items = Vec::new(rt.alloc());
+    for id in b {
+        items.push(id)?;
+    }
+    assert_eq!(rt; items.as_slice(), [2, 70, 5000].as_slice());
     Ok(())
 }

@@ -1,0 +1,105 @@
+//! Atomic sets made of the items of an iterator.
+use crate::AtomicBitSet;
+use crate::tests::{list, set_of};
+use hibitset_base::BuildError;
+use std::test::Fail;
+
+#[test]
+fn building(rt: HostRuntime) -> Result<(), Fail> {
+    let set = AtomicBitSet::from_indices(rt.alloc(), [9u32, 3, 16777215, 3].iter().copied())?;
+    assert_eq!(rt;
+        list(rt.alloc(), &set)?.as_slice(),
+        [3, 9, 16777215].as_slice()
+    );
+    let refs = AtomicBitSet::from_index_refs(rt.alloc(), &[5u32, 5, 3])?;
+    assert_eq!(rt; list(rt.alloc(), &refs)?.as_slice(), [3, 5].as_slice());
+    let other = AtomicBitSet::from_indices(rt.alloc(), &refs)?;
+    assert_eq!(rt; list(rt.alloc(), &other)?.as_slice(), [3, 5].as_slice());
+    Ok(())
+}
+
+#[test]
+fn building_past_the_range(rt: HostRuntime) {
+    match AtomicBitSet::from_indices(rt.alloc(), [16777216u32].iter().copied()) {
+        Ok(_) => assert!(rt; false),
+        Err(error) => assert_eq!(rt;
+            error,
+            BuildError::OutOfRange {
+                place: 0,
+                index: 16777216
+            }
+        ),
+    }
+    match AtomicBitSet::from_index_refs(rt.alloc(), &[7u32, 4294967295]) {
+        Ok(_) => assert!(rt; false),
+        Err(error) => assert_eq!(rt;
+            error,
+            BuildError::OutOfRange {
+                place: 1,
+                index: 4294967295
+            }
+        ),
+    }
+}
+
+#[test]
+fn extending_past_the_range(rt: HostRuntime) -> Result<(), Fail> {
+    let items = [3u32, 9, 16777216, 4];
+    let mut set = AtomicBitSet::new(rt.alloc())?;
+    let mut iter = items.iter().copied();
+    let ended = set.extend_indices(&mut iter);
+    assert_eq!(rt;
+        ended,
+        Err(BuildError::OutOfRange {
+            place: 2,
+            index: 16777216
+        })
+    );
+    assert_eq!(rt; iter.next(), Some(4));
+    assert_eq!(rt; list(rt.alloc(), &set)?.as_slice(), [3, 9].as_slice());
+    let ended = set.extend_index_refs(&items);
+    assert_eq!(rt;
+        ended,
+        Err(BuildError::OutOfRange {
+            place: 2,
+            index: 16777216
+        })
+    );
+    assert_eq!(rt; set.extend_indices(10..12), Ok(()));
+    assert_eq!(rt;
+        list(rt.alloc(), &set)?.as_slice(),
+        [3, 9, 10, 11].as_slice()
+    );
+    Ok(())
+}
+
+// Where memory is refused, the items before that place are in. A run under failing allocations takes the other branch.
+#[test]
+fn extending_with_little_memory(rt: HostRuntime) -> Result<(), Fail> {
+    let mut set = set_of(rt.alloc(), &[5])?;
+    match set.extend_indices([6u32, 5000000, 7].iter().copied()) {
+        Ok(()) => assert_eq!(rt;
+            list(rt.alloc(), &set)?.as_slice(),
+            [5, 6, 7, 5000000].as_slice()
+        ),
+        Err(error) => {
+            assert_eq!(rt; error, BuildError::Memory { place: 1 });
+            assert_eq!(rt; list(rt.alloc(), &set)?.as_slice(), [5, 6].as_slice());
+        }
+    }
+    Ok(())
+}
+
+// Where there is no memory for the empty set, no item is drawn.
+#[test]
+fn building_without_an_empty_set(rt: HostRuntime) -> Result<(), Fail> {
+    let mut items = 3u32..5;
+    match AtomicBitSet::from_indices(rt.alloc(), &mut items) {
+        Ok(set) => assert_eq!(rt; list(rt.alloc(), &set)?.as_slice(), [3, 4].as_slice()),
+        Err(error) => {
+            assert_eq!(rt; error, BuildError::Memory { place: 0 });
+            assert_eq!(rt; items.next(), Some(3));
+        }
+    }
+    Ok(())
+}
