@@ -8,7 +8,7 @@ use Rattle.std.proofs.lemmas.Nat.{one_shl}
 use Rattle.std.proofs.lemmas.Nat.Bits.{shr_and_one}
 use Rattle.atomic_table.specs.Table.{step, Me, Allows}
 use Rattle.hibitset_atomic.specs.declared.shared.view.View.{View}
-use Rattle.hibitset_atomic.specs.Lists.{Has}
+use Rattle.hibitset_atomic.specs.Lists.{Has, Distinct}
 use Rattle.hibitset_atomic.specs.Rule.{Gap, Lit, above, Knows, Settled, Holds, marks, seeing, reporting, Enters_at, Marks_at, Looks_at, Entered, Marked, Grew, together}
 use Rattle.hibitset_atomic.proofs.OrBits.{bit_cases, sets}
 use Rattle.hibitset_atomic.proofs.Marks.{has_marks, mark_of}
@@ -57,6 +57,10 @@ marked m n v w t = (grew_to (m / 64) (bit_or n (1 * 2 ^ (m % 64) % 1844674407370
 
 pub looked : (p n : ℕ) (v w : Me (Unit {0}) View) → Looks_at p v n w → Grew v w × (w.0.reports ≡ v.0.reports)
 looked p n v w t = (grew_to p n v w v.0 t.0 t.1 refl refl (λ x h. h), ap (λ (x : View). x.reports) t.1)
+
+-- a load tells a seat that its reports are each once
+pub looked_once : (p n : ℕ) (v w : Me (Unit {0}) View) → Looks_at p v n w → Distinct w.0.reports
+looked_once p n v w t = subst (λ (x : View). Distinct x.reports) (sym t.1) t.2.2.0.1
 
 pub look_stands : (m n : ℕ) (v w : Me (Unit {0}) View) → Looks_at (m / 64) v n w → bit_at n (m % 64) ≡ 1 → Has w.0.seen m
 look_stands m n v w t o = subst (λ x. Has x.seen m) (sym t.1) (has_left (marks (m / 64) n 64) v.0.seen m (has_marks (m / 64) n 64 m refl (omega arith) o))

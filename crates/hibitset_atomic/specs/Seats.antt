@@ -8,10 +8,10 @@ use Rattle.hibitset_atomic.specs.Rule.{Lit, Knows, Settled}
 unfoldable pub IsOld : SharedBitSet → ℕ → Type 0
 IsOld set i = (i < 16777216) × Lit set.table.shared.key.value.items i
 
-abbrev pub weight_of : Seat → ℕ
+unfoldable pub weight_of : Seat → ℕ
 weight_of s = s.weight
 
-abbrev pub reports_of : Seat → List ℕ
+unfoldable pub reports_of : Seat → List ℕ
 reports_of s = s.pass.me.0.reports
 
 -- the seat knows the index

@@ -1,18 +1,22 @@
 //! A set that threads add to.
+//!
+//! `AtomicBitSet::share` gives the set and a seat; `divide` gives seats for further threads, each of which adds and asks with its own; `join` puts seats together, and `settle` ends it. No call takes a lock or tries again: each is a fixed number of atomic steps, and each step is sequentially consistent.
 
-ghost use Rattle.std.specs.Prelude.{◌≡◌, ◌≢◌, ℕ, ◌+◌, ◌-◌, ◌/◌, ◌<◌, ◌≤◌, ◌⊎◌, true, false, [], ◌∷◌, ◌++◌, length, slice_index, IfOk, IfSome, IfNone, IfErr, ◌↔◌};
+ghost use Rattle.std.specs.Prelude.{◌≡◌, ◌≢◌, ℕ, ◌+◌, ◌-◌, ◌/◌, ◌<◌, ◌≤◌, ◌⊎◌, true, false, [], ◌∷◌, ◌++◌, length, slice_index, IsOk, IfOk, IfSome, IsNone, IfErr, ◌↔◌};
 ghost use Rattle.std.specs.Slots.{slots_items, slots_len, IsFull};
-ghost use Rattle.hibitset_atomic.specs.Lists.{Has, Apart};
-ghost use Rattle.hibitset_atomic.specs.AtomicBitSet.{word_of};
+ghost use Rattle.hibitset_atomic.specs.Lists.{Has, Apart, Distinct};
+ghost use Rattle.hibitset_atomic.specs.AtomicBitSet.{has, word_of};
 ghost use Rattle.hibitset_atomic.specs.Blocks.{HasRoom};
 ghost use Rattle.hibitset_atomic.specs.Row.{word_in_row};
+ghost use Rattle.hibitset_base.specs.Words.{IsSummed};
+ghost use Rattle.hibitset_base.specs.declared.util.TheConstants.{LAYERS, MAX_EID};
 ghost use Rattle.hibitset_atomic.specs.Seats.{IsOld, Came, Known, weight_of, reports_of};
 
 use crate::atomic::AtomicBitSet;
 use crate::shared::rule::{Halves, Unites};
 use crate::shared::steps::over;
 use atomic_table::{Closed, Table};
-use hibitset_base::like::BitSetLike;
+use hibitset_base::util::{Index, MAX_EID};
 use std::alloc::{AllocError, Global};
 use std::snapshot::Snapshot;
 
@@ -30,13 +34,13 @@ fn row_word(set: &AtomicBitSet, place: usize) -> u64
     ensures { result ≡ word_in_row (word_of set.now) place }
 {
     let word = if place < 262_144 {
-        set.layer0(place)
+        set.layers.layer0(place)
     } else if place < 266_240 {
-        set.layer1(place - 262_144)
+        set.layers.layer1(place - 262_144)
     } else if place < 266_304 {
-        set.layer2(place - 266_240)
+        set.layers.layer2(place - 266_240)
     } else {
-        set.layer3()
+        set.layers.layer3
     };
     word as u64
 }
@@ -69,10 +73,10 @@ fn fill(closed: &Closed<(), Global>, set: &mut AtomicBitSet)
 }
 
 impl AtomicBitSet {
-    ghost use Rattle.hibitset_atomic.specs.AtomicBitSet.{has};
-
-    /// The set for many threads, with a seat that has all shares. All words are made here; where memory is refused the set comes back.
-    #[tactic(auto, unfolding(crate::specs::Seats::Came, crate::specs::Seats::Known, crate::specs::Seats::IsOld))]
+    /// Hands the set over to many threads: the set that they add to, and its opening seat. The indices that were members are old from then on.
+    ///
+    /// The opening seat has all shares, weight 65,536, no reports, and knows nothing. All words of the four layers are made here, 2 MB, so that no call on the shared set needs memory until `settle`. Where that memory is refused, the set comes back unchanged.
+    #[tactic(auto, unfolding(crate::specs::Seats::Came, crate::specs::Seats::Known, crate::specs::Seats::IsOld, crate::specs::Seats::weight_of, crate::specs::Seats::reports_of))]
     pub fn share(self) -> Result<(SharedBitSet, Seat), AtomicBitSet>
         ensures back { IfErr result (λ set. set ≡ self) }
         ensures came { IfOk result (λ r. Came r.0 r.1) }
@@ -98,17 +102,20 @@ impl AtomicBitSet {
 }
 
 impl SharedBitSet {
-    ghost use Rattle.hibitset_atomic.specs.AtomicBitSet.{has};
-
-    /// False where this call's own exchange put the index into the seat's reports.
-    #[tactic(auto, unfolding(crate::specs::Seats::Came, crate::specs::Seats::Known, crate::specs::Seats::IsOld))]
-    pub fn add_atomic(&self, seat: &mut Seat, id: u32) -> bool
-        requires id { id < 16777216 }
+    /// Adds an index below `MAX_EID`, and tells whether it was there, as `AtomicBitSet::add_atomic` of the original does, which takes no seat.
+    ///
+    /// It answers false exactly where its own exchange put the index in, which is then the newest of the seat's reports; over all seats of a set this happens once for an index, and never for one that was there before `share`. When it returns, the seat knows the index: all four bits on the way to it stand, and stay.
+    ///
+    /// It reads those four bits first, and where they stand it writes nothing and answers true. It takes no memory and waits for nobody.
+    #[tactic(auto, unfolding(crate::specs::Seats::Came, crate::specs::Seats::Known, crate::specs::Seats::IsOld, crate::specs::Seats::weight_of, crate::specs::Seats::reports_of))]
+    pub fn add_atomic(&self, seat: &mut Seat, id: Index) -> bool
+        requires id { id < MAX_EID }
         requires came { Came self.now seat.old }
         ensures came { Came self.now seat.new × (weight_of seat.new ≡ weight_of seat.old) }
         ensures known { Known seat.new id × ((i : ℕ) → Known seat.old i → Known seat.new i) }
         ensures there { result ≡ true → reports_of seat.new ≡ reports_of seat.old }
         ensures new { result ≡ false → (reports_of seat.new ≡ id ∷ reports_of seat.old) × ¬ IsOld self.now id × ¬ Known seat.old id }
+        ensures once { result ≡ false → ¬ Has (reports_of seat.old) id }
     {
         if self.contains(seat, id) {
             return true;
@@ -116,10 +123,10 @@ impl SharedBitSet {
         self.exchange(seat, id)
     }
 
-    // The four exchanges.
-    #[tactic(auto, unfolding(crate::specs::Seats::Came, crate::specs::Seats::Known, crate::specs::Seats::IsOld))]
-    fn exchange(&self, seat: &mut Seat, id: u32) -> bool
-        requires id { id < 16777216 }
+    // The four exchanges, from layer 0 up, for an index that is neither old nor known to the seat.
+    #[tactic(auto, unfolding(crate::specs::Seats::Came, crate::specs::Seats::Known, crate::specs::Seats::IsOld, crate::specs::Seats::weight_of, crate::specs::Seats::reports_of))]
+    fn exchange(&self, seat: &mut Seat, id: Index) -> bool
+        requires id { id < MAX_EID }
         requires came { Came self.now seat.old }
         requires new { ¬ IsOld self.now id × ¬ Known seat.old id }
         ensures came { Came self.now seat.new × (weight_of seat.new ≡ weight_of seat.old) }
@@ -134,15 +141,18 @@ impl SharedBitSet {
         there
     }
 
-    #[tactic(auto, unfolding(crate::specs::Seats::Came, crate::specs::Seats::Known, crate::specs::Seats::IsOld))]
-    pub fn contains(&self, seat: &mut Seat, id: u32) -> bool
+    /// Tells whether an index is there, as `AtomicBitSet::contains` of the original does, which takes no seat.
+    ///
+    /// It is true of each index from before `share`, and of each that the seat knows; of another it is true only where all four bits on the way to it were seen to stand, and the seat knows it from then on. It is false from `MAX_EID` on. It takes no memory and waits for nobody.
+    #[tactic(auto, unfolding(crate::specs::Seats::Came, crate::specs::Seats::Known, crate::specs::Seats::IsOld, crate::specs::Seats::weight_of, crate::specs::Seats::reports_of))]
+    pub fn contains(&self, seat: &mut Seat, id: Index) -> bool
         requires came { Came self.now seat.old }
         ensures came { Came self.now seat.new × (weight_of seat.new ≡ weight_of seat.old) × (reports_of seat.new ≡ reports_of seat.old) }
         ensures known { (i : ℕ) → Known seat.old i → Known seat.new i }
-        ensures yes { result ≡ true → (id < 16777216) × Known seat.new id }
+        ensures yes { result ≡ true → (id < MAX_EID) × Known seat.new id }
         ensures no { result ≡ false → ¬ IsOld self.now id × ¬ Known seat.new id }
     {
-        if id >= 16777216 {
+        if id as usize >= MAX_EID {
             return false;
         }
         if !self.stands(&mut seat.pass, id) {
@@ -160,13 +170,17 @@ impl SharedBitSet {
         self.stands(&mut seat.pass, mark)
     }
 
-    /// The second part is none only at weight 1.
-    #[tactic(auto, unfolding(crate::specs::Seats::Came, crate::specs::Seats::Known, crate::specs::Seats::IsOld))]
+    /// Makes two seats of one: of weight w, the first has weight w - w / 2 and the second w / 2, rounded down. There is no second exactly where w is 1.
+    ///
+    /// The reports stay with the first, and both know what the seat knew. It takes no memory and waits for nobody.
+    #[tactic(auto, unfolding(crate::specs::Seats::Came, crate::specs::Seats::Known, crate::specs::Seats::IsOld, crate::specs::Seats::weight_of, crate::specs::Seats::reports_of))]
     pub fn divide(&self, seat: Seat) -> (Seat, Option<Seat>)
         requires { Came self.now seat }
-        ensures kept { Came self.now result.0 × (reports_of result.0 ≡ reports_of seat) × ((i : ℕ) → Known seat i → Known result.0 i) × (weight_of result.0 ≡ weight_of seat - weight_of seat / 2) }
-        ensures given { IfSome result.1 (λ s. Came self.now s × (reports_of s ≡ []) × ((i : ℕ) → Known seat i → Known s i) × (weight_of s ≡ weight_of seat / 2)) }
-        ensures none { IfNone result.1 (weight_of seat ≡ 1) }
+        ensures came { Came self.now result.0 × IfSome result.1 (λ second. Came self.now second) }
+        ensures weights { (weight_of result.0 ≡ weight_of seat - weight_of seat / 2) × IfSome result.1 (λ second. weight_of second ≡ weight_of seat / 2) }
+        ensures reports { (reports_of result.0 ≡ reports_of seat) × IfSome result.1 (λ second. reports_of second ≡ []) }
+        ensures known { (i : ℕ) → Known seat i → Known result.0 i × IfSome result.1 (λ second. Known second i) }
+        ensures one { IsNone result.1 ↔ (weight_of seat ≡ 1) }
     {
         let Seat { mut pass, weight } = seat;
         if weight == 1 {
@@ -186,13 +200,19 @@ impl SharedBitSet {
         )
     }
 
-    #[tactic(auto, unfolding(crate::specs::Seats::Came, crate::specs::Seats::Known, crate::specs::Seats::IsOld))]
+    /// Makes one seat of two seats of this set: their weights, their reports and what they know, together.
+    ///
+    /// No index is reported by both, none that was there before `share` is reported, and the weight is at most 65,536. It takes no memory and waits for nobody.
+    #[tactic(auto, unfolding(crate::specs::Seats::Came, crate::specs::Seats::Known, crate::specs::Seats::IsOld, crate::specs::Seats::weight_of, crate::specs::Seats::reports_of))]
     pub fn join(&self, a: Seat, b: Seat) -> Seat
         requires { Came self.now a × Came self.now b }
-        ensures joined { Came self.now result × (reports_of result ≡ reports_of a ++ reports_of b) × (weight_of result ≡ weight_of a + weight_of b) }
-        ensures known { (i : ℕ) → Known a i ⊎ Known b i → Known result i }
-        ensures apart { Apart (reports_of a) (reports_of b) × (weight_of a + weight_of b ≤ 65536) }
+        ensures came { Came self.now result }
+        ensures weight { (weight_of result ≡ weight_of a + weight_of b) × (weight_of a + weight_of b ≤ 65536) }
+        ensures reports { reports_of result ≡ reports_of a ++ reports_of b }
+        ensures apart { Apart (reports_of a) (reports_of b) }
+        ensures once { Distinct (reports_of result) }
         ensures honest { (i : ℕ) → Has (reports_of result) i → ¬ IsOld self.now i }
+        ensures known { (i : ℕ) → Known a i ⊎ Known b i → Known result i }
     {
         let Seat { mut pass, weight } = a;
         let Seat {
@@ -207,17 +227,19 @@ impl SharedBitSet {
         }
     }
 
-    /// The set held alone again. It has the indices from before `share` and those that the seat knows or reported; with a seat that has all shares, it has no others.
+    /// The set held alone again, with exact summaries. It has each index from before `share`, and each that the seat knows or reported; with a whole seat it has no others, so it then has exactly the old and the reported ones.
     ///
-    /// Where memory is refused, both come back.
-    #[tactic(auto, unfolding(crate::specs::Seats::Came, crate::specs::Seats::Known, crate::specs::Seats::IsOld))]
+    /// It is refused for memory alone, which it takes first: then both come back unchanged, and it can be called again. A seat that was dropped took its shares with it, so no seat is whole after that, and what only that seat reported may be there or not as far as the contract says.
+    #[tactic(auto, unfolding(crate::specs::Seats::Came, crate::specs::Seats::Known, crate::specs::Seats::IsOld, crate::specs::Seats::weight_of, crate::specs::Seats::reports_of))]
     pub fn settle(self, seat: Seat) -> Result<AtomicBitSet, (SharedBitSet, Seat)>
         requires { Came self seat }
         ensures back { IfErr result (λ r. (r.0 ≡ self) × (r.1 ≡ seat)) }
+        ensures exact { IfOk result (λ set. IsSummed LAYERS (word_of set)) }
         ensures old { IfOk result (λ set. (i : ℕ) → IsOld self i → has set i ≡ true) }
         ensures known { IfOk result (λ set. (i : ℕ) → Known seat i → has set i ≡ true) }
         ensures reported { IfOk result (λ set. (i : ℕ) → Has (reports_of seat) i → has set i ≡ true) }
         ensures whole { IfOk result (λ set. weight_of seat ≡ 65536 → (i : ℕ) → has set i ≡ true → IsOld self i ⊎ Has (reports_of seat) i) }
+        ensures once { IsOk result → Distinct (reports_of seat) × ((i : ℕ) → Has (reports_of seat) i → ¬ IsOld self i) }
     {
         let Ok(mut set) = AtomicBitSet::with_room(self.alloc) else {
             return Err((self, seat));
@@ -232,12 +254,17 @@ impl SharedBitSet {
 }
 
 impl Seat {
+    /// How many of the 65,536 shares of its set the seat has: at least one.
+    #[tactic(auto, unfolding(crate::specs::Seats::weight_of))]
     pub fn weight(&self) -> u32
-        ensures { result ≡ weight_of self.now }
+        ensures weight { result ≡ weight_of self.now }
+        ensures some { (0 < result) × (result ≤ 65536) }
     {
         self.weight
     }
 
+    /// Tells whether the seat has all shares, so that no other seat of its set is left.
+    #[tactic(auto, unfolding(crate::specs::Seats::weight_of))]
     pub fn is_whole(&self) -> bool
         ensures yes { result ≡ true → weight_of self.now ≡ 65536 }
         ensures no { result ≡ false → weight_of self.now ≢ 65536 }
