@@ -22,3 +22,10 @@ refused hibitset 4 life::room_made_before building::extending_with_little_memory
 refused hibitset 7 assignments::a_union_that_grows
 refused hibitset_atomic 4 held::refused building::building_without_an_empty_set
 refused hibitset_atomic 6 held::refused building::extending_with_little_memory
+# sharing: the row of words, the table's words, its slots
+refused hibitset_atomic 6 shares::refused_and_again
+refused hibitset_atomic 7 shares::refused_and_again
+refused hibitset_atomic 8 shares::refused_and_again
+# settling: a layer's words, and the room for all blocks
+refused hibitset_atomic 10 shares::refused_and_again
+refused hibitset_atomic 13 shares::refused_and_again

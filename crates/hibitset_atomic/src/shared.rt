@@ -1,6 +1,6 @@
 //! A set that threads add to.
 //!
-//! `AtomicBitSet::share` gives the set and a seat; `divide` gives seats for further threads, each of which adds and asks with its own; `join` puts seats together, and `settle` ends it. No call takes a lock or tries again: each is a fixed number of atomic steps, and each step is sequentially consistent.
+//! `AtomicBitSet::share` gives the set and a seat; `divide` gives seats for further threads, each of which adds and asks with its own; `join` puts seats together, and `settle` ends it. A call on the shared set takes no lock and tries nothing again: it makes at most eight atomic steps, each of them sequentially consistent.
 
 ghost use Rattle.std.specs.Prelude.{◌≡◌, ◌≢◌, ℕ, ◌+◌, ◌-◌, ◌/◌, ◌<◌, ◌≤◌, ◌⊎◌, true, false, [], ◌∷◌, ◌++◌, length, slice_index, IsOk, IfOk, IfSome, IsNone, IfErr, ◌↔◌};
 ghost use Rattle.std.specs.Slots.{slots_items, slots_len, IsFull};
@@ -229,7 +229,7 @@ impl SharedBitSet {
 
     /// The set held alone again, with exact summaries. It has each index from before `share`, and each that the seat knows or reported; with a whole seat it has no others, so it then has exactly the old and the reported ones.
     ///
-    /// It is refused for memory alone, which it takes first: then both come back unchanged, and it can be called again. A seat that was dropped took its shares with it, so no seat is whole after that, and what only that seat reported may be there or not as far as the contract says.
+    /// It is refused for memory alone, which it takes first: then both come back unchanged, and it can be called again. A seat that was dropped took its shares with it, so no seat is whole after that.
     #[tactic(auto, unfolding(crate::specs::Seats::Came, crate::specs::Seats::Known, crate::specs::Seats::IsOld, crate::specs::Seats::weight_of, crate::specs::Seats::reports_of))]
     pub fn settle(self, seat: Seat) -> Result<AtomicBitSet, (SharedBitSet, Seat)>
         requires { Came self seat }

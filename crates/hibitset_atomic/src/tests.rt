@@ -1,5 +1,6 @@
 //! Values from outside: worked rows, and each public call at least once.
 mod building;
+mod callers;
 mod held;
 mod meet;
 mod shares;

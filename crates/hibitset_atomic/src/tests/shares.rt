@@ -7,13 +7,14 @@ use crate::{AtomicBitSet, Seat, SharedBitSet};
 use hibitset_base::BitSetLike;
 use std::test::Fail;
 
-// Adds each of these indices twice, and counts the answers false and then those true.
-fn add_twice(set: &SharedBitSet, seat: &mut Seat, count: u32) -> (u32, u32)
+// Adds each index below a bound twice and then asks for it, and counts the first answers false, the second ones true, and the last ones true.
+fn add_twice(set: &SharedBitSet, seat: &mut Seat, count: u32) -> (u32, u32, u32)
     requires { Came set.now seat.old × (count < 16777216) }
     ensures { Came set.now seat.new }
 {
     let mut new = 0u32;
     let mut there = 0u32;
+    let mut found = 0u32;
     for id in 0..count {
         if !set.add_atomic(seat, id) {
             new = new.wrapping_add(1);
@@ -21,8 +22,11 @@ fn add_twice(set: &SharedBitSet, seat: &mut Seat, count: u32) -> (u32, u32)
         if set.add_atomic(seat, id) {
             there = there.wrapping_add(1);
         }
+        if set.contains(seat, id) {
+            found = found.wrapping_add(1);
+        }
     }
-    (new, there)
+    (new, there, found)
 }
 
 #[test]
@@ -31,7 +35,7 @@ fn shared_adds(rt: HostRuntime) -> Result<(), Fail> {
     let Ok((set, mut seat)) = set.share() else {
         panic!(rt; "no memory")
     };
-    assert_eq!(rt; add_twice(&set, &mut seat, 1000), (1000, 1000));
+    assert_eq!(rt; add_twice(&set, &mut seat, 1000), (1000, 1000, 1000));
     assert!(rt; seat.is_whole());
     let Ok(set) = set.settle(seat) else {
         panic!(rt; "no memory")
@@ -47,6 +51,28 @@ fn shared_adds(rt: HostRuntime) -> Result<(), Fail> {
         (set.layer3(), set.layer2(0), set.layer1(0), set.layer0(15)),
         (1, 1, 65535, (1 << 40) - 1)
     );
+    Ok(())
+}
+
+#[test]
+fn divided_to_the_last_share(rt: HostRuntime) -> Result<(), Fail> {
+    let Ok((set, seat)) = AtomicBitSet::new(rt.alloc())?.share() else {
+        panic!(rt; "no memory")
+    };
+    let mut first = seat;
+    for weight in [
+        32768, 16384, 8192, 4096, 2048, 1024, 512, 256, 128, 64, 32, 16, 8, 4, 2, 1,
+    ] {
+        let (kept, given) = set.divide(first);
+        let Some(given) = given else {
+            panic!(rt; "one part")
+        };
+        assert_eq!(rt; (kept.weight(), given.weight()), (weight, weight));
+        first = kept;
+    }
+    assert_eq!(rt; first.weight(), 1);
+    let (last, none) = set.divide(first);
+    assert!(rt; none.is_none() && last.weight() == 1 && !last.is_whole());
     Ok(())
 }
 
