@@ -14,6 +14,7 @@ use std::alloc::{AllocError, Global};
 impl Extendable for AtomicBitSet {
     ghost RANGE = { ATOMIC_MAX_EID };
 
+    // No length is promised.
     ghost size = { λ _. 0 };
 
     const RANGE: usize = ATOMIC_MAX_EID;

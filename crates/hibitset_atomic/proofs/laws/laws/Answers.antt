@@ -1,4 +1,4 @@
-use Rattle.std.proofs.Common.{◌≡◌, ℕ, ◌<◌, bit_and, arith}
+use Rattle.std.proofs.Common.{◌≡◌, ℕ, bit_and, arith}
 use Rattle.std.specs.Int.{bit_at}
 use Rattle.std.proofs.lemmas.Nat.Bits.{bit_at_and, bit_at-lt}
 use Rattle.hibitset_base.specs.declared.util.TheConstants.{LAYERS}
