@@ -220,6 +220,7 @@ impl SharedBitSet {
             weight: others,
         } = b;
         self.table.shared.join_seat::<Unites>(&mut pass, other);
+        // Whatever it finds, a load shows that the rule holds of the two together.
         self.look(&mut pass, 266304);
         Seat {
             pass,
