@@ -9,14 +9,16 @@ ghost use Rattle.hibitset_atomic.specs.AtomicBitSet.{has, word_of};
 ghost use Rattle.hibitset_atomic.specs.Blocks.{HasRoom};
 ghost use Rattle.hibitset_atomic.specs.Row.{word_in_row};
 ghost use Rattle.hibitset_base.specs.Words.{IsSummed};
-ghost use Rattle.hibitset_base.specs.declared.util.TheConstants.{LAYERS, MAX_EID};
+ghost use Rattle.hibitset_atomic.specs.declared.layers.TheConstants.{ATOMIC_LAYERS};
+ghost use Rattle.hibitset_atomic.specs.declared.atomic.TheConstants.{ATOMIC_MAX_EID};
 ghost use Rattle.hibitset_atomic.specs.Seats.{IsOld, Came, Known, weight_of, reports_of};
 
-use crate::atomic::AtomicBitSet;
+use crate::atomic::{ATOMIC_MAX_EID, AtomicBitSet};
+use crate::layers::ATOMIC_LAYERS;
 use crate::shared::rule::{Halves, Unites};
 use crate::shared::steps::over;
 use atomic_table::{Closed, Table};
-use hibitset_base::util::{Index, MAX_EID};
+use hibitset_base::util::Index;
 use std::alloc::{AllocError, Global};
 use std::snapshot::Snapshot;
 
@@ -102,14 +104,14 @@ impl AtomicBitSet {
 }
 
 impl SharedBitSet {
-    /// Adds an index below `MAX_EID`, and tells whether it was there, as `AtomicBitSet::add_atomic` of the original does, which takes no seat.
+    /// Adds an index below `ATOMIC_MAX_EID`, and tells whether it was there, as `AtomicBitSet::add_atomic` of the original does, which takes no seat.
     ///
     /// It answers false exactly where its own exchange put the index in, which is then the newest of the seat's reports; over all seats of a set this happens once for an index, and never for one that was there before `share`. When it returns, the seat knows the index: all four bits on the way to it stand, and stay.
     ///
     /// It reads those four bits first, and where they stand it writes nothing and answers true. It takes no memory and waits for nobody.
     #[tactic(auto, unfolding(crate::specs::Seats::Came, crate::specs::Seats::Known, crate::specs::Seats::IsOld, crate::specs::Seats::weight_of, crate::specs::Seats::reports_of))]
     pub fn add_atomic(&self, seat: &mut Seat, id: Index) -> bool
-        requires id { id < MAX_EID }
+        requires id { id < ATOMIC_MAX_EID }
         requires came { Came self.now seat.old }
         ensures came { Came self.now seat.new × (weight_of seat.new ≡ weight_of seat.old) }
         ensures known { Known seat.new id × ((i : ℕ) → Known seat.old i → Known seat.new i) }
@@ -126,7 +128,7 @@ impl SharedBitSet {
     // The four exchanges, from layer 0 up, for an index that is neither old nor known to the seat.
     #[tactic(auto, unfolding(crate::specs::Seats::Came, crate::specs::Seats::Known, crate::specs::Seats::IsOld, crate::specs::Seats::weight_of, crate::specs::Seats::reports_of))]
     fn exchange(&self, seat: &mut Seat, id: Index) -> bool
-        requires id { id < MAX_EID }
+        requires id { id < ATOMIC_MAX_EID }
         requires came { Came self.now seat.old }
         requires new { ¬ IsOld self.now id × ¬ Known seat.old id }
         ensures came { Came self.now seat.new × (weight_of seat.new ≡ weight_of seat.old) }
@@ -143,16 +145,16 @@ impl SharedBitSet {
 
     /// Tells whether an index is there, as `AtomicBitSet::contains` of the original does, which takes no seat.
     ///
-    /// It is true of each index from before `share`, and of each that the seat knows; of another it is true only where all four bits on the way to it were seen to stand, and the seat knows it from then on. It is false from `MAX_EID` on. It takes no memory and waits for nobody.
+    /// It is true of each index from before `share`, and of each that the seat knows; of another it is true only where all four bits on the way to it were seen to stand, and the seat knows it from then on. It is false from `ATOMIC_MAX_EID` on. It takes no memory and waits for nobody.
     #[tactic(auto, unfolding(crate::specs::Seats::Came, crate::specs::Seats::Known, crate::specs::Seats::IsOld, crate::specs::Seats::weight_of, crate::specs::Seats::reports_of))]
     pub fn contains(&self, seat: &mut Seat, id: Index) -> bool
         requires came { Came self.now seat.old }
         ensures came { Came self.now seat.new × (weight_of seat.new ≡ weight_of seat.old) × (reports_of seat.new ≡ reports_of seat.old) }
         ensures known { (i : ℕ) → Known seat.old i → Known seat.new i }
-        ensures yes { result ≡ true → (id < MAX_EID) × Known seat.new id }
+        ensures yes { result ≡ true → (id < ATOMIC_MAX_EID) × Known seat.new id }
         ensures no { result ≡ false → ¬ IsOld self.now id × ¬ Known seat.new id }
     {
-        if id as usize >= MAX_EID {
+        if id as usize >= ATOMIC_MAX_EID {
             return false;
         }
         if !self.stands(&mut seat.pass, id) {
@@ -235,7 +237,7 @@ impl SharedBitSet {
     pub fn settle(self, seat: Seat) -> Result<AtomicBitSet, (SharedBitSet, Seat)>
         requires { Came self seat }
         ensures back { IfErr result (λ r. (r.0 ≡ self) × (r.1 ≡ seat)) }
-        ensures exact { IfOk result (λ set. IsSummed LAYERS (word_of set)) }
+        ensures exact { IfOk result (λ set. IsSummed ATOMIC_LAYERS (word_of set)) }
         ensures old { IfOk result (λ set. (i : ℕ) → IsOld self i → has set i ≡ true) }
         ensures known { IfOk result (λ set. (i : ℕ) → Known seat i → has set i ≡ true) }
         ensures reported { IfOk result (λ set. (i : ℕ) → Has (reports_of seat) i → has set i ≡ true) }
