@@ -93,4 +93,3 @@ pub(crate) fn clear(alloc: Global, ids: &[Index], times: usize) -> Result<u64, A
     }
     Ok(sum)
 }
-
