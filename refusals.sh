@@ -29,3 +29,6 @@ refused hibitset_atomic 8 shares::refused_and_again
 # settling: a layer's words, and the room for all blocks
 refused hibitset_atomic 10 shares::refused_and_again
 refused hibitset_atomic 13 shares::refused_and_again
+for request in 6 7 8 9 10 11; do
+    refused hibitset_atomic "$request" worlds::refused_and_again
+done

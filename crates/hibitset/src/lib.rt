@@ -12,7 +12,7 @@ pub mod set;
 pub use build::BuildError;
 pub use hibitset_atomic::{
     AtomicBitSet, Event, Reply, Seat, SharedBitSet, SharedWalk, StepError, World, atomic,
-    laws as atomic_laws, ops as atomic_ops, path, shared, steps,
+    ops as atomic_ops, path, shared, steps,
 };
 pub use hibitset_base::{
     BitIter, BitParIter, BitProducer, BitSetAll, BitSetAnd, BitSetLike, BitSetNot, BitSetOr,

@@ -13,7 +13,7 @@ use Rattle.hibitset_atomic.specs.Pasts.{one_layer_more, call_of, is_at, passes, 
 use Rattle.hibitset_atomic.specs.LayerBits.{lit}
 use Rattle.hibitset_atomic.proofs.Spans.{or_cases, or_left, or_right, true_or_false}
 use Rattle.hibitset_atomic.proofs.Standing.{and_both, eq_true, eq_same, stands-found, stands-from, stands-stays}
-use Rattle.hibitset_atomic.proofs.Passers.{ok_here, ok_rest}
+use Rattle.hibitset_atomic.proofs.Passers.{ok_here, ok_rest, passer}
 
 pub same_truth : (a b : Bool) → (a ≡ true → b ≡ true) → (b ≡ true → a ≡ true) → a ≡ b
 same_truth true b f g = sym (f refl)
@@ -65,6 +65,16 @@ calls-fit n old (Step number ∷ past) c ok = elim (true_or_false (number == c))
 ]
 calls-fit n old (Open number ∷ past) c ok = calls-fit n old past c (ok_rest n old (Open number) past ok)
 calls-fit n old (Read number ∷ past) c ok = calls-fit n old past c (ok_rest n old (Read number) past ok)
+
+-- no index of a call lies past the range
+pub beyond-none : (old : ℕ → Bool) (past : List Event) → ((i : ℕ) → old i ≡ true → i < 64 ^ 4) → IsAccepted 4 old past → (i : ℕ) → (old i || has_passed past 0 i) ≡ true → i < 64 ^ 4
+beyond-none old past within ok i there = elim (or_cases (old i) (has_passed past 0 i) there) [
+  | inl was ↦ within i was
+  | inr new ↦
+      let p = passer 4 old past 0 i ok new in
+      let fits : FitsCall 4 (Some p.call) = subst (FitsCall 4) p.is (calls-fit 4 old past p.number ok) in
+      subst (λ k. k < 64 ^ 4) p.on fits.1
+]
 
 -- what stands after a step
 

@@ -6,7 +6,7 @@ use Rattle.hibitset_atomic.specs.declared.steps.calls.Call.{Call}
 use Rattle.hibitset_atomic.specs.Lists.{Has}
 use Rattle.hibitset_base.specs.Sets.{bit_of}
 use Rattle.hibitset_base.specs.Places.{Place}
-use Rattle.hibitset_atomic.specs.Pasts.{some_in, call_of, passes, has_passed, stands, Walk, walk_of}
+use Rattle.hibitset_atomic.specs.Pasts.{some_in, call_of, passes, has_passed, is_there, stands, Walk, walk_of}
 
 -- the list ascends strictly, from a on and below b
 abbrev pub Between : ℕ → ℕ → List ℕ → Type 0
@@ -63,10 +63,10 @@ Ranges a b (p ∷ ps) = (a ≤ p.position * 64 ^ suc p.layer) × Ranges ((p.posi
 
 -- Calls
 
--- how often the index was reported new: by a first step, where the index was neither old nor written
+-- how often the index was reported new: by the first step of a call on it, where it was neither old nor written before
 abbrev pub reports : (ℕ → Bool) → List Event → ℕ → ℕ
 reports old [] i = 0
-reports old (e ∷ past) i = bit_of (passes past e 0 i && not (old i || has_passed past 0 i)) + reports old past i
+reports old (e ∷ past) i = bit_of (passes past e 0 i && not (is_there old past i)) + reports old past i
 
 -- every call has passed all n layers
 unfoldable pub IsAtRest : ℕ → List Event → Type 0

@@ -46,6 +46,10 @@ abbrev pub has_passed : List Event → ℕ → ℕ → Bool
 has_passed [] layer index = false
 has_passed (e ∷ past) layer index = passes past e layer index || has_passed past layer index
 
+-- the index is old or written: it was there before all calls, or a call on it has passed layer 0
+abbrev pub is_there : (ℕ → Bool) → List Event → ℕ → Bool
+is_there old past index = old index || has_passed past 0 index
+
 -- Words: bit b of the word at position p of a layer is bit 64 * p + b of the layer. A bit of a layer stands where an index under it is old or belongs to a call that has passed the layer.
 abbrev pub stands : (ℕ → Bool) → List Event → ℕ → ℕ → Bool
 stands old past layer bit = some_in (λ i. old i || has_passed past layer i) (bit * 64 ^ layer) (64 ^ layer)

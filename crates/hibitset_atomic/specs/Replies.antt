@@ -1,5 +1,5 @@
 -- What an event answers after a past.
-use Rattle.std.specs.Prelude.{◌≡◌, ℕ, ◌+◌, ◌*◌, ◌<◌, Bool, ◌||◌, ◌↔◌, List, [], ◌∷◌, Option, Some, None, IsTrue}
+use Rattle.std.specs.Prelude.{◌≡◌, ℕ, ◌+◌, ◌*◌, ◌<◌, Bool, ◌↔◌, List, [], ◌∷◌, Option, Some, None, IsTrue}
 use Rattle.hibitset_atomic.specs.declared.steps.calls.Call.{Call}
 use Rattle.hibitset_atomic.specs.declared.steps.event.Event.{Event}
 use Rattle.hibitset_atomic.specs.declared.steps.event.Event.TheVariants.{Begin, Step, Open, Read}
@@ -10,7 +10,7 @@ use Rattle.hibitset_atomic.specs.declared.steps.event.StepError.TheVariants.{Unk
 use Rattle.std.specs.Int.{bit_at}
 use Rattle.hibitset_base.specs.Sets.{bit_of}
 use Rattle.hibitset_base.specs.Places.{Place}
-use Rattle.hibitset_atomic.specs.Pasts.{call_of, has_passed, stands, Walk, walk_of, read_first}
+use Rattle.hibitset_atomic.specs.Pasts.{call_of, is_there, stands, Walk, walk_of, read_first}
 
 -- the reason that an error gives, and none where memory was refused
 abbrev pub reason : StepError → Option StepError
@@ -20,10 +20,10 @@ reason Ended = Some Ended
 reason Range = Some Range
 reason Memory = None
 
--- the first step of a call tells whether its index is old or written, and a later one how many layers are left
+-- the first step of a call tells whether its index was old or written before it, and a later one how many layers the call has still to pass
 abbrev pub StepAnswer : ℕ → (ℕ → Bool) → List Event → Option Call → Reply → Type 0
 StepAnswer n old past None reply = ⊥
-StepAnswer n old past (Some call) (First there) = (call.passed ≡ 0) × (there ≡ (old call.index || has_passed past 0 call.index))
+StepAnswer n old past (Some call) (First there) = (call.passed ≡ 0) × (there ≡ is_there old past call.index)
 StepAnswer n old past (Some call) (Path left) = (0 < call.passed) × (left + call.passed + 1 ≡ n)
 StepAnswer n old past (Some call) Begun = ⊥
 StepAnswer n old past (Some call) Opened = ⊥

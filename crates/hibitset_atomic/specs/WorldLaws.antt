@@ -1,9 +1,9 @@
 -- What holds of every world.
-use Rattle.std.specs.Prelude.{◌≡◌, ℕ, ◌+◌, ◌*◌, ◌/◌, ◌<◌, true, ◌&&◌, not, ◌==◌, length, Some}
+use Rattle.std.specs.Prelude.{◌≡◌, ℕ, ◌+◌, ◌*◌, ◌/◌, ◌^◌, ◌<◌, true, ◌&&◌, not, ◌==◌, length, Some}
 use Rattle.hibitset_base.specs.Sets.{bit_of}
 use Rattle.hibitset_atomic.specs.declared.steps.TheConstants.{ATOMIC_LAYERS}
 use Rattle.hibitset_atomic.specs.declared.steps.state.World.{World}
-use Rattle.hibitset_atomic.specs.Pasts.{Walk, some_in}
+use Rattle.hibitset_atomic.specs.Pasts.{Walk, some_in, is_there}
 use Rattle.hibitset_atomic.specs.Honest.{IsHonest, IsNext, IsWithin, HasBits, reports}
 use Rattle.hibitset_atomic.specs.Worlds.{old_of, past_of, stands_in, walk_in, is_written, IsResting}
 
@@ -30,6 +30,10 @@ NoneIsEmpty world = EachWalk world (λ w walk. 0 < walk.reads → HasBits (stand
 -- a summary bit stands only over a word that is not 0
 abbrev pub NoneIsHollow : World → Type 0
 NoneIsHollow world = (l q : ℕ) → stands_in world (l + 1) q ≡ true → some_in (stands_in world l) (64 * q) 64 ≡ true
+
+-- no number past the range is old or written
+abbrev pub NoneIsBeyond : World → Type 0
+NoneIsBeyond world = (i : ℕ) → is_there (old_of world) (past_of world) i ≡ true → i < 64 ^ ATOMIC_LAYERS
 
 -- how often an index was reported new
 abbrev pub reports_in : World → ℕ → ℕ

@@ -1,5 +1,5 @@
 -- What a contract sees of a world of the step core. Its past is the list of the events that it accepted, the newest first.
-use Rattle.std.specs.Prelude.{◌≡◌, ℕ, Bool, Option, None, List, [], ◌∷◌, ◌++◌, Result, Ok, Err, reverse}
+use Rattle.std.specs.Prelude.{◌≡◌, ℕ, ◌/◌, ◌^◌, ◌<◌, Bool, true, option_map, Option, None, List, [], ◌∷◌, ◌++◌, Result, Ok, Err, reverse}
 use Rattle.hibitset_atomic.specs.declared.steps.TheConstants.{ATOMIC_LAYERS}
 use Rattle.hibitset_atomic.specs.declared.steps.event.Event.{Event}
 use Rattle.hibitset_atomic.specs.declared.steps.event.Reply.{Reply}
@@ -29,6 +29,14 @@ stands_in world = stands (old_of world) (past_of world)
 -- the walk of a number
 abbrev pub walk_in : World → ℕ → Option Walk
 walk_in world = walk_of ATOMIC_LAYERS (old_of world) (past_of world)
+
+-- the items of the walk of a number so far, none where no walk has it
+abbrev pub items_of : World → ℕ → Option (List ℕ)
+items_of world w = option_map (λ walk. walk.items) (walk_in world w)
+
+-- in each layer the bit over the index stands
+abbrev pub WholePathStands : World → ℕ → Type 0
+WholePathStands world i = (l : ℕ) → l < ATOMIC_LAYERS → stands_in world l (i / 64 ^ l) ≡ true
 
 -- every call that began has ended
 abbrev pub IsResting : World → Type 0

@@ -1,4 +1,4 @@
-//! Laws of atomic sets that users rely on.
+//! Laws that users rely on.
 ghost use Rattle.std.specs.Prelude.{◌≡◌, ℕ, ◌<◌, true, bit_and};
 ghost use Rattle.hibitset_base.specs.declared.util.TheConstants.{LAYERS};
 ghost use Rattle.hibitset_base.specs.Reading.{Encloses};
@@ -8,6 +8,8 @@ ghost use Rattle.hibitset_atomic.specs.AtomicBitSet.{has, word_of};
 ghost use Rattle.hibitset_atomic.specs.Laws.{intersected};
 ghost use Rattle.hibitset_atomic.specs.declared.atomic.AtomicBitSet.{AtomicBitSet};
 ghost use Rattle.hibitset_atomic.specs.declared.atomic.TheConstants.{ATOMIC_MAX_EID};
+ghost use Rattle.hibitset_atomic.specs.WorldLaws.{WalksAreHonest, LowestIsRead, FewAreRead, NoneIsEmpty, NoneIsHollow, NoneIsBeyond, RestIsExact, NewOnce, OldIsTold};
+ghost use Rattle.hibitset_atomic.specs.declared.steps.state.World.{World};
 
 use crate::atomic::{ATOMIC_MAX_EID, AtomicBitSet};
 use hibitset_base::util::LAYERS;
@@ -15,9 +17,24 @@ use hibitset_base::util::LAYERS;
 /// The laws of all atomic sets held alone. The call does nothing, and its contract says them.
 ///
 /// No number past the range is a member. Summaries are exact, so that no part that a split gives is empty. The words of an intersection lie within those of each operand, so by the clause `bound` of `iter` a walk over `BitSetAnd` of two atomic sets, or of references to them, reads at most three words of each for every member of the smaller one, and the top. The same holds beside a set of any other type, on either side of it.
-pub fn laws()
+pub fn atomic_laws()
     ensures within { (set : AtomicBitSet) (i : ℕ) → has set i ≡ true → i < ATOMIC_MAX_EID }
     ensures exact { (set : AtomicBitSet) → IsExact LAYERS (word_of set) × AreWords (word_of set) }
     ensures intersection { (a b : AtomicBitSet) → Encloses LAYERS (has a) (word_of a) (intersected a b) × Encloses LAYERS (has b) (word_of b) (intersected a b) }
     ensures beside { (set : AtomicBitSet) (word : ℕ → ℕ → ℕ) → Encloses LAYERS (has set) (word_of set) (λ l p. bit_and (word_of set l p) (word l p)) × Encloses LAYERS (has set) (word_of set) (λ l p. bit_and (word l p) (word_of set l p)) }
+{}
+
+/// The laws of every world, whatever has happened to it. The call does nothing, and its contract says them.
+///
+/// Each walk is honest: its items ascend, each was old or written when it was read, and once the walk has ended it has every index that was old or whose call had ended before the walk began. It reads next the word under the first bit that it has left, in the lowest layer; each word after its first is not 0; and it has read at most 3k + 1 words where it has ended, and 3k + 3 where it has not, k the number of its items. No number from `MAX_EID` on is old or written. A summary bit never stands over a word that is 0, and at rest summaries are exact. Each index that is written and was not old was reported new once, and no other ever, so the old set are the members that no call reported new.
+pub fn world_laws()
+    ensures honest { (world : World) → WalksAreHonest world }
+    ensures lowest { (world : World) → LowestIsRead world }
+    ensures few_reads { (world : World) → FewAreRead world }
+    ensures none_empty { (world : World) → NoneIsEmpty world }
+    ensures within { (world : World) → NoneIsBeyond world }
+    ensures none_hollow { (world : World) → NoneIsHollow world }
+    ensures exact_at_rest { (world : World) → RestIsExact world }
+    ensures new_once { (world : World) → NewOnce world }
+    ensures old_told { (world : World) → OldIsTold world }
 {}

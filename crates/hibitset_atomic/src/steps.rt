@@ -1,10 +1,11 @@
 //! The step core: additions and walks over one set that take turns in any order, one word each.
 //!
-//! A call that adds an index sets a bit in layer 0, then over it in layers 1, 2 and 3, one layer at a step, and between two steps any other call or walk may go on. What a world answers is said of its past, the list of events that it accepted.
-ghost use Rattle.std.specs.Prelude.{◌≡◌, ℕ, true, false, Option, Some, None, cond, not, ◌==◌, ◌+◌, ◌-◌, ◌*◌, ◌/◌, ◌%◌, ◌^◌, ◌<◌, ◌≤◌, ◌↔◌, ◌||◌, ◌&&◌, IsTrue, [], ◌∷◌, ◌++◌, MatchOption, OnOk, OnErr, IfOk, IfErr, map, length};
+//! A call that adds an index sets a bit in layer 0, then over it in layers 1, 2 and 3, one layer at a step. A walk reads one word at a time. Between two steps or reads any other call or walk may go on, so a list of events is an interleaving, and every interleaving is one.
+//!
+//! What a world answers is said of its past, the list of events that it accepted. What holds of every past is the contract of [`world_laws`](crate::laws::world_laws).
+ghost use Rattle.std.specs.Prelude.{◌≡◌, ℕ, true, false, Option, Some, None, cond, not, ◌==◌, ◌+◌, ◌-◌, ◌*◌, ◌/◌, ◌%◌, ◌^◌, ◌<◌, ◌≤◌, ◌↔◌, ◌||◌, ◌&&◌, IsTrue, [], ◌∷◌, ◌++◌, OnOk, OnErr, IfOk, IfErr, map, option_copied};
 ghost use Rattle.hibitset_base.specs.declared.util.TheConstants.{MAX_EID};
-ghost use Rattle.hibitset_atomic.specs.WorldLaws.{WalksAreHonest, LowestIsRead, FewAreRead, NoneIsEmpty, NoneIsHollow, RestIsExact, NewOnce, OldIsTold};
-ghost use Rattle.hibitset_atomic.specs.declared.steps.state.World.{World};
+ghost use Rattle.hibitset_atomic.specs.LayerBits.{path_bit};
 
 use crate::atomic::AtomicBitSet;
 use crate::steps::calls::{Call, Calls};
@@ -23,11 +24,13 @@ pub use state::World;
 /// The layers of an atomic set, of the step core and of the shared form.
 pub(crate) const ATOMIC_LAYERS: usize = crate::layers::ATOMIC_LAYERS;
 
-/// The bits that an addition of an index below `MAX_EID` sets, from the lowest layer up: each as its layer, the position of its word, and the word that has it alone.
+/// The four bits that an addition of an index sets, from the lowest layer up. Each is told as its layer, the position of its word in the layer, and the word that has this bit alone.
+///
+/// The index is below `MAX_EID`. It takes no memory.
 #[inline]
 pub fn path(id: Index) -> [(usize, usize, usize); 4]
     requires { id < MAX_EID }
-    ensures { result ≡ map (λ l. record { 0 = l; 1 = id / 64 ^ (l + 1); 2 = 2 ^ (id / 64 ^ l % 64) }) (0 ∷ 1 ∷ 2 ∷ 3 ∷ []) }
+    ensures { result ≡ map (path_bit id) (0 ∷ 1 ∷ 2 ∷ 3 ∷ []) }
 {
     [
         (0, id.offset(SHIFT1), id.mask(SHIFT0)),
@@ -48,29 +51,17 @@ fn bit_over(id: Index, layer: usize) -> (usize, u32)
     (place, mask.trailing_zeros())
 }
 
-/// The laws of every world, whatever has happened to it. The call does nothing, and its contract says them.
-///
-/// Each walk is honest: its items ascend, each was old or written when it was read, and once the walk has ended it has every index that was old or whose call had ended before the walk began. It reads next the word under the first bit that it has left, in the lowest layer; each word after its first is not 0; and it has read at most 3k + 1 words where it has ended, and 3k + 3 where it has not, k the number of its items. A summary bit never stands over a word that is 0, and at rest summaries are exact. Each index that is written and was not old was reported new once, and no other ever, so the old set are the members that no call reported new.
-pub fn laws()
-    ensures honest { (world : World) → WalksAreHonest world }
-    ensures lowest { (world : World) → LowestIsRead world }
-    ensures few_reads { (world : World) → FewAreRead world }
-    ensures none_empty { (world : World) → NoneIsEmpty world }
-    ensures none_hollow { (world : World) → NoneIsHollow world }
-    ensures exact_at_rest { (world : World) → RestIsExact world }
-    ensures new_once { (world : World) → NewOnce world }
-    ensures old_told { (world : World) → OldIsTold world }
-{}
-
 impl World {
-    ghost use Rattle.hibitset_atomic.specs.AtomicBitSet.{has};
+    ghost use Rattle.hibitset_atomic.specs.AtomicBitSet.{has, word_of};
+    ghost use Rattle.hibitset_base.specs.Words.{IsSummed};
     ghost use Rattle.hibitset_atomic.specs.Layers.{layer_word};
     ghost use Rattle.hibitset_atomic.specs.LayerBits.{lit};
-    ghost use Rattle.hibitset_atomic.specs.Pasts.{Walk};
     ghost use Rattle.hibitset_atomic.specs.Replies.{reason};
-    ghost use Rattle.hibitset_atomic.specs.Worlds.{old_of, past_of, stands_in, walk_in, is_written, refusal_of, AnswersTo, Outcome, IsResting};
+    ghost use Rattle.hibitset_atomic.specs.Worlds.{old_of, past_of, items_of, is_written, refusal_of, AnswersTo, Outcome, IsResting, WholePathStands};
 
-    /// A world of this set, in which nothing has happened. It takes no memory.
+    /// A world of this set, in which nothing has happened: the set's members are the old indices, no call has begun, and no walk.
+    ///
+    /// It takes no memory.
     pub fn new(set: AtomicBitSet) -> World
         ensures old { old_of result ≡ has set }
         ensures past { past_of result ≡ [] }
@@ -86,9 +77,14 @@ impl World {
         }
     }
 
-    /// One event happens, or is refused. One that happens comes to the past; after a refusal all is as it was.
+    /// One event happens and is answered, or it is refused. One that happens comes to the past, and the old set stays.
     ///
-    /// Where several refusals fit, the first in this order is answered: `Unknown`, `Used`, `Ended`, `Range`, `Memory`.
+    /// - `Begin` touches no word and answers `Begun`. It is refused as `Used` where a call has the number, then as `Range` where the index is not below `MAX_EID`.
+    /// - `Step` sets the bit of the call's next layer, from the lowest up. The first answers `First`, which tells whether the index was old or written before, and the next three answer `Path` with the number of layers that the call has still to pass. It is refused as `Unknown` where no call has the number, and as `Ended` where the call has passed all four layers.
+    /// - `Open` reads no word and answers `Opened`. It is refused as `Used` where a walk has the number.
+    /// - `Read` reads one word: first that of layer 3, then always the one under the first bit in the lowest layer, among the bits above layer 0 that the walk has read and not gone under. The bits of a word of layer 0 become items. It answers `Word` with the word, and whether no bit is left to go under. It is refused as `Unknown` where no walk has the number, and as `Ended` where nothing is left.
+    ///
+    /// Numbers of calls and of walks are apart. Last of all tests, every event that needs memory which is refused answers `Memory`. After a refusal all is as it was.
     pub fn apply(&mut self, event: Event) -> Result<Reply, StepError>
         ensures appended { OnOk result (past_of self.new ≡ event ∷ past_of self.old) }
         ensures accepted { OnOk result (refusal_of self.old event ≡ None) }
@@ -203,24 +199,27 @@ impl World {
         Ok(Reply::Word { word, ended })
     }
 
-    /// The items of a walk so far, none where the number is unknown.
+    /// The items of a walk so far, ascending, and none where no walk has the number. It takes no memory.
     pub fn items(&self, walk: u32) -> Option<&[Index]>
-        ensures { MatchOption result (walk_in self.now walk ≡ None) (λ items. (found : Walk) × (walk_in self.now walk ≡ Some found) × (items.now ≡ found.items)) }
+        ensures { option_copied result ≡ items_of self.now walk }
     {
         self.walks.items(walk)
     }
 
-    /// Tells whether every call that began has ended.
+    /// Tells whether every call that began has ended, by its fourth step. It takes no memory.
     pub fn is_at_rest(&self) -> bool
         ensures { IsTrue result ↔ IsResting self.now }
     {
         self.calls.all_passed(4)
     }
 
-    /// Takes the set out of a world at rest: the old indices, and those that were written. It takes no memory.
+    /// Takes the set out of a world at rest: its members are the old indices and those that were written, and its summaries are exact.
+    ///
+    /// It takes no memory. `is_at_rest` is the test for the condition.
     pub fn settle(self) -> AtomicBitSet
         requires { IsResting self }
-        ensures { (i : ℕ) → has result i ≡ (old_of self i || is_written self i) }
+        ensures members { (i : ℕ) → has result i ≡ (old_of self i || is_written self i) }
+        ensures exact { IsSummed ATOMIC_LAYERS (word_of result) }
     {
         AtomicBitSet::from_layers(self.layers)
     }
@@ -235,10 +234,12 @@ impl World {
         (self.layers.word(layer, place) >> bit) & 1 == 1
     }
 
-    /// Tells whether the whole path of an index below `MAX_EID` stands. It is no event, and takes no memory.
+    /// Tells whether the whole path of an index stands: in each of the four layers the bit that `path` tells. So it is after each addition of the index has ended, and it may be before that, by other calls.
+    ///
+    /// The index is below `MAX_EID`. It is no event, and takes no memory.
     pub fn stands(&self, id: Index) -> bool
         requires { id < MAX_EID }
-        ensures { IsTrue result ↔ ((l : ℕ) → l < ATOMIC_LAYERS → stands_in self.now l (id / 64 ^ l) ≡ true) }
+        ensures { IsTrue result ↔ WholePathStands self.now id }
     {
         if !self.bit(id, 0) {
             return false;

@@ -3,6 +3,7 @@ mod building;
 mod callers;
 mod held;
 mod meet;
+mod orders;
 mod shares;
 mod worlds;
 

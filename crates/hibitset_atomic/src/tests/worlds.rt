@@ -1,4 +1,5 @@
 //! Worlds of calls and walks that take turns.
+use crate::laws::world_laws;
 use crate::tests::list;
 use crate::{AtomicBitSet, Event, Reply, StepError, World, path};
 use hibitset_base::BitSetLike;
@@ -11,6 +12,7 @@ fn path_of_12345(rt: HostRuntime) {
     assert_eq!(rt; bits[1], (1, 3, 1));
     assert_eq!(rt; bits[2], (2, 0, 8));
     assert_eq!(rt; bits[3], (3, 0, 1));
+    world_laws();
 }
 
 #[test]

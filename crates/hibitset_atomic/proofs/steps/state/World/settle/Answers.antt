@@ -12,7 +12,10 @@ from_layers-requires c =
     let s = c.args.self in
     summed-rest (old_of s) (past_of s) (layer_word s.layers) s.calls s.walks (layers_fit s.layers) s.of_past c.requires
 
-pub returns : goal.returns
-returns c =
+pub returns-clause-members : goal.returns-clause-members
+returns-clause-members c =
     let s = c.args.self in
     λ i. ap (λ (l : Layers). holds_at (layer_word l) i) c.from_layers.ensures ∙ members-rest (old_of s) (past_of s) (layer_word s.layers) s.calls s.walks s.of_past i
+
+pub returns-clause-exact : goal.returns-clause-exact
+returns-clause-exact c = c.from_layers.result.summed

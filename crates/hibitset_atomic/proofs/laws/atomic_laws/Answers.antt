@@ -5,7 +5,7 @@ use Rattle.hibitset_base.specs.declared.util.TheConstants.{LAYERS}
 use Rattle.hibitset_base.specs.Stored.{summed_lawful, summed_exact}
 use Rattle.hibitset_atomic.specs.AtomicBitSet.{word_of}
 use Rattle.hibitset_atomic.proofs.Layered.{layers_fit, held_below}
-use Rattle.hibitset_atomic.proofs.laws.laws.Goals as goal
+use Rattle.hibitset_atomic.proofs.laws.atomic_laws.Goals as goal
 
 first_has : (x y b : ℕ) → bit_at (bit_and x y) b ≡ 1 → bit_at x b ≡ 1
 first_has x y b stands = let h = bit_at_and x y b in let k = bit_at-lt x b in let m = bit_at-lt y b in omega (arith, h, k, m, stands)

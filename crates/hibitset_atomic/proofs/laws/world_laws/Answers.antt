@@ -7,7 +7,9 @@ use Rattle.hibitset_atomic.proofs.Honesty.{honest}
 use Rattle.hibitset_atomic.proofs.Standing.{summary}
 use Rattle.hibitset_atomic.proofs.WalkLaws.{lowest-first, few-reads, none-empty}
 use Rattle.hibitset_atomic.proofs.After.{stands-lowest}
-use Rattle.hibitset_atomic.proofs.steps.laws.Goals as goal
+use Rattle.hibitset_atomic.proofs.Layered.{held_below}
+use Rattle.hibitset_atomic.proofs.Stepped.{beyond-none}
+use Rattle.hibitset_atomic.proofs.laws.world_laws.Goals as goal
 
 -- an old member was never reported new, and every other was
 old_is : (old written : Bool) → old ≡ ((old || written) && bit_of (written && not old) == 0)
@@ -25,6 +27,7 @@ returns c = record {
   lowest = λ world w walk e. lowest-first 4 (old_of world) (past_of world) w walk (lit< tt) e;
   few_reads = λ world w walk e. few-reads 4 (old_of world) (past_of world) w walk (lit< tt) e;
   none_empty = λ world w walk e some. none-empty 4 (old_of world) (past_of world) w walk (lit< tt) e some;
+  within = λ world i there. beyond-none (old_of world) (past_of world) (λ k held. held_below world.start.value.layers k held) world.of_past.accepted i there;
   none_hollow = λ world l q h. summary (old_of world) (past_of world) l q (let e : l + 1 ≡ suc l = omega arith in rw e at h);
   exact_at_rest = λ world rest l q below h. rest-exact 4 (old_of world) (past_of world) world.of_past.accepted rest l q below h;
   new_once = λ world i. new-once (old_of world) (past_of world) i;
