@@ -59,6 +59,28 @@ up_one i l =
     let f : 64 * 64 ^ l ≡ 64 ^ l * 64 = omega arith in
     rw (e, f) (sym (div-div-eq-div-mul i (64 ^ l) 64))
 
+-- the mark of an index one layer up
+pub mark_up : (i l : ℕ) → l < 4 → above (first_mark l + i / 64 ^ l) ≡ first_mark (l + 1) + i / 64 ^ (l + 1)
+mark_up i l lt =
+    let z = whole_words l lt in
+    let u = up_one i l in
+    let first : first_mark (l + 1) ≡ 16777216 + first_mark l / 64 = rw (add-one l) refl in
+    rw first (omega (arith, z, u))
+
+-- the marks of an index in range, and those below the top layer
+pub mark-lt : (i l : ℕ) → i < 16777216 → l < 4 → first_mark l + i / 64 ^ l < 17043520
+mark-lt i zero within lt = omega arith
+mark-lt i (suc zero) within lt = omega arith
+mark-lt i (suc (suc zero)) within lt = omega arith
+mark-lt i (suc (suc (suc zero))) within lt = omega arith
+mark-lt i (suc (suc (suc (suc l)))) within lt = absurd (omega arith)
+
+pub lower_mark-lt : (i l : ℕ) → i < 16777216 → l + 1 < 4 → first_mark l + i / 64 ^ l < 17043456
+lower_mark-lt i zero within lt = omega arith
+lower_mark-lt i (suc zero) within lt = omega arith
+lower_mark-lt i (suc (suc zero)) within lt = omega arith
+lower_mark-lt i (suc (suc (suc l))) within lt = absurd (omega arith)
+
 module _ (l q : ℕ) (lt : l < 4) where
   -- the bit of an index in the word at its position
   place_of : (i : ℕ) → i / 64 ^ (l + 1) ≡ q → (first_mark l + i / 64 ^ l) / 64 ≡ first_mark l / 64 + q

@@ -16,7 +16,7 @@ ghost use Rattle.hibitset_atomic.specs.Seats.{IsOld, Came, Known, weight_of, rep
 use crate::atomic::{ATOMIC_MAX_EID, AtomicBitSet};
 use crate::layers::ATOMIC_LAYERS;
 use crate::shared::rule::{Halves, Unites};
-use crate::shared::steps::over;
+use crate::shared::steps::mark_of;
 use atomic_table::{Closed, Table};
 use hibitset_base::util::Index;
 use std::alloc::{AllocError, Global};
@@ -137,9 +137,9 @@ impl SharedBitSet {
         ensures new { result ≡ false → reports_of seat.new ≡ id ∷ reports_of seat.old }
     {
         let there = self.enter(&mut seat.pass, id);
-        let mark = self.mark(&mut seat.pass, id);
-        let mark = self.mark(&mut seat.pass, mark);
-        self.mark(&mut seat.pass, mark);
+        self.mark(&mut seat.pass, id, 0);
+        self.mark(&mut seat.pass, id, 1);
+        self.mark(&mut seat.pass, id, 2);
         there
     }
 
@@ -157,19 +157,10 @@ impl SharedBitSet {
         if id as usize >= ATOMIC_MAX_EID {
             return false;
         }
-        if !self.stands(&mut seat.pass, id) {
-            return false;
-        }
-        let mark = over(id);
-        if !self.stands(&mut seat.pass, mark) {
-            return false;
-        }
-        let mark = over(mark);
-        if !self.stands(&mut seat.pass, mark) {
-            return false;
-        }
-        let mark = over(mark);
-        self.stands(&mut seat.pass, mark)
+        self.stands(&mut seat.pass, mark_of(id, 0))
+            && self.stands(&mut seat.pass, mark_of(id, 1))
+            && self.stands(&mut seat.pass, mark_of(id, 2))
+            && self.stands(&mut seat.pass, mark_of(id, 3))
     }
 
     /// Makes two seats of one: of weight w, the first has weight w - w / 2 and the second w / 2, rounded down. There is no second exactly where w is 1.

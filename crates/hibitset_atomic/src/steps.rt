@@ -40,8 +40,9 @@ pub fn path(id: Index) -> [(usize, usize, usize); 4]
     ]
 }
 
-// Where the bit of a layer over an index lies: the position of its word, and its number in the word.
-fn bit_over(id: Index, layer: usize) -> (usize, u32)
+// Where the bit of a layer over an index lies, by `path`: the position of its word, and its number in the word.
+#[inline]
+pub(crate) fn bit_over(id: Index, layer: usize) -> (usize, u32)
     requires id { id < MAX_EID }
     requires layer { layer < ATOMIC_LAYERS }
     ensures place { result.0 ≡ id / 64 ^ layer / 64 }

@@ -3,18 +3,16 @@ ghost use Rattle.std.specs.Prelude.{◌≡◌, ℕ, ◌+◌, ◌-◌, ◌*◌, �
 ghost use Rattle.std.specs.Int.{bit_at};
 ghost use Rattle.hibitset_atomic.specs.Lists.{Has};
 ghost use Rattle.hibitset_atomic.specs.Levels.{first_mark};
-ghost use Rattle.hibitset_atomic.specs.Rule.{Settled, Grew, Gap, Knows, Lit, above, Looks_at};
+ghost use Rattle.hibitset_atomic.specs.Rule.{Settled, Grew, Gap, Knows, Lit, Looks_at};
+ghost use Rattle.hibitset_atomic.specs.declared.layers.TheConstants.{ATOMIC_LAYERS};
+ghost use Rattle.hibitset_atomic.specs.declared.atomic.TheConstants.{ATOMIC_MAX_EID};
 
+use crate::atomic::ATOMIC_MAX_EID;
+use crate::layers::ATOMIC_LAYERS;
 use crate::shared::parts::{Pass, SharedBitSet};
 use crate::shared::rule::{Enters, Looks, Marks};
-
-// The mark over the word that has this mark.
-pub(crate) fn over(mark: u32) -> u32
-    requires { mark < 17043520 }
-    ensures { result ≡ above mark }
-{
-    16777216 + mark / 64
-}
+use crate::steps::bit_over;
+use hibitset_base::util::Index;
 
 // Where a layer begins in the row of all words.
 pub(crate) fn first_word(layer: usize) -> usize
@@ -27,6 +25,18 @@ pub(crate) fn first_word(layer: usize) -> usize
         2 => 266_240,
         _ => 266_304,
     }
+}
+
+// The mark of the bit that an addition of an index sets in a layer, at its place of `path`.
+#[inline]
+pub(crate) fn mark_of(id: Index, layer: usize) -> u32
+    requires id { id < ATOMIC_MAX_EID }
+    requires layer { layer < ATOMIC_LAYERS }
+    ensures mark { result ≡ first_mark layer + id / 64 ^ layer }
+    ensures within { result < 17043520 }
+{
+    let (place, bit) = bit_over(id, layer);
+    ((first_word(layer) + place) * 64) as u32 + bit
 }
 
 impl SharedBitSet {
@@ -46,18 +56,19 @@ impl SharedBitSet {
         (found >> (id % 64)) & 1 != 0
     }
 
-    // The exchange that marks the word of `below`, which the seat has seen to be nonzero.
-    pub(crate) fn mark(&self, pass: &mut Pass, below: u32) -> u32
+    // The exchange at a layer above 0, after that of the layer below.
+    pub(crate) fn mark(&self, pass: &mut Pass, id: Index, layer: usize)
         requires came { pass.old.table_id ≡ self.now.table.shared.table_id }
-        requires below { (below < 17043456) × Has pass.old.me.0.seen below }
+        requires id { id < ATOMIC_MAX_EID }
+        requires layer { layer + 1 < ATOMIC_LAYERS }
+        requires below { Has pass.old.me.0.seen (first_mark layer + id / 64 ^ layer) }
         ensures same { (pass.new.table_id ≡ pass.old.table_id) × (pass.new.id ≡ pass.old.id) × Grew pass.old.me pass.new.me × (pass.new.me.0.reports ≡ pass.old.me.0.reports) }
-        ensures mark { (result ≡ above below) × Has pass.new.me.0.seen result }
+        ensures mark { Has pass.new.me.0.seen (first_mark (layer + 1) + id / 64 ^ (layer + 1)) }
     {
-        let mark = over(below);
+        let mark = mark_of(id, layer + 1);
         self.table
             .shared
             .fetch_or::<Marks>(pass, (mark / 64) as usize, 1 << (mark % 64));
-        mark
     }
 
     pub(crate) fn look(&self, pass: &mut Pass, place: usize) -> u64
