@@ -4,7 +4,7 @@ use Rattle.std.specs.BTreeMap.{get}
 use Rattle.std.specs.Ordering.{nat_cmp}
 use Rattle.hibitset_base.specs.Cursor.{left}
 use Rattle.hibitset_base.specs.Places.{Place}
-use Rattle.hibitset_atomic.specs.declared.steps.TheConstants.{ATOMIC_LAYERS}
+use Rattle.hibitset_atomic.specs.declared.layers.TheConstants.{ATOMIC_LAYERS}
 use Rattle.hibitset_atomic.specs.declared.steps.calls.Call.{Call}
 use Rattle.hibitset_atomic.specs.declared.steps.calls.Calls.{Calls}
 use Rattle.hibitset_atomic.specs.declared.steps.walks.Progress.{Progress}

@@ -1,7 +1,7 @@
 -- What holds of every world.
 use Rattle.std.specs.Prelude.{◌≡◌, ℕ, ◌+◌, ◌*◌, ◌/◌, ◌^◌, ◌<◌, true, ◌&&◌, not, ◌==◌, length, Some}
 use Rattle.hibitset_base.specs.Sets.{bit_of}
-use Rattle.hibitset_atomic.specs.declared.steps.TheConstants.{ATOMIC_LAYERS}
+use Rattle.hibitset_atomic.specs.declared.layers.TheConstants.{ATOMIC_LAYERS}
 use Rattle.hibitset_atomic.specs.declared.steps.state.World.{World}
 use Rattle.hibitset_atomic.specs.Pasts.{Walk, some_in, is_there}
 use Rattle.hibitset_atomic.specs.Honest.{IsHonest, IsNext, IsWithin, HasBits, reports}

@@ -1,6 +1,6 @@
 -- What a contract sees of a world of the step core. Its past is the list of the events that it accepted, the newest first.
 use Rattle.std.specs.Prelude.{◌≡◌, ℕ, ◌/◌, ◌^◌, ◌<◌, Bool, true, option_map, Option, None, List, [], ◌∷◌, ◌++◌, Result, Ok, Err, reverse}
-use Rattle.hibitset_atomic.specs.declared.steps.TheConstants.{ATOMIC_LAYERS}
+use Rattle.hibitset_atomic.specs.declared.layers.TheConstants.{ATOMIC_LAYERS}
 use Rattle.hibitset_atomic.specs.declared.steps.event.Event.{Event}
 use Rattle.hibitset_atomic.specs.declared.steps.event.Reply.{Reply}
 use Rattle.hibitset_atomic.specs.declared.steps.event.StepError.{StepError}

@@ -26,7 +26,7 @@ pub fn atomic_laws()
 
 /// The laws of every world, whatever has happened to it. The call does nothing, and its contract says them.
 ///
-/// Each walk is honest: its items ascend, each was old or written when it was read, and once the walk has ended it has every index that was old or whose call had ended before the walk began. It reads next the word under the first bit that it has left, in the lowest layer; each word after its first is not 0; and it has read at most 3k + 1 words where it has ended, and 3k + 3 where it has not, k the number of its items. No number from `MAX_EID` on is old or written. A summary bit never stands over a word that is 0, and at rest summaries are exact. Each index that is written and was not old was reported new once, and no other ever, so the old set are the members that no call reported new.
+/// Each walk is honest: its items ascend, each was old or written when it was read, and once the walk has ended it has every index that was old or whose call had ended before the walk began. It reads next the word under the first bit that it has left, in the lowest layer; each word after its first is not 0; and it has read at most 3k + 1 words where it has ended, and 3k + 3 where it has not, k the number of its items. No number from `ATOMIC_MAX_EID` on is old or written. A summary bit never stands over a word that is 0, and at rest summaries are exact. Each index that is written and was not old was reported new once, and no other ever, so the old set are the members that no call reported new.
 pub fn world_laws()
     ensures honest { (world : World) → WalksAreHonest world }
     ensures lowest { (world : World) → LowestIsRead world }

@@ -4,13 +4,14 @@
 //!
 //! What a world answers is said of its past, the list of events that it accepted. What holds of every past is the contract of [`world_laws`](crate::laws::world_laws).
 ghost use Rattle.std.specs.Prelude.{◌≡◌, ℕ, true, false, Option, Some, None, cond, not, ◌==◌, ◌+◌, ◌-◌, ◌*◌, ◌/◌, ◌%◌, ◌^◌, ◌<◌, ◌≤◌, ◌↔◌, ◌||◌, ◌&&◌, IsTrue, [], ◌∷◌, ◌++◌, OnOk, OnErr, IfOk, IfErr, map, option_copied};
-ghost use Rattle.hibitset_base.specs.declared.util.TheConstants.{MAX_EID};
+ghost use Rattle.hibitset_atomic.specs.declared.atomic.TheConstants.{ATOMIC_MAX_EID};
 ghost use Rattle.hibitset_atomic.specs.LayerBits.{path_bit};
 
-use crate::atomic::AtomicBitSet;
+use crate::atomic::{ATOMIC_MAX_EID, AtomicBitSet};
+use crate::layers::ATOMIC_LAYERS;
 use crate::steps::calls::{Call, Calls};
 use crate::steps::walks::Walks;
-use hibitset_base::util::{Index, MAX_EID, Row, SHIFT0, SHIFT1, SHIFT2, SHIFT3};
+use hibitset_base::util::{Index, Row, SHIFT0, SHIFT1, SHIFT2, SHIFT3};
 use std::snapshot::Snapshot;
 
 mod calls;
@@ -21,15 +22,12 @@ mod walks;
 pub use event::{Event, Reply, StepError};
 pub use state::World;
 
-/// The layers of an atomic set, of the step core and of the shared form.
-pub(crate) const ATOMIC_LAYERS: usize = crate::layers::ATOMIC_LAYERS;
-
 /// The four bits that an addition of an index sets, from the lowest layer up. Each is told as its layer, the position of its word in the layer, and the word that has this bit alone.
 ///
-/// The index is below `MAX_EID`. It takes no memory.
+/// The index is below `ATOMIC_MAX_EID`. It takes no memory.
 #[inline]
 pub fn path(id: Index) -> [(usize, usize, usize); 4]
-    requires { id < MAX_EID }
+    requires { id < ATOMIC_MAX_EID }
     ensures { result ≡ map (path_bit id) (0 ∷ 1 ∷ 2 ∷ 3 ∷ []) }
 {
     [
@@ -43,7 +41,7 @@ pub fn path(id: Index) -> [(usize, usize, usize); 4]
 // Where the bit of a layer over an index lies, by `path`: the position of its word, and its number in the word.
 #[inline]
 pub(crate) fn bit_over(id: Index, layer: usize) -> (usize, u32)
-    requires id { id < MAX_EID }
+    requires id { id < ATOMIC_MAX_EID }
     requires layer { layer < ATOMIC_LAYERS }
     ensures place { result.0 ≡ id / 64 ^ layer / 64 }
     ensures bit { result.1 ≡ id / 64 ^ layer % 64 }
@@ -80,7 +78,7 @@ impl World {
 
     /// One event happens and is answered, or it is refused. One that happens comes to the past, and the old set stays.
     ///
-    /// - `Begin` touches no word and answers `Begun`. It is refused as `Used` where a call has the number, then as `Range` where the index is not below `MAX_EID`.
+    /// - `Begin` touches no word and answers `Begun`. It is refused as `Used` where a call has the number, then as `Range` where the index is not below `ATOMIC_MAX_EID`.
     /// - `Step` sets the bit of the call's next layer, from the lowest up. The first answers `First`, which tells whether the index was old or written before, and the next three answer `Path` with the number of layers that the call has still to pass. It is refused as `Unknown` where no call has the number, and as `Ended` where the call has passed all four layers.
     /// - `Open` reads no word and answers `Opened`. It is refused as `Used` where a walk has the number.
     /// - `Read` reads one word: first that of layer 3, then always the one under the first bit in the lowest layer, among the bits above layer 0 that the walk has read and not gone under. The bits of a word of layer 0 become items. It answers `Word` with the word, and whether no bit is left to go under. It is refused as `Unknown` where no walk has the number, and as `Ended` where nothing is left.
@@ -110,7 +108,7 @@ impl World {
         if self.calls.get(call).is_some() {
             return Err(StepError::Used);
         }
-        if id as usize >= MAX_EID {
+        if id as usize >= ATOMIC_MAX_EID {
             return Err(StepError::Range);
         }
         if self.past.reserve(1).is_err() {
@@ -227,7 +225,7 @@ impl World {
 
     // Tells whether the bit of a layer over an index stands.
     fn bit(&self, id: Index, layer: usize) -> bool
-        requires id { id < MAX_EID }
+        requires id { id < ATOMIC_MAX_EID }
         requires layer { layer < ATOMIC_LAYERS }
         ensures { result ≡ lit (layer_word self.now.layers) layer (id / 64 ^ layer) }
     {
@@ -237,9 +235,9 @@ impl World {
 
     /// Tells whether the whole path of an index stands: in each of the four layers the bit that `path` tells. So it is after each addition of the index has ended, and it may be before that, by other calls.
     ///
-    /// The index is below `MAX_EID`. It is no event, and takes no memory.
+    /// The index is below `ATOMIC_MAX_EID`. It is no event, and takes no memory.
     pub fn stands(&self, id: Index) -> bool
-        requires { id < MAX_EID }
+        requires { id < ATOMIC_MAX_EID }
         ensures { IsTrue result ↔ WholePathStands self.now id }
     {
         if !self.bit(id, 0) {

@@ -3,11 +3,10 @@ ghost use Rattle.std.specs.Prelude.{reverse};
 ghost use Rattle.hibitset_atomic.specs.AtomicBitSet.{has};
 ghost use Rattle.hibitset_atomic.specs.Layers.{layer_word};
 ghost use Rattle.hibitset_atomic.specs.Kept.{IsOfPast};
-ghost use Rattle.hibitset_atomic.specs.declared.steps.TheConstants.{ATOMIC_LAYERS};
+ghost use Rattle.hibitset_atomic.specs.declared.layers.TheConstants.{ATOMIC_LAYERS};
 
 use crate::atomic::AtomicBitSet;
-use crate::layers::Layers;
-use crate::steps::ATOMIC_LAYERS;
+use crate::layers::{ATOMIC_LAYERS, Layers};
 use crate::steps::calls::Calls;
 use crate::steps::event::Event;
 use crate::steps::walks::Walks;

@@ -5,8 +5,7 @@ ghost use Rattle.hibitset_base.specs.Cursor.{left};
 ghost use Rattle.hibitset_base.specs.Places.{bits_from};
 ghost use Rattle.hibitset_atomic.specs.Ahead.{AllAbove};
 
-use crate::layers::Layers;
-use crate::steps::ATOMIC_LAYERS;
+use crate::layers::{ATOMIC_LAYERS, Layers};
 use hibitset_base::cursor::Cursor;
 use hibitset_base::util::Index;
 use std::alloc::{AllocError, Global};
