@@ -35,13 +35,11 @@ fn clusters(rt: HostRuntime) -> Result<(), Fail> {
     assert_eq!(rt; list(rt.alloc(), &set)?.len(), 512);
     assert_eq!(rt; (&set).par_iter().count(&rt, rt.alloc())?, 512);
     let visited = AtomicUsize::new(0);
-    (&set).par_iter().for_each(
-        &rt,
-        rt.alloc(),
-        |_index: Index| {
+    (&set)
+        .par_iter()
+        .for_each(&rt, rt.alloc(), |_index: Index| {
             visited.fetch_add(1, Ordering::SeqCst);
-        },
-    )?;
+        })?;
     assert_eq!(rt; visited.load(Ordering::SeqCst), 512);
     let none = BitSet::new(rt.alloc());
     assert_eq!(rt; (&none).par_iter().count(&rt, rt.alloc())?, 0);

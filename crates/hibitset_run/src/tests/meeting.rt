@@ -167,10 +167,7 @@ fn few_heavy_parts_meet(rt: HostRuntime) -> Result<(), Fail> {
         return Ok(());
     }
     let set = Meeting::new(rt.alloc())?;
-    let count = (&set)
-        .par_iter()
-        .layers_split(1)
-        .count(&rt, rt.alloc())?;
+    let count = (&set).par_iter().layers_split(1).count(&rt, rt.alloc())?;
     assert_eq!(rt; count, 524_288);
     assert!(rt; set.places.both_found());
     Ok(())
