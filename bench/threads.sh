@@ -1,8 +1,8 @@
 #!/bin/sh
-# threads.sh ORIGINAL [REPEATS]: times the calls that start threads, beside the original with its own rayon, on all processors and on one.
+# threads.sh ORIGINAL [REPEATS]: times the calls that start threads, beside the original with its own rayon, on all processors and on one; then the shared set, beside the original's AtomicBitSet.
 # ORIGINAL: the folder of the original crate's sources. REPEATS: how many times each call is made, of which the median counts (15).
 # It needs rt, cargo and taskset, and of Debian's packages librust-rayon-dev under REGISTRY; without that the original is left out.
-# README=1: also puts what it prints into README.md, in the place of the last results.
+# README=1: also puts what it prints into README.md, each table in the place of its last results.
 set -eu
 here=$(cd "$(dirname "$0")" && pwd)
 [ $# -ge 1 ] || { echo "usage: threads.sh ORIGINAL [REPEATS]" >&2; exit 64; }
@@ -31,8 +31,8 @@ if ls -d "$registry"/rayon-1* >/dev/null 2>&1; then
 fi
 
 rows() { # PROCESSORS: one line a call: what, set, members, nanoseconds of ours in parts, of ours alone, of theirs in parts
-    "$ours" "$repeats" >"$work/ours.txt"
-    if [ -n "$theirs" ]; then "$theirs" "$repeats" >"$work/theirs.txt"; else : >"$work/theirs.txt"; fi
+    "$ours" parallel "$repeats" >"$work/ours.txt"
+    if [ -n "$theirs" ]; then "$theirs" parallel "$repeats" >"$work/theirs.txt"; else : >"$work/theirs.txt"; fi
     awk -F '\t' '
         FILENAME ~ /theirs/ { theirs[$1 FS $2 FS $3 FS $4] = $5; next }
         $4 == "alone" { alone = $5; next }
@@ -44,9 +44,37 @@ rows() { # PROCESSORS: one line a call: what, set, members, nanoseconds of ours 
     ' "$work/theirs.txt" "$work/ours.txt"
 }
 
+shared_rows() { # one line a row: what, which indices, how many threads, nanoseconds of ours and of theirs; microseconds a call for settle and share
+    "$ours" shared "$repeats" >"$work/ours.txt"
+    if [ -n "$theirs" ]; then "$theirs" shared "$repeats" >"$work/theirs.txt"; else : >"$work/theirs.txt"; fi
+    awk -F '\t' '
+        FILENAME ~ /theirs/ { theirs[$1 FS $2 FS $3] = $4; next }
+        $1 == "settle" || $1 == "share" {
+            calls = calls sprintf("| %s, 1M %s, %s (microseconds a call) | %.1f | - | - | - |\n", $1, $2, $3, $4 / 1000)
+            next
+        }
+        {
+            original = theirs[$1 FS $2 FS $3]
+            aim = $1 == "add, there" ? 0.15 : $1 == "add, new" ? 0.75 : 1
+            printf "| %s, 1M %s, %s | %.2f | %s | %s | %.2f |\n", $1, $2, $3, $4 / 1000000, original ? sprintf("%.2f", original / 1000000) : "-",
+                original ? sprintf("%.2f%s", $4 / original, $4 / original > aim + 0.005 ? " *" : "") : "-", aim
+        }
+        END { printf "%s", calls }
+    ' "$work/theirs.txt" "$work/ours.txt"
+}
+
+machine() {
+    printf '%s, %s cores of %s; %s; medians of %s %s, load average %s.\n' "$(date -u +%Y-%m-%d)" "$(nproc)" \
+        "$(sed -n 's/^model name[^:]*: *//p' /proc/cpuinfo | head -n 1)" "$(rt version)" "$repeats" "$1" "$(cut -d ' ' -f 1 /proc/loadavg)"
+}
+
 {
-    printf '%s, %s cores of %s; %s; medians of %s calls.\n' "$(date -u +%Y-%m-%d)" "$(nproc)" \
-        "$(sed -n 's/^model name[^:]*: *//p' /proc/cpuinfo | head -n 1)" "$(rt version)" "$repeats"
+    machine rounds
+    printf '\n| nanoseconds an index | ours | original | ratio | aim |\n|---|---:|---:|---:|---:|\n'
+    shared_rows
+} >"$work/shared.md"
+{
+    machine calls
     for processors in all one; do
         printf '\n| on %s (microseconds a call) | ours | original | ratio | our own walk | ratio |\n|---|---:|---:|---:|---:|---:|\n' \
             "$([ $processors = all ] && echo "all processors" || echo "one processor")"
@@ -55,11 +83,15 @@ rows() { # PROCESSORS: one line a call: what, set, members, nanoseconds of ours 
     done
 } >"$work/threads.md"
 cat "$work/threads.md"
+echo
+cat "$work/shared.md"
 if [ -n "${README:-}" ]; then
-    awk -v results="$work/threads.md" '
-        /^<!-- threads -->$/ { print; print ""; while ((getline line < results) > 0) print line; print ""; held = 1 }
-        /^<!-- end of threads -->$/ { held = 0 }
-        !held { print }
-    ' "$here/README.md" >"$work/README.md"
-    cp "$work/README.md" "$here/README.md"
+    for table in threads shared; do
+        awk -v results="$work/$table.md" -v table="$table" '
+            $0 == "<!-- " table " -->" { print; print ""; while ((getline line < results) > 0) print line; print ""; held = 1 }
+            $0 == "<!-- end of " table " -->" { held = 0 }
+            !held { print }
+        ' "$here/README.md" >"$work/README.md"
+        cp "$work/README.md" "$here/README.md"
+    done
 fi

@@ -1,13 +1,15 @@
-//! threads REPEATS: the rows of crates/hibitset_bench_threads over the original crate, with its own rayon.
+//! threads parallel REPEATS, threads shared REPEATS: the rows of crates/hibitset_bench_threads over the original crate, with its own rayon, and with std's scope.
 extern crate hibitset;
 extern crate rayon;
 
-use hibitset::{BitSet, BitSetLike};
+use hibitset::{AtomicBitSet, BitSet, BitSetLike};
 use rayon::iter::ParallelIterator;
 use std::hint::black_box;
 use std::time::Instant;
 
 const END: u32 = 1 << 24;
+const INDICES: usize = 2_000_000;
+const SEED: u64 = 88_172_645_463_325_252;
 
 #[derive(Clone, Copy)]
 enum Shape {
@@ -26,7 +28,7 @@ fn set_of(shape: Shape, members: u32) -> BitSet {
     let mut set = BitSet::new();
     match shape {
         Shape::OneIn(one_in) => {
-            let mut state = 88_172_645_463_325_252u64;
+            let mut state = SEED;
             for id in 0..members.saturating_mul(one_in) {
                 state = next(state);
                 if (state >> 32) % u64::from(one_in) == 0 && id < END {
@@ -66,8 +68,7 @@ fn in_parts(set: &BitSet, work: &str) -> u64 {
     }
 }
 
-fn main() {
-    let repeats: usize = std::env::args().nth(1).and_then(|word| word.parse().ok()).expect("REPEATS");
+fn parallel(repeats: usize) {
     let shapes = [("dense", Shape::Dense), ("half", Shape::OneIn(2)), ("10 %", Shape::OneIn(10)), ("1 %", Shape::OneIn(100)), ("clusters", Shape::Clusters)];
     for (shape_name, shape) in shapes {
         for size in [10_000, 100_000, 1_000_000, 4_000_000] {
@@ -86,5 +87,78 @@ fn main() {
                 }
             }
         }
+    }
+}
+
+fn by_chance() -> Vec<u32> {
+    let mut drawn = BitSet::new();
+    let mut list = Vec::new();
+    let mut state = SEED;
+    while list.len() < INDICES {
+        state = next(state);
+        let id = ((state >> 32) % u64::from(END)) as u32;
+        if !drawn.add(id) {
+            list.push(id);
+        }
+    }
+    list
+}
+
+// How many answers were false.
+fn through(set: &AtomicBitSet, list: &[u32], adds: bool) -> usize {
+    if adds {
+        list.iter().filter(|&&id| !set.add_atomic(id % END)).count()
+    } else {
+        list.iter().filter(|&&id| !set.contains(id % END)).count()
+    }
+}
+
+// The same on so many threads, each with a part of the list of its own, and how long it took.
+fn timed(set: &AtomicBitSet, list: &[u32], adds: bool, threads: usize, falses: usize) -> u128 {
+    let start = Instant::now();
+    let found: usize = if threads < 2 {
+        through(set, list, adds)
+    } else {
+        std::thread::scope(|scope| {
+            let mut parts = list.chunks(list.len().div_ceil(threads));
+            let first = parts.next().unwrap_or(&[]);
+            let others: Vec<_> = parts.map(|part| scope.spawn(move || through(set, part, adds))).collect();
+            through(set, first, adds) + others.into_iter().map(|other| other.join().expect("a thread")).sum::<usize>()
+        })
+    };
+    let time = start.elapsed().as_nanos();
+    assert_eq!(found, falses);
+    time
+}
+
+fn shared(repeats: usize) {
+    let processors = std::thread::available_parallelism().expect("processors").get();
+    let ascending: Vec<u32> = (0..INDICES as u32).collect();
+    for (ways, threads) in [("one thread", 1), ("all processors", processors)] {
+        for (order, list) in [("random", by_chance()), ("ascending", ascending.clone())] {
+            let (new, others) = list.split_at(list.len() / 2);
+            let mut times: [Vec<u128>; 4] = Default::default();
+            for _ in 0..repeats {
+                let set = AtomicBitSet::new();
+                times[0].push(timed(&set, new, true, threads, new.len()));
+                times[1].push(timed(&set, new, true, threads, 0));
+                times[2].push(timed(&set, new, false, threads, 0));
+                times[3].push(timed(&set, others, false, threads, others.len()));
+            }
+            for (work, times) in ["add, new", "add, there", "contains, hit", "contains, miss"].into_iter().zip(&mut times) {
+                times.sort();
+                println!("{work}\t{order}\t{ways}\t{}", times[times.len() / 2]);
+            }
+        }
+    }
+}
+
+fn main() {
+    let words: Vec<String> = std::env::args().collect();
+    let repeats: usize = words.get(2).and_then(|word| word.parse().ok()).expect("REPEATS");
+    match words[1].as_str() {
+        "parallel" => parallel(repeats),
+        "shared" => shared(repeats),
+        _ => panic!("parallel or shared"),
     }
 }

@@ -14,8 +14,11 @@ pub(crate) enum Shape {
     Clusters,
 }
 
+// Where the fixed sequence begins.
+pub(crate) const SEED: u64 = 88_172_645_463_325_252;
+
 // The next number of a fixed sequence.
-fn next(state: u64) -> u64 {
+pub(crate) fn next(state: u64) -> u64 {
     let a = state ^ (state << 13);
     let b = a ^ (a >> 7);
     b ^ (b << 17)
@@ -32,7 +35,7 @@ pub(crate) fn set_of(alloc: Global, shape: Shape, members: u32) -> Result<BitSet
 
 fn by_chance(alloc: Global, one_in: u32, members: u32) -> Result<BitSet, AllocError> {
     let mut set = BitSet::new(alloc);
-    let mut state = 88_172_645_463_325_252u64;
+    let mut state = SEED;
     for id in 0..members.saturating_mul(one_in) {
         state = next(state);
         if one_in != 0 && (state >> 32) % u64::from(one_in) == 0 && (id as usize) < MAX_EID {

@@ -1,9 +1,9 @@
-//! The rows: what is timed, and over which sets.
+//! The walks in parts: what is timed, and over which sets.
+use crate::clock::{median, nanoseconds};
 use crate::sets::{Shape, set_of};
 use hibitset::{BitSet, BitSetLike, Index};
 use std::alloc::{AllocError, Global};
-use std::env;
-use std::rt::{Clock, Env};
+use std::rt::Clock;
 use std::thread::Threads;
 use std::time::Instant;
 
@@ -73,17 +73,6 @@ fn in_parts(
     }
 }
 
-// The time between two readings of the clock, in nanoseconds.
-fn nanoseconds(rt: &impl Clock, start: Instant) -> anyhow::Result<u64> {
-    Ok(u64::try_from(start.elapsed(rt)?.as_nanos()).unwrap_or(u64::MAX))
-}
-
-// The middle one of some times.
-fn median(times: &mut Vec<u64>) -> anyhow::Result<u64> {
-    times.sort()?;
-    Ok(times.get(times.len() / 2).copied().unwrap_or(0))
-}
-
 // How long one call takes: the median of so many.
 fn time_of<R: Clock + Threads + Sync>(
     rt: &R,
@@ -108,15 +97,12 @@ fn time_of<R: Clock + Threads + Sync>(
     median(&mut times)
 }
 
-// Prints all rows: where there is an argument, and it is a number, so many repeats each.
-pub(crate) fn print_all<R: Alloc + Clock + Env + Print + Threads + Sync>(
+// Prints all rows, each the median of so many calls.
+pub(crate) fn print_all<R: Clock + Print + Threads + Sync>(
     rt: &R,
     alloc: Global,
+    repeats: usize,
 ) -> anyhow::Result<()> {
-    let Some(argument) = env::args(rt)?.nth(1) else {
-        return Ok(());
-    };
-    let repeats: usize = argument.parse()?;
     for (shape_name, shape) in SHAPES {
         for size in SIZES {
             let set = set_of(alloc, shape, size)?;
