@@ -240,7 +240,10 @@ pub(crate) fn print_all<R: Clock + Print + Threads + Sync>(
     let chance = by_chance(alloc)?;
     let first = ascending(alloc)?;
     for (ways, threads) in [("one thread", 1), ("all processors", processors)] {
-        for (order, list) in [("random", chance.as_slice()), ("ascending", first.as_slice())] {
+        for (order, list) in [
+            ("random", chance.as_slice()),
+            ("ascending", first.as_slice()),
+        ] {
             let over = format!(in alloc; "{order}\t{ways}")?;
             print_rows(rt, alloc, list, over.as_str(), threads, repeats)?;
         }

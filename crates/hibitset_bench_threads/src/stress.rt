@@ -259,12 +259,7 @@ fn difference(set: &AtomicBitSet, model: &BitSet) -> Option<Index> {
 }
 
 // One round: it fails at the first difference.
-fn round<R: Threads + Sync>(
-    rt: &R,
-    alloc: Global,
-    plan: Plan,
-    threads: u32,
-) -> anyhow::Result<()> {
+fn round<R: Threads + Sync>(rt: &R, alloc: Global, plan: Plan, threads: u32) -> anyhow::Result<()> {
     // The old members are of a sequence that no thread has, in the same ranges.
     let old = old_set(alloc, plan, threads)?;
     let mut model = plain(alloc, &old)?;
