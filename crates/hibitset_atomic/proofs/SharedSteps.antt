@@ -14,6 +14,7 @@ use Rattle.hibitset_atomic.specs.declared.shared.view.View.{View}
 use Rattle.hibitset_atomic.specs.declared.shared.parts.Seat.{Seat}
 use Rattle.hibitset_atomic.specs.declared.shared.parts.SharedBitSet.{SharedBitSet}
 use Rattle.hibitset_atomic.specs.declared.shared.walk.SharedWalk.{SharedWalk}
+use Rattle.hibitset_atomic.specs.declared.atomic.TheConstants.{ATOMIC_MAX_EID}
 use Rattle.hibitset_atomic.specs.Lists.{Has}
 use Rattle.hibitset_atomic.specs.Seats.{IsOld, Came, Known}
 use Rattle.hibitset_atomic.specs.SharedWalk.{view_of, IsSeen, IsLow, MayStand, IsUnder, lowest, IsSure, Goes, set_of, seat_of, lender, loads_of, next_from, IsReady, IsDue, SharedSteps}
@@ -58,6 +59,13 @@ sure_small set s i sure = ⊎_elim (λ o. o.0) (λ k. k.0) sure
 pub root_under : (set : SharedBitSet) (s : Seat) (ps : List Place) (i : ℕ) → ps ≡ root ∷ [] → IsSure set s i → IsUnder ps i
 root_under set s ps i e sure = rw e (inl (let small = sure_small set s i sure in omega (arith, small)))
 
+-- ---- for callers, which do not open a walk
+
+-- the seat that a walk has on loan came from the walk's set, between any two steps
+pub ready-came : (walk : SharedWalk) → IsReady walk → Came (set_of walk) (seat_of walk)
+unfolding IsReady
+ready-came walk ready = ready.0
+
 -- ---- a step, as the walk's users see it
 
 depth_most : (v : View) (ps : List Place) → All (IsSeen v) ps → depth ps ≤ 4
@@ -78,10 +86,12 @@ known_small s i k = k.0
 
 module _ (old new : SharedWalk) (name : lender new ≡ lender old) (set : set_of new ≡ set_of old) (ready : IsReady old) where
   few_first : depth (left old.cursor) ≤ 4
-  few_first = depth_most (view_of (seat_of old)) (left old.cursor) ready.stands.seen
+  unfolding IsReady
+  few_first = depth_most (view_of (seat_of old)) (left old.cursor) ready.1.seen
 
   few_later : 0 < loads_of old → depth (left old.cursor) ≤ 3
-  few_later some = depth_low (left old.cursor) (ready.stands.opened some)
+  unfolding IsReady
+  few_later some = depth_low (left old.cursor) (ready.1.opened some)
 
   abbrev GoesTo : List Place → Type 0
   GoesTo qs = Goes (set_of old) (seat_of old) (seat_of new) (loads_of old) (left old.cursor) (loads_of new) qs
@@ -109,8 +119,9 @@ module _ (old new : SharedWalk) (name : lender new ≡ lender old) (set : set_of
   ahead_some x later i due = under_after x i (left new.cursor) later due.1
 
   steps_none : left new.cursor ≡ [] → GoesTo (left new.cursor) → SharedSteps old None new
+  unfolding IsReady next_from
   steps_none end goes = record {
-    ready = record { came = came_still goes.keeps.came; stands = goes.stands };
+    ready = (came_still goes.keeps.came, goes.stands);
     same_reference = name;
     set = set;
     came = came_still goes.keeps.came;
@@ -134,11 +145,12 @@ module _ (old new : SharedWalk) (name : lender new ≡ lender old) (set : set_of
   }
 
   steps_some : (x : ℕ) → MayGoOn new.cursor 0 x → GoesTo ((record { layer = 0; position = x }) ∷ left new.cursor) → SharedSteps old (Some x) new
+  unfolding IsReady next_from
   steps_some x before goes =
       let known : Known (seat_of new) x = known_place (seat_of new) x (All-head (IsSeen (view_of (seat_of new))) (record { layer = 0; position = x }) (left new.cursor) goes.stands.seen) in
       let later = later_than 5 new.cursor.masks new.cursor.prefix x before new.cursor.formed.long in
       record {
-        ready = record { came = came_still goes.keeps.came; stands = rest_stands x goes.stands };
+        ready = (came_still goes.keeps.came, rest_stands x goes.stands);
         same_reference = name;
         set = set;
         came = came_still goes.keeps.came;
@@ -158,7 +170,7 @@ module _ (old new : SharedWalk) (name : lender new ≡ lender old) (set : set_of
   shared_steps None end goes comes = steps_none (end refl) goes
   shared_steps (Some x) end goes comes = steps_some x comes goes
 
-pub nearer_end : (old new : SharedWalk) (item : Option ℕ) → SharedSteps old item new → MakesProgress IsReady (λ walk. at_most (16777216 - next_from walk)) old item new
+pub nearer_end : (old new : SharedWalk) (item : Option ℕ) → SharedSteps old item new → MakesProgress IsReady (λ walk. at_most (ATOMIC_MAX_EID - next_from walk)) old item new
 nearer_end old new None s = record { on = λ finite. tt; keeps = tt; rests = λ finite. tt }
 nearer_end old new (Some x) s =
     let small = s.given.1 in

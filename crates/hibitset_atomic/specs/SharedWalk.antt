@@ -8,6 +8,8 @@ use Rattle.hibitset_atomic.specs.declared.shared.view.View.{View}
 use Rattle.hibitset_atomic.specs.declared.shared.parts.Seat.{Seat}
 use Rattle.hibitset_atomic.specs.declared.shared.parts.SharedBitSet.{SharedBitSet}
 use Rattle.hibitset_atomic.specs.declared.shared.walk.SharedWalk.{SharedWalk}
+use Rattle.hibitset_atomic.specs.declared.atomic.TheConstants.{ATOMIC_MAX_EID}
+use Rattle.hibitset_atomic.specs.declared.layers.TheConstants.{ATOMIC_LAYERS}
 use Rattle.hibitset_atomic.specs.Lists.{Has}
 use Rattle.hibitset_atomic.specs.Levels.{first_mark}
 use Rattle.hibitset_atomic.specs.Seats.{IsOld, Came, Known, weight_of, reports_of}
@@ -17,15 +19,15 @@ use Rattle.hibitset_atomic.specs.Seats.{IsOld, Came, Known, weight_of, reports_o
 abbrev pub view_of : Seat → View
 view_of s = s.pass.me.0
 
--- The seat has seen the bit of this place, and each bit above it. Layer 4 has one place, the root, over the word of layer 3, and no bits.
+-- The seat has seen the bit of this place, and each bit above it. The layer past the highest has one place, the root, over the highest layer's word, and no bits.
 pub record IsSeen (v : View) (place : Place) : Type 0 where
-  pub layer : place.layer ≤ 4
-  pub within : place.position < 64 ^ (4 - place.layer)
-  pub seen : (l : ℕ) → place.layer ≤ l → l < 4 → Has v.seen (first_mark l + place.position / 64 ^ (l - place.layer))
+  pub layer : place.layer ≤ ATOMIC_LAYERS
+  pub within : place.position < 64 ^ (ATOMIC_LAYERS - place.layer)
+  pub seen : (l : ℕ) → place.layer ≤ l → l < ATOMIC_LAYERS → Has v.seen (first_mark l + place.position / 64 ^ (l - place.layer))
 
 -- a place that is not the root
 abbrev pub IsLow : Place → Type 0
-IsLow place = place.layer < 4
+IsLow place = place.layer < ATOMIC_LAYERS
 
 -- the root can only be first
 abbrev pub RestIsLow : List Place → Type 0
@@ -46,7 +48,7 @@ IsUnder (place ∷ ps) i = (i / 64 ^ place.layer ≡ place.position) ⊎ IsUnder
 
 -- the least index that may lie under these places
 abbrev pub lowest : List Place → ℕ
-lowest [] = 16777216
+lowest [] = ATOMIC_MAX_EID
 lowest (place ∷ ps) = place.position * 64 ^ place.layer
 
 -- old, or known to the seat
@@ -70,29 +72,28 @@ pub record Goes (set : SharedBitSet) (old new : Seat) (loads : ℕ) (ps : List P
 
 -- ---- the walk, as its users see it
 
-abbrev pub set_of : SharedWalk → SharedBitSet
+unfoldable pub set_of : SharedWalk → SharedBitSet
 set_of walk = walk.set.now
 
 -- the walk's seat, as it is now
-abbrev pub seat_of : SharedWalk → Seat
+unfoldable pub seat_of : SharedWalk → Seat
 seat_of walk = walk.seat.now
 
--- the ghost name of the reference to the seat
+-- The ghost name of the reference to the seat. It is open to callers, in whose proofs a loan ends by it.
 abbrev pub lender : SharedWalk → GName
 lender walk = walk.seat.ghost_name
 
 -- how many words the walk has loaded
-abbrev pub loads_of : SharedWalk → ℕ
+unfoldable pub loads_of : SharedWalk → ℕ
 loads_of walk = walk.reads.count
 
 -- no index below this one comes any more
-abbrev pub next_from : SharedWalk → ℕ
+unfoldable pub next_from : SharedWalk → ℕ
 next_from walk = lowest (left walk.cursor)
 
--- The seat came from the walk's set, and has seen what the walk goes by.
-pub record IsReady (walk : SharedWalk) : Type 0 where
-  pub came : Came (set_of walk) (seat_of walk)
-  pub stands : MayStand (view_of (seat_of walk)) (loads_of walk) (left walk.cursor)
+-- the seat came from the walk's set, and has seen what the walk goes by
+unfoldable pub IsReady : SharedWalk → Type 0
+IsReady walk = Came (set_of walk) (seat_of walk) × MayStand (view_of (seat_of walk)) (loads_of walk) (left walk.cursor)
 
 -- the walk has still to give this index
 unfoldable pub IsDue : SharedWalk → ℕ → Type 0
@@ -107,9 +108,9 @@ pub record SharedSteps (old : SharedWalk) (item : Option ℕ) (new : SharedWalk)
   pub weight : weight_of (seat_of new) ≡ weight_of (seat_of old)
   pub reports : reports_of (seat_of new) ≡ reports_of (seat_of old)
   pub known : (i : ℕ) → Known (seat_of old) i → Known (seat_of new) i
-  pub given : MatchOption item (next_from new ≡ 16777216) (λ i. Known (seat_of new) i × (i < 16777216) × (next_from old ≤ i) × (i < next_from new))
+  pub given : MatchOption item (next_from new ≡ ATOMIC_MAX_EID) (λ i. Known (seat_of new) i × (i < ATOMIC_MAX_EID) × (next_from old ≤ i) × (i < next_from new))
   pub ahead : IfSome item (λ x. (i : ℕ) → IsDue new i → x < i)
   pub due : (i : ℕ) → IsDue old i → MatchOption item ⊥ (λ x. (i ≡ x) ⊎ IsDue new i)
-  pub first : loads_of new ≤ loads_of old + 4
-  pub later : 0 < loads_of old → loads_of new ≤ loads_of old + 3
+  pub first : loads_of new ≤ loads_of old + ATOMIC_LAYERS
+  pub later : 0 < loads_of old → loads_of new ≤ loads_of old + (ATOMIC_LAYERS - 1)
   pub begun : 0 < loads_of new

@@ -2,7 +2,6 @@
 mod building;
 mod callers;
 mod held;
-mod meet;
 mod orders;
 mod shares;
 mod worlds;

@@ -1,2 +1,3 @@
 //! What takes several crates, or two threads.
+mod adding;
 mod meeting;

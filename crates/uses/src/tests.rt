@@ -1,14 +1,15 @@
 //! Walks of seats that add in turn.
 ghost use Rattle.std.specs.Prelude.{◌≡◌, ◌<◌};
+ghost use Rattle.hibitset_atomic.specs.declared.atomic.TheConstants.{ATOMIC_MAX_EID};
 ghost use Rattle.hibitset_atomic.specs.Seats.{Came};
 
 use crate::walks::{first, indices};
-use hibitset::{AtomicBitSet, Seat, SharedBitSet};
+use hibitset::{AtomicBitSet, Index, Seat, SharedBitSet};
 use std::test::Fail;
 
 // Adds the indices below a count, and counts the answers false.
 fn add_below(set: &SharedBitSet, seat: &mut Seat, count: u32) -> u32
-    requires { Came set.now seat.old × (count < 16777216) }
+    requires { Came set.now seat.old × (count < ATOMIC_MAX_EID) }
     ensures { Came set.now seat.new }
 {
     let mut new = 0u32;
@@ -20,14 +21,14 @@ fn add_below(set: &SharedBitSet, seat: &mut Seat, count: u32) -> u32
     new
 }
 
-// How many indices below a count are found.
-fn found_below(set: &SharedBitSet, seat: &mut Seat, count: u32) -> u32
+// How many of these indices are found.
+fn found_of(set: &SharedBitSet, seat: &mut Seat, ids: &[Index]) -> usize
     requires { Came set.now seat.old }
     ensures { Came set.now seat.new }
 {
-    let mut found = 0u32;
-    for id in 0..count {
-        if set.contains(seat, id) {
+    let mut found = 0usize;
+    for id in ids {
+        if set.contains(seat, *id) {
             found = found.wrapping_add(1);
         }
     }
@@ -45,6 +46,11 @@ fn old_and_added(rt: HostRuntime) -> Result<(), Fail> {
     assert_eq!(rt; first(&set, &mut seat), Some(3));
     let all = indices(rt.alloc(), &set, &mut seat)?;
     assert_eq!(rt; all.as_slice(), [3, 5].as_slice());
+    let mut walk = set.walk(&mut seat);
+    assert_eq!(rt; walk.next(), Some(3));
+    assert_eq!(rt; walk.next(), Some(5));
+    assert_eq!(rt; walk.next(), None);
+    assert_eq!(rt; walk.next(), None);
     Ok(())
 }
 
@@ -67,12 +73,13 @@ fn what_another_seat_added(rt: HostRuntime) -> Result<(), Fail> {
             .fold(0u64, |sum, id| sum.wrapping_add(u64::from(*id))),
         499500
     );
-    assert_eq!(rt; found_below(&set, &mut b, 1000), 1000);
+    assert_eq!(rt; found_of(&set, &mut b, all.as_slice()), 1000);
     let again = indices(rt.alloc(), &set, &mut b)?;
+    assert!(rt; again.len() >= 1000);
     assert!(rt; all.iter().all(|id| again.contains(id)));
     assert!(rt; !set.add_atomic(&mut b, 2000));
     let last = indices(rt.alloc(), &set, &mut a)?;
-    assert!(rt; last.len() > 1000);
+    assert!(rt; last.len() == 1001 && all.iter().all(|id| last.contains(id)));
     assert_eq!(rt; last.last().copied(), Some(2000));
     Ok(())
 }

@@ -7,27 +7,36 @@ ghost use Rattle.hibitset_base.specs.Cursor.{left, MayGoOn};
 ghost use Rattle.hibitset_base.specs.Reading.{depth};
 ghost use Rattle.hibitset_atomic.specs.Lists.{Has};
 ghost use Rattle.hibitset_atomic.specs.Levels.{first_mark};
+ghost use Rattle.hibitset_atomic.specs.declared.atomic.TheConstants.{ATOMIC_MAX_EID};
+ghost use Rattle.hibitset_atomic.specs.declared.layers.TheConstants.{ATOMIC_LAYERS};
 ghost use Rattle.hibitset_atomic.specs.Seats.{IsOld, Came, Known, weight_of, reports_of};
 ghost use Rattle.hibitset_atomic.specs.SharedWalk.{view_of, IsSure, Keeps, Goes, MayStand, set_of, seat_of, lender, loads_of, next_from, IsReady, IsDue, SharedSteps};
 
+use crate::layers::ATOMIC_LAYERS;
 use crate::shared::parts::{Seat, SharedBitSet};
 use hibitset_base::cursor::Cursor;
 use hibitset_base::reads::Reads;
 use hibitset_base::util::Index;
 
-/// A walk over a shared set, in ascending order, while others add to it. What it gives becomes known to its seat.
+// The layers, and the root over them: one place, over the word of the highest layer.
+pub(crate) const LEVELS: usize = ATOMIC_LAYERS + 1;
+
+/// A walk over a shared set, in ascending order, while others add to it. It has one seat of that set on loan, and what it gives becomes known to that seat.
 ///
-/// Once it has ended, it has given each index from before `share`, and each that the seat knew when the walk was made.
+/// Once it has ended, it has given each index from before `share`, and each that the seat knew when the walk was made; an index that comes in meanwhile may be given or not. Where it is dropped early, the seat knows what was given, and nothing that was old or known lies before the last item without having been given.
+///
+/// A step makes a few loads, each a sequentially consistent read of one word, and nothing else: at most four at the first `next`, at most three at each later one. It takes no memory, writes nothing to the set and waits for nobody.
 pub struct SharedWalk<'a> {
     pub(crate) seat: &'a mut Seat,
     pub(crate) set: &'a SharedBitSet,
-    pub(crate) cursor: Cursor<5>,
+    pub(crate) cursor: Cursor<LEVELS>,
     pub(crate) reads: Reads,
 }
 
 impl Drop for SharedWalk<'_> {
+    #[tactic(auto, unfolding(crate::specs::SharedWalk::seat_of))]
     fn drop(self)
-        ensures { self.exit.0.now ≡ self.entry.seat.now }
+        ensures { self.exit.0.now ≡ seat_of self.entry }
     {
         let SharedWalk {
             seat: _,
@@ -42,7 +51,7 @@ impl Drop for SharedWalk<'_> {
 
 // Loads the word of a layer at a position. Each load of a walk is made here.
 #[inline]
-#[tactic(auto, unfolding(crate::specs::Seats::Came, crate::specs::Seats::Known, crate::specs::Seats::IsOld))]
+#[tactic(auto, unfolding(crate::specs::Seats::Came, crate::specs::Seats::Known, crate::specs::Seats::IsOld, crate::specs::Seats::weight_of, crate::specs::Seats::reports_of))]
 fn load(
     set: &SharedBitSet,
     seat: &mut Seat,
@@ -51,8 +60,8 @@ fn load(
     position: u32,
 ) -> usize
     requires came { Came set.now seat.old }
-    requires layer { layer < 4 }
-    requires position { position < 64 ^ (3 - layer) }
+    requires layer { layer < ATOMIC_LAYERS }
+    requires position { position < 64 ^ (ATOMIC_LAYERS - 1 - layer) }
     ensures keeps { Keeps set.now seat.old seat.new }
     ensures some { Has (view_of seat.old).seen (first_mark (layer + 1) + position) → 0 < result }
     ensures seen { (b : ℕ) → b < 64 → bit_at result b ≡ 1 → Has (view_of seat.new).seen (first_mark layer + (64 * position + b)) }
@@ -68,13 +77,13 @@ fn load(
 fn descend(
     set: &SharedBitSet,
     seat: &mut Seat,
-    cursor: &mut Cursor<5>,
+    cursor: &mut Cursor<LEVELS>,
     reads: &mut Reads,
     layer: usize,
     position: u32,
 )
     requires came { Came set.now seat.old }
-    requires layer { layer < 5 }
+    requires layer { layer ≤ ATOMIC_LAYERS }
     requires above { 0 < layer }
     requires rest { MayGoOn cursor.old layer position }
     requires stands { MayStand (view_of seat.old) reads.old.count ((record { layer = layer; position = position }) ∷ left cursor.old) }
@@ -90,7 +99,7 @@ fn descend(
 fn step(
     set: &SharedBitSet,
     seat: &mut Seat,
-    cursor: &mut Cursor<5>,
+    cursor: &mut Cursor<LEVELS>,
     reads: &mut Reads,
 ) -> Option<Index>
     requires came { Came set.now seat.old }
@@ -109,8 +118,11 @@ fn step(
 }
 
 impl SharedBitSet {
-    /// A walk over the set, in ascending order, while others add to it.
+    /// A walk over the set, in ascending order, while others add to it: for one of the set's seats, which comes back when the walk is dropped.
+    ///
+    /// Nothing is read here, the first word at the first `next`. The walk takes nothing from the seat, whose weight and reports stay, and gives it what it finds.
     #[inline]
+    #[tactic(auto, unfolding(crate::specs::SharedWalk::set_of, crate::specs::SharedWalk::seat_of, crate::specs::SharedWalk::loads_of))]
     pub fn walk<'a>(&'a self, seat: &'a mut Seat) -> SharedWalk<'a>
         requires { Came self.now seat.old }
         ensures same_reference { lender result ≡ seat.entry.ghost_name }
@@ -135,9 +147,10 @@ impl<'a> Iterator for SharedWalk<'a> {
 
     ghost next_gives = { SharedSteps };
 
-    ghost remaining = { λ walk. at_most (16777216 - next_from walk) };
+    ghost remaining = { λ walk. at_most (ATOMIC_MAX_EID - next_from walk) };
 
     #[inline]
+    #[tactic(auto, unfolding(crate::specs::SharedWalk::set_of, crate::specs::SharedWalk::seat_of, crate::specs::SharedWalk::loads_of, crate::specs::SharedWalk::IsReady))]
     fn next(&mut self) -> Option<Index> {
         step(self.set, self.seat, &mut self.cursor, &mut self.reads)
     }
