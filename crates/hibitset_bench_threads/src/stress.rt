@@ -219,13 +219,13 @@ fn add_plainly(model: &mut BitSet, plan: Plan, thread: u32) -> Result<u64, Alloc
     Ok(news)
 }
 
-// A set with one in eight of the indices of a sequence.
+// A set with one in eight of the indices of a sequence, or, in half of the rounds, with hardly any, so that the adds have to set summaries too.
 fn old_set(alloc: Global, plan: Plan, thread: u32) -> Result<AtomicBitSet, AllocError> {
     let mut set = AtomicBitSet::new(alloc)?;
     let mut state = plan.first(thread);
     for draw in 0..DRAWS {
         state = next(state);
-        if state % 8 == 3 {
+        if state % 8 == 3 && (plan.seed % 2 == 0 || draw % 4_096 == 0) {
             set.add(plan.index(draw, state))?;
         }
     }
