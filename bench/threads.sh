@@ -53,13 +53,21 @@ shared_rows() { # one line a row: what, which indices, how many threads, nanosec
             calls = calls sprintf("| %s, 1M %s, %s (microseconds a call) | %.1f | - | - | - |\n", $1, $2, $3, $4 / 1000)
             next
         }
+        $1 == "walk, shared" { walk = $4; next }
+        $1 == "walk, settled" {
+            walks = walks sprintf("| walk, 1M %s, %s | %.2f | %.2f | %.2f%s | 1.30 |\n", $2, $3, walk / 1000000, $4 / 1000000, walk / $4, walk / $4 > 1.305 ? " *" : "")
+            next
+        }
         {
             original = theirs[$1 FS $2 FS $3]
             aim = $1 == "add, there" ? 0.15 : $1 == "add, new" ? 0.75 : 1
             printf "| %s, 1M %s, %s | %.2f | %s | %s | %.2f |\n", $1, $2, $3, $4 / 1000000, original ? sprintf("%.2f", original / 1000000) : "-",
                 original ? sprintf("%.2f%s", $4 / original, $4 / original > aim + 0.005 ? " *" : "") : "-", aim
         }
-        END { printf "%s", calls }
+        END {
+            printf "%s", calls
+            if (walks) printf "\n| nanoseconds an item | shared | settled | ratio | aim |\n|---|---:|---:|---:|---:|\n%s", walks
+        }
     ' "$work/theirs.txt" "$work/ours.txt"
 }
 

@@ -31,17 +31,40 @@ struct Done {
 }
 
 // What is timed in each round.
-const ROWS: [&str; 6] = [
+const ROWS: [&str; 8] = [
     "add, new",
     "add, there",
     "contains, hit",
     "contains, miss",
+    "walk, shared",
+    "walk, settled",
     "settle",
     "share",
 ];
 
 // The times of one round, in nanoseconds.
-type Times = [u64; 6];
+type Times = [u64; 8];
+
+// The sum of what a walk over the shared set gives.
+fn shared_sum(set: &SharedBitSet, seat: &mut Seat) -> u64
+    requires { Came set.now seat.old }
+    ensures { Came set.now seat.new }
+{
+    let mut sum = 0u64;
+    for id in set.walk(seat) {
+        sum = sum.wrapping_add(u64::from(id));
+    }
+    sum
+}
+
+// The sum of the members of the settled set.
+fn settled_sum(set: &AtomicBitSet) -> u64 {
+    let mut sum = 0u64;
+    for id in set {
+        sum = sum.wrapping_add(u64::from(id));
+    }
+    sum
+}
 
 // Adds each index.
 fn add_each(set: &SharedBitSet, seat: Seat, list: &[Index]) -> Done
@@ -158,19 +181,36 @@ fn round<R: Clock + Threads + Sync>(
     let (seat, add_new) = timed(rt, &set, seat, new, Work::Add, threads, new.len())?;
     let (seat, add_there) = timed(rt, &set, seat, new, Work::Add, threads, 0)?;
     let (seat, hit) = timed(rt, &set, seat, new, Work::Ask, threads, 0)?;
-    let (seat, miss) = timed(rt, &set, seat, others, Work::Ask, threads, others.len())?;
+    let (mut seat, miss) = timed(rt, &set, seat, others, Work::Ask, threads, others.len())?;
+    let start = Instant::now(rt)?;
+    let sum = shared_sum(&set, &mut seat);
+    let walk = nanoseconds(rt, start)?;
     let start = Instant::now(rt)?;
     let Ok(settled) = set.settle(seat) else {
         bail!("no memory to settle")
     };
     let settle = nanoseconds(rt, start)?;
     let start = Instant::now(rt)?;
+    if settled_sum(&settled) != sum {
+        bail!("a walk over the shared set gives another sum")
+    }
+    let settled_walk = nanoseconds(rt, start)?;
+    let start = Instant::now(rt)?;
     let again = settled.share();
     let share = nanoseconds(rt, start)?;
     if again.is_err() {
         bail!("no memory to share")
     }
-    Ok([add_new, add_there, hit, miss, settle, share])
+    Ok([
+        add_new,
+        add_there,
+        hit,
+        miss,
+        walk,
+        settled_walk,
+        settle,
+        share,
+    ])
 }
 
 // Indices of the fixed sequence, each once.

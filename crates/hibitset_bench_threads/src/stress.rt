@@ -1,5 +1,5 @@
 //! Rounds of additions to shared sets from all processors, each compared with a plain set.
-ghost use Rattle.std.specs.Prelude.{◌<◌, IfSome};
+ghost use Rattle.std.specs.Prelude.{◌<◌, IfOk, IfSome};
 ghost use Rattle.std.specs.Thread.{IsSync};
 ghost use Rattle.hibitset_atomic.specs.Seats.{Came};
 
@@ -58,12 +58,29 @@ struct Hand {
     spare: Option<Seat>,
 }
 
-// What came of a thread's adds: how many answered false, and an index that it knew and did not find.
+// What came of a thread's adds: how many answered false, an index that it knew and did not find, what its walks gave, and whether one of them went wrong.
 #[derive(Drop)]
 struct Done {
     seat: Seat,
     news: u64,
     lost: Option<Index>,
+    walks: Walks,
+}
+
+// What is wrong with a walk: it did not ascend, or it missed an index that its seat knew.
+#[derive(Clone, Copy, Debug)]
+enum Fault {
+    Order,
+    Missed,
+}
+
+// What a thread has added, with their number, and what its walks gave.
+#[derive(Drop)]
+struct Walks {
+    added: BitSet,
+    count: u64,
+    given: BitSet,
+    fault: Option<Fault>,
 }
 
 impl Plan {
@@ -129,11 +146,69 @@ fn meet(gate: &AtomicU64, threads: u32) {
     }
 }
 
-// The adds of one thread. After each it asks for that index and for an earlier one, and one in 64 times it divides its seat or joins it again.
-fn add_all(set: &SharedBitSet, seat: Seat, plan: Plan, thread: u32) -> Done
+impl Walks {
+    fn new(alloc: Global) -> Walks {
+        Walks {
+            added: BitSet::new(alloc),
+            count: 0,
+            given: BitSet::new(alloc),
+            fault: None,
+        }
+    }
+
+    // Keeps in mind that the thread has added an index.
+    fn add(&mut self, id: Index) -> Result<(), AllocError>
+        requires { id < 16777216 }
+    {
+        if !self.added.add(id)? {
+            self.count = self.count.wrapping_add(1);
+        }
+        Ok(())
+    }
+
+    // Walks over the shared set, while others add: the walk has to ascend, and to give all that the thread has added.
+    fn walk(&mut self, set: &SharedBitSet, seat: &mut Seat) -> Result<(), AllocError>
+        requires { Came set.now seat.old }
+        ensures { Came set.now seat.new }
+    {
+        let mut from = 0u32;
+        let mut met = 0u64;
+        for id in set.walk(seat) {
+            if id < from || id >= 16_777_216 {
+                self.fault = Some(Fault::Order);
+                return Ok(());
+            }
+            from = id + 1;
+            met = met.wrapping_add(u64::from(self.added.contains(id)));
+            self.given.add(id)?;
+        }
+        if met != self.count {
+            self.fault = Some(Fault::Missed);
+        }
+        Ok(())
+    }
+
+    // What the walks of two threads gave.
+    fn with(self, other: Walks) -> Result<Walks, AllocError> {
+        let mut both = self;
+        both.given.bitor_assign(&other.given)?;
+        both.fault = both.fault.or(other.fault);
+        Ok(both)
+    }
+}
+
+// The adds of one thread. After each it asks for that index and for an earlier one, and one in 64 times it divides its seat or joins it again; now and then it walks over the set.
+fn add_all(
+    set: &SharedBitSet,
+    alloc: Global,
+    seat: Seat,
+    plan: Plan,
+    thread: u32,
+) -> Result<Done, AllocError>
     requires { Came set.now seat }
-    ensures { Came set.now result.seat }
+    ensures { IfOk result (λ done. Came set.now done.seat) }
 {
+    let mut walks = Walks::new(alloc);
     let mut hand = Hand { seat, spare: None };
     let mut state = plan.first(thread);
     let mut earlier = plan.index(0, next(state));
@@ -145,6 +220,7 @@ fn add_all(set: &SharedBitSet, seat: Seat, plan: Plan, thread: u32) -> Done
         if !set.add_atomic(&mut hand.seat, id) {
             news = news.wrapping_add(1);
         }
+        walks.add(id)?;
         if !set.contains(&mut hand.seat, id) {
             lost = Some(id);
         }
@@ -157,53 +233,65 @@ fn add_all(set: &SharedBitSet, seat: Seat, plan: Plan, thread: u32) -> Done
         if state % 64 == 1 {
             hand = turn(set, hand);
         }
+        if draw % 8_192 == 5_000 {
+            hand = Hand {
+                seat: joined(set, hand),
+                spare: None,
+            };
+            walks.walk(set, &mut hand.seat)?;
+        }
     }
-    Done {
+    Ok(Done {
         seat: joined(set, hand),
         news,
         lost,
-    }
+        walks,
+    })
 }
 
 // The adds of so many threads, from the first on, each with a seat of its own. There are at most as many as shares of the seat.
 fn on_threads<R: Threads + Sync>(
     rt: &R,
     set: &SharedBitSet,
+    alloc: Global,
     seat: Seat,
     plan: Plan,
     gate: &AtomicU64,
     all: u32,
     first: u32,
     count: u32,
-) -> Done
+) -> Result<Done, AllocError>
     requires { Came set.now seat }
-    ensures { Came set.now result.seat }
+    ensures { IfOk result (λ done. Came set.now done.seat) }
 {
     if count < 2 {
         meet(gate, all);
-        return add_all(set, seat, plan, first);
+        return add_all(set, alloc, seat, plan, first);
     }
     let (mine, theirs) = set.divide(seat);
     let Some(theirs) = theirs else {
-        return add_all(set, mine, plan, first);
+        return add_all(set, alloc, mine, plan, first);
     };
     let half = count / 2;
     let rest = count - half;
     let middle = first.wrapping_add(half);
-    let front = move || -> Done
+    let front = move || -> Result<Done, AllocError>
         requires { IsSync R.row × Came set.now theirs }
-        ensures { Came set.entry.now result.seat }
-    { on_threads(rt, set, theirs, plan, gate, all, first, half) };
-    let back = move || -> Done
+        ensures { IfOk result (λ done. Came set.entry.now done.seat) }
+    { on_threads(rt, set, alloc, theirs, plan, gate, all, first, half) };
+    let back = move || -> Result<Done, AllocError>
         requires { IsSync R.row × Came set.now mine }
-        ensures { Came set.entry.now result.seat }
-    { on_threads(rt, set, mine, plan, gate, all, middle, rest) };
+        ensures { IfOk result (λ done. Came set.entry.now done.seat) }
+    { on_threads(rt, set, alloc, mine, plan, gate, all, middle, rest) };
     let (one, two) = thread::join(rt, front, back);
-    Done {
+    let one = one?;
+    let two = two?;
+    Ok(Done {
         seat: set.join(one.seat, two.seat),
         news: one.news.wrapping_add(two.news),
         lost: one.lost.or(two.lost),
-    }
+        walks: one.walks.with(two.walks)?,
+    })
 }
 
 // Adds the indices of one thread's sequence to a plain set, and counts those that it had not.
@@ -267,7 +355,10 @@ fn round<R: Threads + Sync>(rt: &R, alloc: Global, plan: Plan, threads: u32) -> 
         bail!("no memory to share")
     };
     let gate = AtomicU64::new(0);
-    let done = on_threads(rt, &set, seat, plan, &gate, threads, 0, threads);
+    let done = on_threads(rt, &set, alloc, seat, plan, &gate, threads, 0, threads)?;
+    if let Some(fault) = done.walks.fault {
+        bail!("a walk went wrong: {fault:?}")
+    }
     if let Some(lost) = done.lost {
         bail!("{lost} was known and is not there")
     }
@@ -283,6 +374,9 @@ fn round<R: Threads + Sync>(rt: &R, alloc: Global, plan: Plan, threads: u32) -> 
     }
     if done.news != news {
         bail!("{} answers false, and {news} new members", done.news)
+    }
+    if !model.contains_set(&done.walks.given) {
+        bail!("a walk gave what nobody added")
     }
     if let Some(id) = difference(&settled, &model) {
         bail!("{id} is in one of the two sets alone")
