@@ -3,10 +3,11 @@ use Rattle.std.proofs.Common.{◌≡◌, ◌≢◌, ℕ, zero, suc, ◌+◌, ◌
 use Rattle.std.specs.Int.{bit_at}
 use Rattle.std.proofs.Math.ListN.{set}
 use Rattle.std.proofs.lemmas.List.{get_or-set_same, get_or-set_other, length-set}
+use Rattle.hibitset_base.specs.Deciding.{same_or_not, some_bit}
 use Rattle.hibitset_base.specs.Sets.{bit_of}
 use Rattle.hibitset_base.specs.Words.{IsSummed, IsShaped, IsStored, word_at}
 use Rattle.hibitset.specs.Merging.{Summarizes}
-use Rattle.hibitset_base.proofs.Mending.{same_or_not, some_bit, way_up, other_layer}
+use Rattle.hibitset_base.proofs.Mending.{way_up, other_layer}
 use Rattle.hibitset_base.proofs.Shapes.{shaped_put, fits_put}
 
 -- Words v and w are the same but under word q of layer 1 and on the way up from it, no higher than k layers over that word, and the bits on the way up to there tell which words below them are 0.

@@ -6,12 +6,11 @@ use Rattle.std.proofs.lemmas.Bool.Decides.{nat_tests}
 use Rattle.std.proofs.Math.Nat.{pow-suc, div-eq_of_lt}
 use Rattle.std.proofs.lemmas.Nat.{le_or_l, le_or_r}
 use Rattle.std.proofs.lemmas.Nat.Bits.{bit_at-lt, bit_at-zero}
+use Rattle.hibitset_base.specs.Deciding.{same_or_not, eq_same}
 use Rattle.hibitset_base.specs.Sets.{IsLawful, bit_of}
 use Rattle.hibitset_base.specs.Words.{IsSummed, holds_at}
 use Rattle.hibitset.specs.Comparing.{BitsPass}
 use Rattle.hibitset.specs.Merging.{Covers}
-use Rattle.hibitset_base.proofs.Mending.{same_or_not}
-use Rattle.hibitset_base.proofs.Holding.{eq_same}
 use Rattle.hibitset.proofs.Merging.{bit_above, zero_or_one}
 
 pub same_of_test : (a b : ℕ) → (a == b) ≡ true → a ≡ b

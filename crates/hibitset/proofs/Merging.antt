@@ -6,11 +6,11 @@ use Rattle.std.proofs.Math.Nat.{pow-suc, div-div-eq-div-mul, div-lt_iff_lt-mul, 
 use Rattle.std.proofs.lemmas.Bool.{cases_lt}
 use Rattle.std.proofs.lemmas.Nat.{pow-add}
 use Rattle.std.proofs.lemmas.Nat.Bits.{bit_at-lt, bit_at_and, bit_at_not, bit_at-zero}
+use Rattle.hibitset_base.specs.Deciding.{same_or_not}
 use Rattle.hibitset_base.specs.Sets.{IsLawful, bit_of}
 use Rattle.hibitset_base.specs.declared.util.TheConstants.{LAYERS}
 use Rattle.hibitset_base.specs.Words.{IsSummed, holds_at}
 use Rattle.hibitset.specs.Merging.{MergedUnder, MergedAt, Summarizes, Covers}
-use Rattle.hibitset_base.proofs.Mending.{same_or_not}
 use Rattle.hibitset_base.proofs.Holding.{bit_test}
 
 -- The state of a loop over the bits of `visited`, of which those of `left` are still to do.

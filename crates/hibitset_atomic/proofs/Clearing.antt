@@ -3,9 +3,9 @@ use Rattle.std.proofs.Common.{◌≡◌, ◌≢◌, ℕ, ◌+◌, ◌*◌, ◌/�
 use Rattle.std.specs.Int.{bit_at}
 use Rattle.std.proofs.lemmas.Bool.{cases_lt}
 use Rattle.std.proofs.lemmas.Nat.Bits.{bit_at-zero, bit_at_above}
+use Rattle.hibitset_base.specs.Deciding.{same_or_not}
 use Rattle.hibitset_base.specs.Words.{IsSummed}
 use Rattle.hibitset_atomic.specs.Clearing.{IsCovered, IsClearUnder, IsSameBeside}
-use Rattle.hibitset_base.proofs.Mending.{same_or_not}
 use Rattle.hibitset_atomic.proofs.Resting.{some_of_bit}
 
 zero_if : (x : ℕ) → (0 < x → ⊥) → x ≡ 0

@@ -5,12 +5,13 @@ use Rattle.hibitset_atomic.specs.declared.steps.event.Event.TheVariants.{Begin, 
 use Rattle.hibitset_atomic.specs.declared.steps.event.StepError.{StepError}
 use Rattle.hibitset_atomic.specs.declared.steps.event.StepError.TheVariants.{Used}
 use Rattle.std.proofs.Math.Nat.{pow-suc, div-div-eq-div-mul}
+use Rattle.hibitset_base.specs.Deciding.{eq_same}
 use Rattle.hibitset_atomic.specs.declared.steps.calls.Call.{Call}
 use Rattle.hibitset_base.specs.Sets.{bit_of}
 use Rattle.hibitset_atomic.specs.Pasts.{one_layer_more, call_of, is_at, passes, has_passed, stands, is_taken, refusal, is_accepted, IsAccepted}
 use Rattle.hibitset_atomic.specs.Honest.{reports, IsAtRest}
 use Rattle.hibitset_atomic.proofs.Spans.{true_or_false, or_cases, or_left, or_right}
-use Rattle.hibitset_atomic.proofs.Standing.{Sound, and_both, eq_true, eq_same, calls_sound, stands-found, stands-from}
+use Rattle.hibitset_atomic.proofs.Standing.{Sound, and_both, eq_true, calls_sound, stands-found, stands-from}
 
 -- new once
 

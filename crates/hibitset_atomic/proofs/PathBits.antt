@@ -4,7 +4,7 @@ use Rattle.std.specs.Int.{bit_at, trailing_zeros}
 use Rattle.std.proofs.lemmas.Nat.Bits.{bit_at-trailing_zeros, bit_at-pow_other}
 use Rattle.std.proofs.lemmas.Nat.{pow_pos}
 use Rattle.std.proofs.Math.Pow.{pow-lt}
-use Rattle.hibitset_base.proofs.Mending.{same_or_not}
+use Rattle.hibitset_base.specs.Deciding.{same_or_not}
 
 -- the lowest bit of a word that has one bit
 pub lowest_of_one : (k : ℕ) → k < 64 → trailing_zeros w64 (2 ^ k) ≡ k

@@ -3,8 +3,9 @@ use Rattle.std.proofs.Common.{◌≡◌, ℕ, zero, suc, ◌+◌, ◌*◌, ◌/�
 use Rattle.std.specs.Int.{bit_at, trailing_zeros}
 use Rattle.std.proofs.lemmas.Bool.Decides.{nat_tests}
 use Rattle.std.proofs.lemmas.Nat.Bits.{bit_at-zero, bit_at-trailing_zeros}
+use Rattle.hibitset_base.specs.Deciding.{same_or_not}
 use Rattle.hibitset_base.specs.Words.{IsSummed, holds_at}
-use Rattle.hibitset_base.proofs.Mending.{same_or_not, way_up}
+use Rattle.hibitset_base.proofs.Mending.{way_up}
 
 -- the bit q of layer l stands
 abbrev pub Stands : (ℕ → ℕ → ℕ) → ℕ → ℕ → Type 0

@@ -6,10 +6,10 @@ use Rattle.std.proofs.lemmas.Bool.Decides.{nat_tests}
 use Rattle.std.proofs.lemmas.List.{get_or_past}
 use Rattle.std.proofs.lemmas.Nat.Bits.{bit_at-zero, bit_at-trailing_zeros}
 use Rattle.std.specs.Int.{trailing_zeros}
+use Rattle.hibitset_base.specs.Deciding.{same_or_not}
 use Rattle.hibitset_base.specs.Words.{IsSummed, holds_at}
 use Rattle.hibitset_atomic.specs.Row.{word_in_row}
 use Rattle.hibitset_atomic.specs.Rule.{Lit, above, Nonzero, Rooted, Summed}
-use Rattle.hibitset_base.proofs.Mending.{same_or_not}
 
 -- words put into a set from the first on: those before place i are there, and the others are 0
 pub filled_more : (old new words : ℕ → ℕ) (i : ℕ) → ((p : ℕ) → p < i → old p ≡ words p) → new i ≡ words i → ((p : ℕ) → p ≢ i → new p ≡ old p) → (p : ℕ) → p < i + 1 → new p ≡ words p

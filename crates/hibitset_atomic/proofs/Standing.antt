@@ -2,6 +2,7 @@
 use Rattle.std.proofs.Common.{◌≡◌, ℕ, suc, ◌+◌, ◌-◌, ◌*◌, ◌/◌, ◌^◌, ◌<◌, ◌≤◌, Bool, true, false, cond, ◌&&◌, ◌||◌, ◌==◌, List, [], ◌∷◌, refl, sym, ◌∙◌, subst, arith, inl, inr, Option, Some, None, lit<}
 use Rattle.std.proofs.Math.Nat.{eq-or-lt_of_le, pow-suc, lt-mul-div-succ, div-eq_of_lt-le, div-div-eq-div-mul, one-le-pow, div-mul-le_self}
 use Rattle.std.proofs.lemmas.Bool.Decides.{nat_tests}
+use Rattle.hibitset_base.specs.Deciding.{eq_same}
 use Rattle.hibitset_atomic.specs.declared.steps.event.Event.{Event}
 use Rattle.hibitset_atomic.specs.declared.steps.event.Event.TheVariants.{Begin, Step, Open, Read}
 use Rattle.hibitset_atomic.specs.declared.steps.calls.Call.{Call}
@@ -15,9 +16,6 @@ and_both false b h = absurd (let k : false ≡ true = h in cc)
 
 pub eq_true : (a b : ℕ) → (a == b) ≡ true → a ≡ b
 eq_true a b h = grind (arith, nat_tests)
-
-pub eq_same : (a b : ℕ) → a ≡ b → (a == b) ≡ true
-eq_same a b e = grind (arith, nat_tests)
 
 -- a call on i has passed the first k layers
 abbrev pub Passed : List Event → ℕ → ℕ → Type 0

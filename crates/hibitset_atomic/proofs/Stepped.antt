@@ -5,6 +5,7 @@ use Rattle.std.proofs.Math.Nat.{eq-or-lt_of_le}
 use Rattle.std.proofs.lemmas.Bool.{cases_lt}
 use Rattle.std.proofs.lemmas.Bool.Decides.{nat_tests}
 use Rattle.std.proofs.lemmas.Nat.Bits.{bit_at-lt, bit_at_or, bit_at-pow_same, bit_at-pow_other}
+use Rattle.hibitset_base.specs.Deciding.{eq_same}
 use Rattle.hibitset_atomic.specs.declared.steps.calls.Call.{Call}
 use Rattle.hibitset_atomic.specs.declared.steps.event.Event.{Event}
 use Rattle.hibitset_atomic.specs.declared.steps.event.Event.TheVariants.{Begin, Step, Open, Read}
@@ -12,7 +13,7 @@ use Rattle.hibitset_atomic.specs.declared.steps.event.StepError.TheVariants.{Use
 use Rattle.hibitset_atomic.specs.Pasts.{one_layer_more, call_of, is_at, passes, has_passed, stands, is_taken, refused_step, IsAccepted}
 use Rattle.hibitset_atomic.specs.LayerBits.{lit}
 use Rattle.hibitset_atomic.proofs.Spans.{or_cases, or_left, or_right, true_or_false}
-use Rattle.hibitset_atomic.proofs.Standing.{and_both, eq_true, eq_same, stands-found, stands-from, stands-stays}
+use Rattle.hibitset_atomic.proofs.Standing.{and_both, eq_true, stands-found, stands-from, stands-stays}
 use Rattle.hibitset_atomic.proofs.Passers.{ok_here, ok_rest, passer}
 
 pub same_truth : (a b : Bool) → (a ≡ true → b ≡ true) → (b ≡ true → a ≡ true) → a ≡ b

@@ -1,5 +1,5 @@
 -- What a contract sees of `Layers`.
-use Rattle.std.specs.Prelude.{ℕ, zero, suc, List, [], ◌∷◌}
+use Rattle.std.specs.Prelude.{◌≡◌, ◌≢◌, ℕ, zero, suc, List, [], ◌∷◌, refl}
 use Rattle.hibitset_base.specs.Words.{word_at}
 use Rattle.hibitset_atomic.specs.Blocks.{block_word}
 use Rattle.hibitset_atomic.specs.declared.layers.Layers.{Layers}
@@ -12,3 +12,8 @@ word_over bottom upper (suc l) p = word_at upper l p
 -- the word of a layer at a position, which is 0 past the layer's end
 abbrev pub layer_word : Layers → ℕ → ℕ → ℕ
 layer_word layers = word_over (block_word layers.layer0) (layers.layer1.items ∷ layers.layer2.items ∷ (layers.layer3 ∷ []) ∷ [])
+
+-- the highest layer is one word
+pub single_word : (layers : Layers) (p : ℕ) → p ≢ 0 → layer_word layers 3 p ≡ 0
+single_word layers zero other = absurd (other refl)
+single_word layers (suc p) other = refl

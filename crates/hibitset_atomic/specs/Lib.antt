@@ -1,6 +1,8 @@
 pub mod Placed
 pub mod Blocks
 pub mod Layers
+pub mod Topped
+pub mod Topping
 pub mod AtomicBitSet
 pub mod Building
 pub mod Laws

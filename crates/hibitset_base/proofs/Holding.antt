@@ -6,12 +6,9 @@ use Rattle.std.proofs.Math.Nat.{pow-suc}
 use Rattle.std.proofs.lemmas.Nat.Bits.{bit_at-lt, bit_at-zero, same_from_bits_below}
 use Rattle.std.proofs.lemmas.Bool.{cases_lt}
 use Rattle.std.proofs.lemmas.Bool.Decides.{nat_tests}
+use Rattle.hibitset_base.specs.Deciding.{same_or_not, eq_same, eq_other}
 use Rattle.hibitset_base.specs.Sets.{bit_of}
 use Rattle.hibitset_base.specs.Words.{IsShaped, IsSummed, word_at, holds_at}
-use Rattle.hibitset_base.proofs.Mending.{same_or_not, eq_other}
-
-pub eq_same : (a b : ℕ) → a ≡ b → (a == b) ≡ true
-eq_same a b e = grind (arith, nat_tests)
 
 pub bit_test : (s : Bool) → (bit_of s == 1) ≡ s
 bit_test true = refl

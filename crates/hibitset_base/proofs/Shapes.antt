@@ -3,9 +3,10 @@ use Rattle.std.proofs.Common.{◌≡◌, ◌≢◌, ℕ, zero, suc, ◌+◌, ◌
 use Rattle.std.specs.Int.{bit_at}
 use Rattle.std.proofs.Math.ListN.{set}
 use Rattle.std.proofs.lemmas.List.{get_or-set_same, get_or-set_other}
+use Rattle.hibitset_base.specs.Deciding.{same_or_not}
 use Rattle.hibitset_base.specs.Sets.{bit_of}
 use Rattle.hibitset_base.specs.Words.{IsSummed, IsShaped, IsStored, word_at}
-use Rattle.hibitset_base.proofs.Mending.{same_or_not, other_layer, MendedUpTo, mended_first, mended_next, mended_last}
+use Rattle.hibitset_base.proofs.Mending.{other_layer, MendedUpTo, mended_first, mended_next, mended_last}
 
 -- an element that is there does not depend on the default
 pub get_or_any : (xs : List ℕ) (i d e : ℕ) → i < length xs → get_or xs i d ≡ get_or xs i e

@@ -1,9 +1,12 @@
-use Rattle.std.proofs.Common.{◌≡◌, ℕ, bit_and, arith}
+use Rattle.std.proofs.Common.{◌≡◌, ℕ, ◌-◌, bit_and, arith}
 use Rattle.std.specs.Int.{bit_at}
 use Rattle.std.proofs.lemmas.Nat.Bits.{bit_at_and, bit_at-lt}
 use Rattle.hibitset_base.specs.declared.util.TheConstants.{LAYERS}
 use Rattle.hibitset_base.specs.Stored.{summed_lawful, summed_exact}
+use Rattle.hibitset_atomic.specs.declared.layers.TheConstants.{ATOMIC_LAYERS}
 use Rattle.hibitset_atomic.specs.AtomicBitSet.{word_of}
+use Rattle.hibitset_atomic.specs.Layers.{single_word}
+use Rattle.hibitset_atomic.specs.Topping.{topped_lawful, topped_exact, topped_fits}
 use Rattle.hibitset_atomic.proofs.Layered.{layers_fit, held_below}
 use Rattle.hibitset_atomic.proofs.laws.atomic_laws.Goals as goal
 
@@ -18,6 +21,13 @@ returns-clause-within c set i holds = held_below set.layers i holds
 
 pub returns-clause-exact : goal.returns-clause-exact
 returns-clause-exact c set = (summed_exact LAYERS set.summed, layers_fit set.layers)
+
+pub returns-clause-topped : goal.returns-clause-topped
+returns-clause-topped c set = (
+  topped_lawful (ATOMIC_LAYERS - 1) (word_of set) set.summed (single_word set.layers),
+  topped_exact (ATOMIC_LAYERS - 1) (word_of set) set.summed (single_word set.layers),
+  topped_fits (ATOMIC_LAYERS - 1) (word_of set) (layers_fit set.layers),
+)
 
 pub returns-clause-beside : goal.returns-clause-beside
 returns-clause-beside c set word = (

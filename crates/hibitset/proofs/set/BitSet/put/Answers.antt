@@ -1,8 +1,8 @@
 use Rattle.std.proofs.Common.{◌≡◌, ◌/◌, ◌%◌, ◌==◌, get_or, refl, ap, sym, ◌∙◌, arith, inl, inr}
 use Rattle.std.specs.Int.{bit_at}
+use Rattle.hibitset_base.specs.Deciding.{same_or_not, eq_same, eq_other}
 use Rattle.hibitset.specs.BitSet.{word_of}
-use Rattle.hibitset_base.proofs.Mending.{same_or_not, eq_other}
-use Rattle.hibitset_base.proofs.Holding.{bit_test, eq_same, holds_put, turned}
+use Rattle.hibitset_base.proofs.Holding.{bit_test, holds_put, turned}
 use Rattle.hibitset_base.proofs.Shapes.{get_or_any}
 use Rattle.hibitset.proofs.set.BitSet.put.Goals as goal
 

@@ -1,4 +1,5 @@
 use Rattle.std.proofs.Common.{◌≡◌, ap, sym, ◌∙◌, Some, refl, List, [], ◌∷◌, ◌++◌, reverse, IsTrue, false, true, Bool, lit<, ◌==◌}
+use Rattle.hibitset_base.specs.Deciding.{eq_same}
 use Rattle.hibitset_atomic.specs.declared.steps.event.Event.{Event}
 use Rattle.hibitset_atomic.specs.declared.steps.event.Event.TheVariants.{Read}
 use Rattle.hibitset_atomic.specs.Layers.{layer_word}
@@ -7,7 +8,6 @@ use Rattle.hibitset_atomic.specs.Pasts.{stands, walk_of, reads_on}
 use Rattle.hibitset_atomic.specs.Kept.{shown, shown_in}
 use Rattle.hibitset_atomic.specs.Worlds.{old_of, past_of}
 use Rattle.hibitset_atomic.proofs.Honesty.{walks_sane}
-use Rattle.hibitset_atomic.proofs.Standing.{eq_same}
 use Rattle.hibitset_atomic.proofs.Answering.{told, read-same}
 use Rattle.hibitset_atomic.proofs.After.{after-read, not_ended, reverse-push}
 use Rattle.hibitset_atomic.proofs.steps.state.World.read.Goals as goal
