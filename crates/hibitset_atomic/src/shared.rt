@@ -1,6 +1,6 @@
 //! A set that threads add to.
 //!
-//! `AtomicBitSet::share` gives the set and a seat; `divide` gives seats for further threads, each of which adds and asks with its own; `join` puts seats together, and `settle` ends it. A call on the shared set takes no lock and tries nothing again: it makes at most eight atomic steps, each of them sequentially consistent.
+//! `AtomicBitSet::share` gives the set and a seat; `divide` gives seats for further threads, each of which adds and asks with its own; `join` puts seats together, and `settle` ends it. A call on the shared set takes no lock and tries nothing again: it makes at most eleven atomic steps, each of them sequentially consistent.
 
 ghost use Rattle.std.specs.Prelude.{◌≡◌, ◌≢◌, ℕ, ◌+◌, ◌-◌, ◌/◌, ◌<◌, ◌≤◌, ◌⊎◌, true, false, [], ◌∷◌, ◌++◌, length, slice_index, IsOk, IfOk, IfSome, IsNone, IfErr, ◌↔◌};
 ghost use Rattle.std.specs.Slots.{slots_items, slots_len, IsFull};
@@ -108,7 +108,7 @@ impl SharedBitSet {
     ///
     /// It answers false exactly where its own exchange put the index in, which is then the newest of the seat's reports; over all seats of a set this happens once for an index, and never for one that was there before `share`. When it returns, the seat knows the index: all four bits on the way to it stand, and stay.
     ///
-    /// It reads those four bits first, and where they stand it writes nothing and answers true. It takes no memory and waits for nobody.
+    /// It reads those four bits first, and where they stand it writes nothing and answers true. Else it exchanges in layer 0, and above it, from the lowest up, in each layer whose bit does not stand yet. It takes no memory and waits for nobody.
     #[tactic(auto, unfolding(crate::specs::Seats::Came, crate::specs::Seats::Known, crate::specs::Seats::IsOld, crate::specs::Seats::weight_of, crate::specs::Seats::reports_of))]
     pub fn add_atomic(&self, seat: &mut Seat, id: Index) -> bool
         requires id { id < ATOMIC_MAX_EID }
@@ -125,7 +125,7 @@ impl SharedBitSet {
         self.exchange(seat, id)
     }
 
-    // The four exchanges, from layer 0 up, for an index that is neither old nor known to the seat.
+    // The exchanges, from layer 0 up, for an index that is neither old nor known to the seat: that of layer 0 always, and above it those whose bits do not stand by then.
     #[tactic(auto, unfolding(crate::specs::Seats::Came, crate::specs::Seats::Known, crate::specs::Seats::IsOld, crate::specs::Seats::weight_of, crate::specs::Seats::reports_of))]
     fn exchange(&self, seat: &mut Seat, id: Index) -> bool
         requires id { id < ATOMIC_MAX_EID }

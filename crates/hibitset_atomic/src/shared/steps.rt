@@ -57,7 +57,7 @@ impl SharedBitSet {
     }
 
     // The exchange at a layer above 0, after that of the layer below.
-    pub(crate) fn mark(&self, pass: &mut Pass, id: Index, layer: usize)
+    fn raise(&self, pass: &mut Pass, id: Index, layer: usize)
         requires came { pass.old.table_id ≡ self.now.table.shared.table_id }
         requires id { id < ATOMIC_MAX_EID }
         requires layer { layer + 1 < ATOMIC_LAYERS }
@@ -69,6 +69,22 @@ impl SharedBitSet {
         self.table
             .shared
             .fetch_or::<Marks>(pass, (mark / 64) as usize, 1 << (mark % 64));
+    }
+
+    // Sees to it that the bit at a layer above 0 stands, after that of the layer below: reads it, and exchanges where it does not stand yet, so that threads whose indices lie under one word don't contend for it.
+    #[inline]
+    pub(crate) fn mark(&self, pass: &mut Pass, id: Index, layer: usize)
+        requires came { pass.old.table_id ≡ self.now.table.shared.table_id }
+        requires seat { 0 < length pass.old.me.0.shares }
+        requires id { id < ATOMIC_MAX_EID }
+        requires layer { layer + 1 < ATOMIC_LAYERS }
+        requires below { Has pass.old.me.0.seen (first_mark layer + id / 64 ^ layer) }
+        ensures same { (pass.new.table_id ≡ pass.old.table_id) × (pass.new.id ≡ pass.old.id) × Grew pass.old.me pass.new.me × (pass.new.me.0.reports ≡ pass.old.me.0.reports) }
+        ensures mark { Has pass.new.me.0.seen (first_mark (layer + 1) + id / 64 ^ (layer + 1)) }
+    {
+        if !self.stands(pass, mark_of(id, layer + 1)) {
+            self.raise(pass, id, layer);
+        }
     }
 
     pub(crate) fn look(&self, pass: &mut Pass, place: usize) -> u64

@@ -1,7 +1,7 @@
 use Rattle.std.proofs.Common.{◌∙◌, sym, arith}
 use Rattle.hibitset_atomic.proofs.Levels.{mark_up, lower_mark-lt}
 use Rattle.hibitset_atomic.proofs.Told.{marks_, marked}
-use Rattle.hibitset_atomic.proofs.shared.parts.SharedBitSet.mark.Goals as goal
+use Rattle.hibitset_atomic.proofs.shared.parts.SharedBitSet.raise.Goals as goal
 
 pub fetch_or-requires : goal.fetch_or-requires
 fetch_or-requires c = (
