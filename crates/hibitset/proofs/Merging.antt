@@ -229,3 +229,31 @@ covers_below w layer place x above within summed is = record {
       let on_here : bit_at (w layer place) b ≡ 1 = rw above at on in
       rw is on_here;
 }
+
+-- a place one layer below
+pub lower_place : (n layer place bit : ℕ) → layer + 1 < n → place < 64 ^ (n - 2 - layer) → bit < 64 → 64 * place + bit < 64 ^ (n - 1 - layer)
+lower_place n layer place bit below within small =
+    let step : 64 ^ (n - 1 - layer) ≡ 64 ^ (n - 2 - layer) * 64 = (let s : n - 1 - layer ≡ suc (n - 2 - layer) = omega arith in ap (λ x. 64 ^ x) s ∙ pow-suc 64 (n - 2 - layer)) in
+    omega (arith, step, within, small)
+
+-- any lawful set's word of a layer covers those below it
+pub lawful_covers : (n : ℕ) (holds : ℕ → Bool) (w : ℕ → ℕ → ℕ) → IsLawful n holds w → (layer place : ℕ) → 0 < layer → layer < n → place < 64 ^ (n - 1 - layer) → Covers (w (layer - 1)) place (w layer place)
+lawful_covers n holds w lawful layer place some within range = record {
+  bits = λ b small on.
+      let above : layer - 1 + 1 ≡ layer = omega arith in
+      let step : 64 ^ (n - 1 - (layer - 1)) ≡ 64 ^ (n - 1 - layer) * 64 = (let s : n - 1 - (layer - 1) ≡ suc (n - 1 - layer) = omega arith in ap (λ x. 64 ^ x) s ∙ pow-suc 64 (n - 1 - layer)) in
+      let bit = lawful.summaries (layer - 1) (64 * place + b) (rw above within) (omega (arith, step, range, small)) on in
+      let p-is : (64 * place + b) / 64 ≡ place = omega arith in
+      let b-is : (64 * place + b) % 64 ≡ b = omega arith in
+      rw (above, p-is, b-is) at bit;
+}
+
+-- where the word above lacks the bit of a word, nothing lies under it
+pub none_below : (n : ℕ) (holds : ℕ → Bool) (w : ℕ → ℕ → ℕ) → IsLawful n holds w → (layer place bit theirs : ℕ) → 0 < layer → layer < n → 64 * place + bit < 64 ^ (n - 1 - layer) → bit < 64
+    → Covers (w layer) place theirs → bit_at theirs bit ≢ 1 → Covers (w (layer - 1)) (64 * place + bit) 0
+none_below n holds w lawful layer place bit theirs some within range small covers lacks = record {
+  bits = λ b low on. absurd (
+      let over : bit_at (w layer (64 * place + bit)) b ≡ 1 = (lawful_covers n holds w lawful layer (64 * place + bit) some within range).bits b low on in
+      lacks (covers.bits bit small (some_word (w layer (64 * place + bit)) b over))
+      );
+}
