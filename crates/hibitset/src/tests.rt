@@ -5,6 +5,7 @@ mod comparisons;
 mod drains;
 mod life;
 mod made;
+mod operators;
 mod parallel;
 mod reads;
 mod splits;

@@ -1,5 +1,6 @@
 //! Operators over atomic sets held alone: `!`, `&`, `|` and `^` make a virtual set of their operands, and `into_iter` a walk.
 ghost use Rattle.std.specs.Prelude.{◌≡◌};
+ghost use Rattle.hibitset_base.specs.Connectives.{IsComplement, IsIntersection, IsUnion, IsExclusive};
 ghost use Rattle.hibitset_base.specs.Walk.{Starts};
 ghost use Rattle.hibitset_atomic.specs.AtomicBitSet.{has, word_of};
 
@@ -13,7 +14,7 @@ use std::ops::{BitAnd, BitOr, BitXor, Not};
 impl Not for AtomicBitSet {
     type Output = BitSetNot<Self>;
 
-    ghost not_gives = { λ set result. result.0 ≡ set };
+    ghost not_gives = { λ set result. (result.0 ≡ set) × IsComplement (has set) (⟦<Self::Output as BitSetLike>⟧.holds result) };
 
     #[inline]
     fn not(self) -> BitSetNot<Self> {
@@ -24,7 +25,7 @@ impl Not for AtomicBitSet {
 impl<T: BitSetLike> BitAnd<T> for AtomicBitSet {
     type Output = BitSetAnd<Self, T>;
 
-    ghost bitand_gives = { λ set other result. (result.0 ≡ set) × (result.1 ≡ other) };
+    ghost bitand_gives = { λ set other result. (result.0 ≡ set) × (result.1 ≡ other) × IsIntersection (has set) (T.holds other) (⟦<Self::Output as BitSetLike>⟧.holds result) };
 
     #[inline]
     fn bitand(self, rhs: T) -> BitSetAnd<Self, T> {
@@ -35,7 +36,7 @@ impl<T: BitSetLike> BitAnd<T> for AtomicBitSet {
 impl<T: BitSetLike> BitOr<T> for AtomicBitSet {
     type Output = BitSetOr<Self, T>;
 
-    ghost bitor_gives = { λ set other result. (result.0 ≡ set) × (result.1 ≡ other) };
+    ghost bitor_gives = { λ set other result. (result.0 ≡ set) × (result.1 ≡ other) × IsUnion (has set) (T.holds other) (⟦<Self::Output as BitSetLike>⟧.holds result) };
 
     #[inline]
     fn bitor(self, rhs: T) -> BitSetOr<Self, T> {
@@ -46,7 +47,7 @@ impl<T: BitSetLike> BitOr<T> for AtomicBitSet {
 impl<T: BitSetLike> BitXor<T> for AtomicBitSet {
     type Output = BitSetXor<Self, T>;
 
-    ghost bitxor_gives = { λ set other result. (result.0 ≡ set) × (result.1 ≡ other) };
+    ghost bitxor_gives = { λ set other result. (result.0 ≡ set) × (result.1 ≡ other) × IsExclusive (has set) (T.holds other) (⟦<Self::Output as BitSetLike>⟧.holds result) };
 
     #[inline]
     fn bitxor(self, rhs: T) -> BitSetXor<Self, T> {
@@ -70,7 +71,7 @@ impl IntoIterator for AtomicBitSet {
 impl<'a> Not for &'a AtomicBitSet {
     type Output = BitSetNot<Self>;
 
-    ghost not_gives = { λ set result. result.0 ≡ set };
+    ghost not_gives = { λ set result. (result.0 ≡ set) × IsComplement (has set.now) (⟦<Self::Output as BitSetLike>⟧.holds result) };
 
     #[inline]
     fn not(self) -> BitSetNot<Self> {
@@ -81,7 +82,7 @@ impl<'a> Not for &'a AtomicBitSet {
 impl<'a, T: BitSetLike> BitAnd<T> for &'a AtomicBitSet {
     type Output = BitSetAnd<Self, T>;
 
-    ghost bitand_gives = { λ set other result. (result.0 ≡ set) × (result.1 ≡ other) };
+    ghost bitand_gives = { λ set other result. (result.0 ≡ set) × (result.1 ≡ other) × IsIntersection (has set.now) (T.holds other) (⟦<Self::Output as BitSetLike>⟧.holds result) };
 
     #[inline]
     fn bitand(self, rhs: T) -> BitSetAnd<Self, T> {
@@ -92,7 +93,7 @@ impl<'a, T: BitSetLike> BitAnd<T> for &'a AtomicBitSet {
 impl<'a, T: BitSetLike> BitOr<T> for &'a AtomicBitSet {
     type Output = BitSetOr<Self, T>;
 
-    ghost bitor_gives = { λ set other result. (result.0 ≡ set) × (result.1 ≡ other) };
+    ghost bitor_gives = { λ set other result. (result.0 ≡ set) × (result.1 ≡ other) × IsUnion (has set.now) (T.holds other) (⟦<Self::Output as BitSetLike>⟧.holds result) };
 
     #[inline]
     fn bitor(self, rhs: T) -> BitSetOr<Self, T> {
@@ -103,7 +104,7 @@ impl<'a, T: BitSetLike> BitOr<T> for &'a AtomicBitSet {
 impl<'a, T: BitSetLike> BitXor<T> for &'a AtomicBitSet {
     type Output = BitSetXor<Self, T>;
 
-    ghost bitxor_gives = { λ set other result. (result.0 ≡ set) × (result.1 ≡ other) };
+    ghost bitxor_gives = { λ set other result. (result.0 ≡ set) × (result.1 ≡ other) × IsExclusive (has set.now) (T.holds other) (⟦<Self::Output as BitSetLike>⟧.holds result) };
 
     #[inline]
     fn bitxor(self, rhs: T) -> BitSetXor<Self, T> {

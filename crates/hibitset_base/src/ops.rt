@@ -1,5 +1,6 @@
 //! Operators over the virtual sets: `!`, `&`, `|` and `^` make a virtual set of their operands, and `into_iter` a walk.
 ghost use Rattle.std.specs.Prelude.{◌≡◌};
+ghost use Rattle.hibitset_base.specs.Connectives.{IsComplement, IsIntersection, IsUnion, IsExclusive};
 ghost use Rattle.hibitset_base.specs.Walk.{Starts};
 
 use crate::iter::BitIter;
@@ -11,7 +12,7 @@ use std::ops::{BitAnd, BitOr, BitXor, Not};
 impl<A: BitSetLike> Not for BitSetNot<A> {
     type Output = BitSetNot<Self>;
 
-    ghost not_gives = { λ set result. result.0 ≡ set };
+    ghost not_gives = { λ set result. (result.0 ≡ set) × IsComplement (⟦<Self as BitSetLike>⟧.holds set) (⟦<Self::Output as BitSetLike>⟧.holds result) };
 
     #[inline]
     fn not(self) -> BitSetNot<Self> {
@@ -22,7 +23,7 @@ impl<A: BitSetLike> Not for BitSetNot<A> {
 impl<A: BitSetLike, T: BitSetLike> BitAnd<T> for BitSetNot<A> {
     type Output = BitSetAnd<Self, T>;
 
-    ghost bitand_gives = { λ set other result. (result.0 ≡ set) × (result.1 ≡ other) };
+    ghost bitand_gives = { λ set other result. (result.0 ≡ set) × (result.1 ≡ other) × IsIntersection (⟦<Self as BitSetLike>⟧.holds set) (T.holds other) (⟦<Self::Output as BitSetLike>⟧.holds result) };
 
     #[inline]
     fn bitand(self, rhs: T) -> BitSetAnd<Self, T> {
@@ -33,7 +34,7 @@ impl<A: BitSetLike, T: BitSetLike> BitAnd<T> for BitSetNot<A> {
 impl<A: BitSetLike, T: BitSetLike> BitOr<T> for BitSetNot<A> {
     type Output = BitSetOr<Self, T>;
 
-    ghost bitor_gives = { λ set other result. (result.0 ≡ set) × (result.1 ≡ other) };
+    ghost bitor_gives = { λ set other result. (result.0 ≡ set) × (result.1 ≡ other) × IsUnion (⟦<Self as BitSetLike>⟧.holds set) (T.holds other) (⟦<Self::Output as BitSetLike>⟧.holds result) };
 
     #[inline]
     fn bitor(self, rhs: T) -> BitSetOr<Self, T> {
@@ -44,7 +45,7 @@ impl<A: BitSetLike, T: BitSetLike> BitOr<T> for BitSetNot<A> {
 impl<A: BitSetLike, T: BitSetLike> BitXor<T> for BitSetNot<A> {
     type Output = BitSetXor<Self, T>;
 
-    ghost bitxor_gives = { λ set other result. (result.0 ≡ set) × (result.1 ≡ other) };
+    ghost bitxor_gives = { λ set other result. (result.0 ≡ set) × (result.1 ≡ other) × IsExclusive (⟦<Self as BitSetLike>⟧.holds set) (T.holds other) (⟦<Self::Output as BitSetLike>⟧.holds result) };
 
     #[inline]
     fn bitxor(self, rhs: T) -> BitSetXor<Self, T> {
@@ -68,7 +69,7 @@ impl<A: BitSetLike> IntoIterator for BitSetNot<A> {
 impl<'a, A: BitSetLike> Not for &'a BitSetNot<A> {
     type Output = BitSetNot<Self>;
 
-    ghost not_gives = { λ set result. result.0 ≡ set };
+    ghost not_gives = { λ set result. (result.0 ≡ set) × IsComplement (⟦<Self as BitSetLike>⟧.holds set) (⟦<Self::Output as BitSetLike>⟧.holds result) };
 
     #[inline]
     fn not(self) -> BitSetNot<Self> {
@@ -79,7 +80,7 @@ impl<'a, A: BitSetLike> Not for &'a BitSetNot<A> {
 impl<'a, A: BitSetLike, T: BitSetLike> BitAnd<T> for &'a BitSetNot<A> {
     type Output = BitSetAnd<Self, T>;
 
-    ghost bitand_gives = { λ set other result. (result.0 ≡ set) × (result.1 ≡ other) };
+    ghost bitand_gives = { λ set other result. (result.0 ≡ set) × (result.1 ≡ other) × IsIntersection (⟦<Self as BitSetLike>⟧.holds set) (T.holds other) (⟦<Self::Output as BitSetLike>⟧.holds result) };
 
     #[inline]
     fn bitand(self, rhs: T) -> BitSetAnd<Self, T> {
@@ -90,7 +91,7 @@ impl<'a, A: BitSetLike, T: BitSetLike> BitAnd<T> for &'a BitSetNot<A> {
 impl<'a, A: BitSetLike, T: BitSetLike> BitOr<T> for &'a BitSetNot<A> {
     type Output = BitSetOr<Self, T>;
 
-    ghost bitor_gives = { λ set other result. (result.0 ≡ set) × (result.1 ≡ other) };
+    ghost bitor_gives = { λ set other result. (result.0 ≡ set) × (result.1 ≡ other) × IsUnion (⟦<Self as BitSetLike>⟧.holds set) (T.holds other) (⟦<Self::Output as BitSetLike>⟧.holds result) };
 
     #[inline]
     fn bitor(self, rhs: T) -> BitSetOr<Self, T> {
@@ -101,7 +102,7 @@ impl<'a, A: BitSetLike, T: BitSetLike> BitOr<T> for &'a BitSetNot<A> {
 impl<'a, A: BitSetLike, T: BitSetLike> BitXor<T> for &'a BitSetNot<A> {
     type Output = BitSetXor<Self, T>;
 
-    ghost bitxor_gives = { λ set other result. (result.0 ≡ set) × (result.1 ≡ other) };
+    ghost bitxor_gives = { λ set other result. (result.0 ≡ set) × (result.1 ≡ other) × IsExclusive (⟦<Self as BitSetLike>⟧.holds set) (T.holds other) (⟦<Self::Output as BitSetLike>⟧.holds result) };
 
     #[inline]
     fn bitxor(self, rhs: T) -> BitSetXor<Self, T> {
@@ -125,7 +126,7 @@ impl<'a, A: BitSetLike> IntoIterator for &'a BitSetNot<A> {
 impl<A: BitSetLike, B: BitSetLike> Not for BitSetAnd<A, B> {
     type Output = BitSetNot<Self>;
 
-    ghost not_gives = { λ set result. result.0 ≡ set };
+    ghost not_gives = { λ set result. (result.0 ≡ set) × IsComplement (⟦<Self as BitSetLike>⟧.holds set) (⟦<Self::Output as BitSetLike>⟧.holds result) };
 
     #[inline]
     fn not(self) -> BitSetNot<Self> {
@@ -136,7 +137,7 @@ impl<A: BitSetLike, B: BitSetLike> Not for BitSetAnd<A, B> {
 impl<A: BitSetLike, B: BitSetLike, T: BitSetLike> BitAnd<T> for BitSetAnd<A, B> {
     type Output = BitSetAnd<Self, T>;
 
-    ghost bitand_gives = { λ set other result. (result.0 ≡ set) × (result.1 ≡ other) };
+    ghost bitand_gives = { λ set other result. (result.0 ≡ set) × (result.1 ≡ other) × IsIntersection (⟦<Self as BitSetLike>⟧.holds set) (T.holds other) (⟦<Self::Output as BitSetLike>⟧.holds result) };
 
     #[inline]
     fn bitand(self, rhs: T) -> BitSetAnd<Self, T> {
@@ -147,7 +148,7 @@ impl<A: BitSetLike, B: BitSetLike, T: BitSetLike> BitAnd<T> for BitSetAnd<A, B> 
 impl<A: BitSetLike, B: BitSetLike, T: BitSetLike> BitOr<T> for BitSetAnd<A, B> {
     type Output = BitSetOr<Self, T>;
 
-    ghost bitor_gives = { λ set other result. (result.0 ≡ set) × (result.1 ≡ other) };
+    ghost bitor_gives = { λ set other result. (result.0 ≡ set) × (result.1 ≡ other) × IsUnion (⟦<Self as BitSetLike>⟧.holds set) (T.holds other) (⟦<Self::Output as BitSetLike>⟧.holds result) };
 
     #[inline]
     fn bitor(self, rhs: T) -> BitSetOr<Self, T> {
@@ -158,7 +159,7 @@ impl<A: BitSetLike, B: BitSetLike, T: BitSetLike> BitOr<T> for BitSetAnd<A, B> {
 impl<A: BitSetLike, B: BitSetLike, T: BitSetLike> BitXor<T> for BitSetAnd<A, B> {
     type Output = BitSetXor<Self, T>;
 
-    ghost bitxor_gives = { λ set other result. (result.0 ≡ set) × (result.1 ≡ other) };
+    ghost bitxor_gives = { λ set other result. (result.0 ≡ set) × (result.1 ≡ other) × IsExclusive (⟦<Self as BitSetLike>⟧.holds set) (T.holds other) (⟦<Self::Output as BitSetLike>⟧.holds result) };
 
     #[inline]
     fn bitxor(self, rhs: T) -> BitSetXor<Self, T> {
@@ -182,7 +183,7 @@ impl<A: BitSetLike, B: BitSetLike> IntoIterator for BitSetAnd<A, B> {
 impl<'a, A: BitSetLike, B: BitSetLike> Not for &'a BitSetAnd<A, B> {
     type Output = BitSetNot<Self>;
 
-    ghost not_gives = { λ set result. result.0 ≡ set };
+    ghost not_gives = { λ set result. (result.0 ≡ set) × IsComplement (⟦<Self as BitSetLike>⟧.holds set) (⟦<Self::Output as BitSetLike>⟧.holds result) };
 
     #[inline]
     fn not(self) -> BitSetNot<Self> {
@@ -193,7 +194,7 @@ impl<'a, A: BitSetLike, B: BitSetLike> Not for &'a BitSetAnd<A, B> {
 impl<'a, A: BitSetLike, B: BitSetLike, T: BitSetLike> BitAnd<T> for &'a BitSetAnd<A, B> {
     type Output = BitSetAnd<Self, T>;
 
-    ghost bitand_gives = { λ set other result. (result.0 ≡ set) × (result.1 ≡ other) };
+    ghost bitand_gives = { λ set other result. (result.0 ≡ set) × (result.1 ≡ other) × IsIntersection (⟦<Self as BitSetLike>⟧.holds set) (T.holds other) (⟦<Self::Output as BitSetLike>⟧.holds result) };
 
     #[inline]
     fn bitand(self, rhs: T) -> BitSetAnd<Self, T> {
@@ -204,7 +205,7 @@ impl<'a, A: BitSetLike, B: BitSetLike, T: BitSetLike> BitAnd<T> for &'a BitSetAn
 impl<'a, A: BitSetLike, B: BitSetLike, T: BitSetLike> BitOr<T> for &'a BitSetAnd<A, B> {
     type Output = BitSetOr<Self, T>;
 
-    ghost bitor_gives = { λ set other result. (result.0 ≡ set) × (result.1 ≡ other) };
+    ghost bitor_gives = { λ set other result. (result.0 ≡ set) × (result.1 ≡ other) × IsUnion (⟦<Self as BitSetLike>⟧.holds set) (T.holds other) (⟦<Self::Output as BitSetLike>⟧.holds result) };
 
     #[inline]
     fn bitor(self, rhs: T) -> BitSetOr<Self, T> {
@@ -215,7 +216,7 @@ impl<'a, A: BitSetLike, B: BitSetLike, T: BitSetLike> BitOr<T> for &'a BitSetAnd
 impl<'a, A: BitSetLike, B: BitSetLike, T: BitSetLike> BitXor<T> for &'a BitSetAnd<A, B> {
     type Output = BitSetXor<Self, T>;
 
-    ghost bitxor_gives = { λ set other result. (result.0 ≡ set) × (result.1 ≡ other) };
+    ghost bitxor_gives = { λ set other result. (result.0 ≡ set) × (result.1 ≡ other) × IsExclusive (⟦<Self as BitSetLike>⟧.holds set) (T.holds other) (⟦<Self::Output as BitSetLike>⟧.holds result) };
 
     #[inline]
     fn bitxor(self, rhs: T) -> BitSetXor<Self, T> {
@@ -239,7 +240,7 @@ impl<'a, A: BitSetLike, B: BitSetLike> IntoIterator for &'a BitSetAnd<A, B> {
 impl<A: BitSetLike, B: BitSetLike> Not for BitSetOr<A, B> {
     type Output = BitSetNot<Self>;
 
-    ghost not_gives = { λ set result. result.0 ≡ set };
+    ghost not_gives = { λ set result. (result.0 ≡ set) × IsComplement (⟦<Self as BitSetLike>⟧.holds set) (⟦<Self::Output as BitSetLike>⟧.holds result) };
 
     #[inline]
     fn not(self) -> BitSetNot<Self> {
@@ -250,7 +251,7 @@ impl<A: BitSetLike, B: BitSetLike> Not for BitSetOr<A, B> {
 impl<A: BitSetLike, B: BitSetLike, T: BitSetLike> BitAnd<T> for BitSetOr<A, B> {
     type Output = BitSetAnd<Self, T>;
 
-    ghost bitand_gives = { λ set other result. (result.0 ≡ set) × (result.1 ≡ other) };
+    ghost bitand_gives = { λ set other result. (result.0 ≡ set) × (result.1 ≡ other) × IsIntersection (⟦<Self as BitSetLike>⟧.holds set) (T.holds other) (⟦<Self::Output as BitSetLike>⟧.holds result) };
 
     #[inline]
     fn bitand(self, rhs: T) -> BitSetAnd<Self, T> {
@@ -261,7 +262,7 @@ impl<A: BitSetLike, B: BitSetLike, T: BitSetLike> BitAnd<T> for BitSetOr<A, B> {
 impl<A: BitSetLike, B: BitSetLike, T: BitSetLike> BitOr<T> for BitSetOr<A, B> {
     type Output = BitSetOr<Self, T>;
 
-    ghost bitor_gives = { λ set other result. (result.0 ≡ set) × (result.1 ≡ other) };
+    ghost bitor_gives = { λ set other result. (result.0 ≡ set) × (result.1 ≡ other) × IsUnion (⟦<Self as BitSetLike>⟧.holds set) (T.holds other) (⟦<Self::Output as BitSetLike>⟧.holds result) };
 
     #[inline]
     fn bitor(self, rhs: T) -> BitSetOr<Self, T> {
@@ -272,7 +273,7 @@ impl<A: BitSetLike, B: BitSetLike, T: BitSetLike> BitOr<T> for BitSetOr<A, B> {
 impl<A: BitSetLike, B: BitSetLike, T: BitSetLike> BitXor<T> for BitSetOr<A, B> {
     type Output = BitSetXor<Self, T>;
 
-    ghost bitxor_gives = { λ set other result. (result.0 ≡ set) × (result.1 ≡ other) };
+    ghost bitxor_gives = { λ set other result. (result.0 ≡ set) × (result.1 ≡ other) × IsExclusive (⟦<Self as BitSetLike>⟧.holds set) (T.holds other) (⟦<Self::Output as BitSetLike>⟧.holds result) };
 
     #[inline]
     fn bitxor(self, rhs: T) -> BitSetXor<Self, T> {
@@ -296,7 +297,7 @@ impl<A: BitSetLike, B: BitSetLike> IntoIterator for BitSetOr<A, B> {
 impl<'a, A: BitSetLike, B: BitSetLike> Not for &'a BitSetOr<A, B> {
     type Output = BitSetNot<Self>;
 
-    ghost not_gives = { λ set result. result.0 ≡ set };
+    ghost not_gives = { λ set result. (result.0 ≡ set) × IsComplement (⟦<Self as BitSetLike>⟧.holds set) (⟦<Self::Output as BitSetLike>⟧.holds result) };
 
     #[inline]
     fn not(self) -> BitSetNot<Self> {
@@ -307,7 +308,7 @@ impl<'a, A: BitSetLike, B: BitSetLike> Not for &'a BitSetOr<A, B> {
 impl<'a, A: BitSetLike, B: BitSetLike, T: BitSetLike> BitAnd<T> for &'a BitSetOr<A, B> {
     type Output = BitSetAnd<Self, T>;
 
-    ghost bitand_gives = { λ set other result. (result.0 ≡ set) × (result.1 ≡ other) };
+    ghost bitand_gives = { λ set other result. (result.0 ≡ set) × (result.1 ≡ other) × IsIntersection (⟦<Self as BitSetLike>⟧.holds set) (T.holds other) (⟦<Self::Output as BitSetLike>⟧.holds result) };
 
     #[inline]
     fn bitand(self, rhs: T) -> BitSetAnd<Self, T> {
@@ -318,7 +319,7 @@ impl<'a, A: BitSetLike, B: BitSetLike, T: BitSetLike> BitAnd<T> for &'a BitSetOr
 impl<'a, A: BitSetLike, B: BitSetLike, T: BitSetLike> BitOr<T> for &'a BitSetOr<A, B> {
     type Output = BitSetOr<Self, T>;
 
-    ghost bitor_gives = { λ set other result. (result.0 ≡ set) × (result.1 ≡ other) };
+    ghost bitor_gives = { λ set other result. (result.0 ≡ set) × (result.1 ≡ other) × IsUnion (⟦<Self as BitSetLike>⟧.holds set) (T.holds other) (⟦<Self::Output as BitSetLike>⟧.holds result) };
 
     #[inline]
     fn bitor(self, rhs: T) -> BitSetOr<Self, T> {
@@ -329,7 +330,7 @@ impl<'a, A: BitSetLike, B: BitSetLike, T: BitSetLike> BitOr<T> for &'a BitSetOr<
 impl<'a, A: BitSetLike, B: BitSetLike, T: BitSetLike> BitXor<T> for &'a BitSetOr<A, B> {
     type Output = BitSetXor<Self, T>;
 
-    ghost bitxor_gives = { λ set other result. (result.0 ≡ set) × (result.1 ≡ other) };
+    ghost bitxor_gives = { λ set other result. (result.0 ≡ set) × (result.1 ≡ other) × IsExclusive (⟦<Self as BitSetLike>⟧.holds set) (T.holds other) (⟦<Self::Output as BitSetLike>⟧.holds result) };
 
     #[inline]
     fn bitxor(self, rhs: T) -> BitSetXor<Self, T> {
@@ -353,7 +354,7 @@ impl<'a, A: BitSetLike, B: BitSetLike> IntoIterator for &'a BitSetOr<A, B> {
 impl<A: BitSetLike, B: BitSetLike> Not for BitSetXor<A, B> {
     type Output = BitSetNot<Self>;
 
-    ghost not_gives = { λ set result. result.0 ≡ set };
+    ghost not_gives = { λ set result. (result.0 ≡ set) × IsComplement (⟦<Self as BitSetLike>⟧.holds set) (⟦<Self::Output as BitSetLike>⟧.holds result) };
 
     #[inline]
     fn not(self) -> BitSetNot<Self> {
@@ -364,7 +365,7 @@ impl<A: BitSetLike, B: BitSetLike> Not for BitSetXor<A, B> {
 impl<A: BitSetLike, B: BitSetLike, T: BitSetLike> BitAnd<T> for BitSetXor<A, B> {
     type Output = BitSetAnd<Self, T>;
 
-    ghost bitand_gives = { λ set other result. (result.0 ≡ set) × (result.1 ≡ other) };
+    ghost bitand_gives = { λ set other result. (result.0 ≡ set) × (result.1 ≡ other) × IsIntersection (⟦<Self as BitSetLike>⟧.holds set) (T.holds other) (⟦<Self::Output as BitSetLike>⟧.holds result) };
 
     #[inline]
     fn bitand(self, rhs: T) -> BitSetAnd<Self, T> {
@@ -375,7 +376,7 @@ impl<A: BitSetLike, B: BitSetLike, T: BitSetLike> BitAnd<T> for BitSetXor<A, B> 
 impl<A: BitSetLike, B: BitSetLike, T: BitSetLike> BitOr<T> for BitSetXor<A, B> {
     type Output = BitSetOr<Self, T>;
 
-    ghost bitor_gives = { λ set other result. (result.0 ≡ set) × (result.1 ≡ other) };
+    ghost bitor_gives = { λ set other result. (result.0 ≡ set) × (result.1 ≡ other) × IsUnion (⟦<Self as BitSetLike>⟧.holds set) (T.holds other) (⟦<Self::Output as BitSetLike>⟧.holds result) };
 
     #[inline]
     fn bitor(self, rhs: T) -> BitSetOr<Self, T> {
@@ -386,7 +387,7 @@ impl<A: BitSetLike, B: BitSetLike, T: BitSetLike> BitOr<T> for BitSetXor<A, B> {
 impl<A: BitSetLike, B: BitSetLike, T: BitSetLike> BitXor<T> for BitSetXor<A, B> {
     type Output = BitSetXor<Self, T>;
 
-    ghost bitxor_gives = { λ set other result. (result.0 ≡ set) × (result.1 ≡ other) };
+    ghost bitxor_gives = { λ set other result. (result.0 ≡ set) × (result.1 ≡ other) × IsExclusive (⟦<Self as BitSetLike>⟧.holds set) (T.holds other) (⟦<Self::Output as BitSetLike>⟧.holds result) };
 
     #[inline]
     fn bitxor(self, rhs: T) -> BitSetXor<Self, T> {
@@ -410,7 +411,7 @@ impl<A: BitSetLike, B: BitSetLike> IntoIterator for BitSetXor<A, B> {
 impl<'a, A: BitSetLike, B: BitSetLike> Not for &'a BitSetXor<A, B> {
     type Output = BitSetNot<Self>;
 
-    ghost not_gives = { λ set result. result.0 ≡ set };
+    ghost not_gives = { λ set result. (result.0 ≡ set) × IsComplement (⟦<Self as BitSetLike>⟧.holds set) (⟦<Self::Output as BitSetLike>⟧.holds result) };
 
     #[inline]
     fn not(self) -> BitSetNot<Self> {
@@ -421,7 +422,7 @@ impl<'a, A: BitSetLike, B: BitSetLike> Not for &'a BitSetXor<A, B> {
 impl<'a, A: BitSetLike, B: BitSetLike, T: BitSetLike> BitAnd<T> for &'a BitSetXor<A, B> {
     type Output = BitSetAnd<Self, T>;
 
-    ghost bitand_gives = { λ set other result. (result.0 ≡ set) × (result.1 ≡ other) };
+    ghost bitand_gives = { λ set other result. (result.0 ≡ set) × (result.1 ≡ other) × IsIntersection (⟦<Self as BitSetLike>⟧.holds set) (T.holds other) (⟦<Self::Output as BitSetLike>⟧.holds result) };
 
     #[inline]
     fn bitand(self, rhs: T) -> BitSetAnd<Self, T> {
@@ -432,7 +433,7 @@ impl<'a, A: BitSetLike, B: BitSetLike, T: BitSetLike> BitAnd<T> for &'a BitSetXo
 impl<'a, A: BitSetLike, B: BitSetLike, T: BitSetLike> BitOr<T> for &'a BitSetXor<A, B> {
     type Output = BitSetOr<Self, T>;
 
-    ghost bitor_gives = { λ set other result. (result.0 ≡ set) × (result.1 ≡ other) };
+    ghost bitor_gives = { λ set other result. (result.0 ≡ set) × (result.1 ≡ other) × IsUnion (⟦<Self as BitSetLike>⟧.holds set) (T.holds other) (⟦<Self::Output as BitSetLike>⟧.holds result) };
 
     #[inline]
     fn bitor(self, rhs: T) -> BitSetOr<Self, T> {
@@ -443,7 +444,7 @@ impl<'a, A: BitSetLike, B: BitSetLike, T: BitSetLike> BitOr<T> for &'a BitSetXor
 impl<'a, A: BitSetLike, B: BitSetLike, T: BitSetLike> BitXor<T> for &'a BitSetXor<A, B> {
     type Output = BitSetXor<Self, T>;
 
-    ghost bitxor_gives = { λ set other result. (result.0 ≡ set) × (result.1 ≡ other) };
+    ghost bitxor_gives = { λ set other result. (result.0 ≡ set) × (result.1 ≡ other) × IsExclusive (⟦<Self as BitSetLike>⟧.holds set) (T.holds other) (⟦<Self::Output as BitSetLike>⟧.holds result) };
 
     #[inline]
     fn bitxor(self, rhs: T) -> BitSetXor<Self, T> {
@@ -467,7 +468,7 @@ impl<'a, A: BitSetLike, B: BitSetLike> IntoIterator for &'a BitSetXor<A, B> {
 impl Not for BitSetAll {
     type Output = BitSetNot<Self>;
 
-    ghost not_gives = { λ set result. result.0 ≡ set };
+    ghost not_gives = { λ set result. (result.0 ≡ set) × IsComplement (⟦<Self as BitSetLike>⟧.holds set) (⟦<Self::Output as BitSetLike>⟧.holds result) };
 
     #[inline]
     fn not(self) -> BitSetNot<Self> {
@@ -478,7 +479,7 @@ impl Not for BitSetAll {
 impl<T: BitSetLike> BitAnd<T> for BitSetAll {
     type Output = BitSetAnd<Self, T>;
 
-    ghost bitand_gives = { λ set other result. (result.0 ≡ set) × (result.1 ≡ other) };
+    ghost bitand_gives = { λ set other result. (result.0 ≡ set) × (result.1 ≡ other) × IsIntersection (⟦<Self as BitSetLike>⟧.holds set) (T.holds other) (⟦<Self::Output as BitSetLike>⟧.holds result) };
 
     #[inline]
     fn bitand(self, rhs: T) -> BitSetAnd<Self, T> {
@@ -489,7 +490,7 @@ impl<T: BitSetLike> BitAnd<T> for BitSetAll {
 impl<T: BitSetLike> BitOr<T> for BitSetAll {
     type Output = BitSetOr<Self, T>;
 
-    ghost bitor_gives = { λ set other result. (result.0 ≡ set) × (result.1 ≡ other) };
+    ghost bitor_gives = { λ set other result. (result.0 ≡ set) × (result.1 ≡ other) × IsUnion (⟦<Self as BitSetLike>⟧.holds set) (T.holds other) (⟦<Self::Output as BitSetLike>⟧.holds result) };
 
     #[inline]
     fn bitor(self, rhs: T) -> BitSetOr<Self, T> {
@@ -500,7 +501,7 @@ impl<T: BitSetLike> BitOr<T> for BitSetAll {
 impl<T: BitSetLike> BitXor<T> for BitSetAll {
     type Output = BitSetXor<Self, T>;
 
-    ghost bitxor_gives = { λ set other result. (result.0 ≡ set) × (result.1 ≡ other) };
+    ghost bitxor_gives = { λ set other result. (result.0 ≡ set) × (result.1 ≡ other) × IsExclusive (⟦<Self as BitSetLike>⟧.holds set) (T.holds other) (⟦<Self::Output as BitSetLike>⟧.holds result) };
 
     #[inline]
     fn bitxor(self, rhs: T) -> BitSetXor<Self, T> {
@@ -524,7 +525,7 @@ impl IntoIterator for BitSetAll {
 impl<'a> Not for &'a BitSetAll {
     type Output = BitSetNot<Self>;
 
-    ghost not_gives = { λ set result. result.0 ≡ set };
+    ghost not_gives = { λ set result. (result.0 ≡ set) × IsComplement (⟦<Self as BitSetLike>⟧.holds set) (⟦<Self::Output as BitSetLike>⟧.holds result) };
 
     #[inline]
     fn not(self) -> BitSetNot<Self> {
@@ -535,7 +536,7 @@ impl<'a> Not for &'a BitSetAll {
 impl<'a, T: BitSetLike> BitAnd<T> for &'a BitSetAll {
     type Output = BitSetAnd<Self, T>;
 
-    ghost bitand_gives = { λ set other result. (result.0 ≡ set) × (result.1 ≡ other) };
+    ghost bitand_gives = { λ set other result. (result.0 ≡ set) × (result.1 ≡ other) × IsIntersection (⟦<Self as BitSetLike>⟧.holds set) (T.holds other) (⟦<Self::Output as BitSetLike>⟧.holds result) };
 
     #[inline]
     fn bitand(self, rhs: T) -> BitSetAnd<Self, T> {
@@ -546,7 +547,7 @@ impl<'a, T: BitSetLike> BitAnd<T> for &'a BitSetAll {
 impl<'a, T: BitSetLike> BitOr<T> for &'a BitSetAll {
     type Output = BitSetOr<Self, T>;
 
-    ghost bitor_gives = { λ set other result. (result.0 ≡ set) × (result.1 ≡ other) };
+    ghost bitor_gives = { λ set other result. (result.0 ≡ set) × (result.1 ≡ other) × IsUnion (⟦<Self as BitSetLike>⟧.holds set) (T.holds other) (⟦<Self::Output as BitSetLike>⟧.holds result) };
 
     #[inline]
     fn bitor(self, rhs: T) -> BitSetOr<Self, T> {
@@ -557,7 +558,7 @@ impl<'a, T: BitSetLike> BitOr<T> for &'a BitSetAll {
 impl<'a, T: BitSetLike> BitXor<T> for &'a BitSetAll {
     type Output = BitSetXor<Self, T>;
 
-    ghost bitxor_gives = { λ set other result. (result.0 ≡ set) × (result.1 ≡ other) };
+    ghost bitxor_gives = { λ set other result. (result.0 ≡ set) × (result.1 ≡ other) × IsExclusive (⟦<Self as BitSetLike>⟧.holds set) (T.holds other) (⟦<Self::Output as BitSetLike>⟧.holds result) };
 
     #[inline]
     fn bitxor(self, rhs: T) -> BitSetXor<Self, T> {

@@ -1,0 +1,19 @@
+-- What the operators mean. A set is given by what it holds of, and the word is true at every number.
+use Rattle.std.specs.Prelude.{◌≡◌, ℕ, Bool, ◌&&◌, ◌||◌, not}
+use Rattle.hibitset_base.specs.Virtual.{differ}
+
+-- the result has exactly the numbers that the set lacks
+abbrev pub IsComplement : (ℕ → Bool) → (ℕ → Bool) → Type 0
+IsComplement set result = (i : ℕ) → result i ≡ not (set i)
+
+-- the result has exactly the numbers that are in both
+abbrev pub IsIntersection : (ℕ → Bool) → (ℕ → Bool) → (ℕ → Bool) → Type 0
+IsIntersection set other result = (i : ℕ) → result i ≡ (set i && other i)
+
+-- the result has exactly the numbers that are in at least one of the two
+abbrev pub IsUnion : (ℕ → Bool) → (ℕ → Bool) → (ℕ → Bool) → Type 0
+IsUnion set other result = (i : ℕ) → result i ≡ (set i || other i)
+
+-- the result has exactly the numbers that are in one of the two alone
+abbrev pub IsExclusive : (ℕ → Bool) → (ℕ → Bool) → (ℕ → Bool) → Type 0
+IsExclusive set other result = (i : ℕ) → result i ≡ differ (set i) (other i)
