@@ -1,4 +1,5 @@
 pub mod Members
+pub mod Firsts
 pub mod Masks
 pub mod Ones
 pub mod Halving
@@ -9,9 +10,12 @@ pub mod Starting
 pub mod Lists
 pub mod Cutting
 pub mod Layers
+pub mod Counting
+pub mod Writing
 pub mod Going
 pub mod Descending
 pub mod Stepping
+pub mod Beginning
 pub mod Draining
 pub mod Bounds
 pub mod Splitting

@@ -1,0 +1,273 @@
+//! What is left of a walk, by whole words.
+ghost use Rattle.std.specs.Prelude.{◌≡◌, ℕ, ◌+◌, ◌-◌, ◌%◌, ◌^◌, ◌<◌, ◌≤◌, ◌∷◌, ◌++◌, [], length, take, MatchOption, IfSome, IfOk, true, false, ⊤, Bool, Option, None, ℕ, List};
+ghost use Rattle.hibitset_base.specs.Members.{members, members_below};
+ghost use Rattle.hibitset_base.specs.From.{HasTail};
+ghost use Rattle.hibitset_base.specs.Sets.{IsExact};
+ghost use Rattle.hibitset_base.specs.First.{IsFirst, HasNone};
+ghost use Rattle.hibitset_base.specs.Written.{IsWritten};
+ghost use Rattle.hibitset_base.specs.Places.{places_in, bits_from, items_of};
+ghost use Rattle.hibitset_base.specs.Cursor.{left};
+ghost use Rattle.hibitset_base.specs.Reading.{GoesOn, AllStand};
+ghost use Rattle.hibitset_base.specs.Walk.{set_of, items_left, words_read, IsDrawn};
+ghost use Rattle.hibitset_base.specs.declared.util.TheConstants.{LAYERS, MAX_EID};
+
+use crate::cursor::Cursor;
+use crate::iter::{BitIter, read, refill, start, step};
+use crate::like::BitSetLike;
+use crate::reads::Reads;
+use crate::util::{BITS, Index, LAYERS, MAX_EID};
+use std::alloc::{AllocError, Global};
+
+// All places of the first word of layer 0 that has any left: the position of the word's first bit, and the word. They are taken.
+#[inline]
+pub(crate) fn step_word<T: BitSetLike>(
+    set: &T,
+    cursor: &mut Cursor<LAYERS>,
+    reads: &mut Reads,
+) -> Option<(Index, usize)>
+    ensures end { result ≡ None → (left cursor.new ≡ []) }
+    ensures goes { MatchOption result (GoesOn LAYERS (T.holds set.now) (T.word set.now) reads.old.count (left cursor.old) reads.new.count (left cursor.new)) (λ found. GoesOn LAYERS (T.holds set.now) (T.word set.now) reads.old.count (left cursor.old) reads.new.count (places_in 0 (bits_from found.0 found.1) ++ left cursor.new)) }
+    ensures some { IfSome result (λ found. (0 < found.1) × (found.1 < 2 ^ 64)) }
+    ensures within { IfSome result (λ found. (found.0 % 64 ≡ 0) × (found.0 < MAX_EID)) }
+{
+    'layers: while cursor.is_empty(0) {
+        if !refill(set, cursor, reads) {
+            return None;
+        }
+    }
+    Some(cursor.take_word())
+}
+
+// How many items are left.
+#[inline]
+pub(crate) fn count_left<T: BitSetLike>(
+    set: &T,
+    cursor: &mut Cursor<LAYERS>,
+    reads: &mut Reads,
+) -> usize
+    requires { length (items_of (T.holds set.now) (left cursor.old)) < 2 ^ 64 }
+    ensures { result ≡ length (items_of (T.holds set.now) (left cursor.old)) }
+{
+    let mut count = 0;
+    'words: while let Some((_, word)) = step_word(set, cursor, reads) {
+        count += word.count_ones() as usize;
+    }
+    count
+}
+
+// How many members a set has.
+#[inline]
+pub(crate) fn count_members<T: BitSetLike>(set: &T) -> usize
+    ensures { result ≡ length (members_below MAX_EID (T.holds set.now)) }
+{
+    let mut reads = Reads::none();
+    let mut cursor = start(set, &mut reads);
+    count_left(set, &mut cursor, &mut reads)
+}
+
+// The first member of a set.
+#[inline]
+pub(crate) fn find_first<T: BitSetLike>(set: &T, reads: &mut Reads) -> Option<Index>
+    ensures first { MatchOption result (HasNone MAX_EID (T.holds set.now)) (IsFirst MAX_EID (T.holds set.now)) }
+    ensures few { IsExact LAYERS (T.word set.now) → reads.new.count ≤ reads.old.count + LAYERS }
+{
+    let mut cursor = start(set, reads);
+    step(set, &mut cursor, reads)
+}
+
+// Writes the index of a word's first bit at a place of a buffer, or what does not matter where the word has none, and answers the word without that bit.
+#[inline]
+fn write_bit(buffer: &mut [Index], end: usize, start: Index, rest: usize) -> usize
+    requires room { end < length buffer.old }
+    requires aligned { start % 64 ≡ 0 }
+    ensures { (at total : ℕ) (done : List ℕ) → IsWritten buffer.old at end total start rest done → IsWritten buffer.new at (end + 1) total start result done }
+{
+    buffer[end] = start | rest.trailing_zeros();
+    rest & rest.wrapping_sub(1)
+}
+
+// Writes the indices of a word's bits into a buffer, from a place on, and answers the place after them. It writes four, since most words of a sparse set have few, and then goes by eights: so it may write past that place.
+#[inline]
+fn write_bits(buffer: &mut [Index], at: usize, start: Index, word: usize) -> usize
+    requires room { at + 68 ≤ length buffer.old }
+    requires aligned { start % 64 ≡ 0 }
+    requires within { start < MAX_EID }
+    ensures written { take result buffer.new ≡ take at buffer.old ++ bits_from start word }
+    ensures few { result ≤ at + 64 }
+{
+    let mut rest = word;
+    'four: for bit in 0..4usize {
+        rest = write_bit(buffer, at + bit, start, rest);
+    }
+    let mut end = at + 4;
+    'eights: while rest != 0 {
+        'bits: for bit in 0..8usize {
+            rest = write_bit(buffer, end + bit, start, rest);
+        }
+        end += 8;
+    }
+    at + word.count_ones() as usize
+}
+
+// Empties a buffer into a list, where a word's bits might not fit behind those it has, and answers how many it has then.
+#[inline]
+fn make_room(buffer: &[Index], end: usize, list: &mut Vec<Index>) -> Result<usize, AllocError>
+    requires within { end ≤ length buffer.now }
+    requires some_room { 68 ≤ length buffer.now }
+    ensures same { IfOk result (λ n. list.new.items ++ take n buffer.now ≡ list.old.items ++ take end buffer.now) }
+    ensures room { IfOk result (λ n. n + 68 ≤ length buffer.now) }
+{
+    if buffer.len() - end < 68 {
+        list.extend_from_slice(&buffer[..end])?;
+        return Ok(0);
+    }
+    Ok(end)
+}
+
+// Puts the items that are left at the end of a list, by way of a buffer.
+#[inline]
+fn list_left<T: BitSetLike>(
+    set: &T,
+    cursor: &mut Cursor<LAYERS>,
+    reads: &mut Reads,
+    buffer: &mut [Index],
+    list: &mut Vec<Index>,
+) -> Result<(), AllocError>
+    requires room { 68 ≤ length buffer.old }
+    ensures { IfOk result (λ _. list.new.items ≡ list.old.items ++ items_of (T.holds set.now) (left cursor.old)) }
+{
+    let mut end = 0;
+    'words: while let Some((start, word)) = step_word(set, cursor, reads) {
+        end = make_room(buffer, end, list)?;
+        end = write_bits(buffer, end, start, word);
+    }
+    list.extend_from_slice(&buffer[..end])
+}
+
+// How many items the buffer has room for.
+const BUFFER: usize = 256;
+
+// Room for the items that are left: as many, or `usize::MAX`.
+#[inline]
+fn room_for<T: BitSetLike>(set: &T, cursor: &mut Cursor<LAYERS>) -> usize {
+    let mut reads = Reads::none();
+    let mut room = 0usize;
+    'words: while let Some((_, word)) = step_word(set, cursor, &mut reads) {
+        room = room.saturating_add(word.count_ones() as usize);
+    }
+    room
+}
+
+// The items that a walk has left, with room for all of them taken at once.
+pub(crate) fn list_walk<T: BitSetLike>(
+    walk: BitIter<T>,
+    alloc: Global,
+) -> Result<Vec<Index>, AllocError>
+    ensures { IfOk result (λ v. v.items ≡ items_left T.holds walk) }
+{
+    let BitIter {
+        set,
+        mut cursor,
+        mut reads,
+    } = walk;
+    let room = room_for(&set, &mut cursor.copied());
+    listed(&set, &mut cursor, &mut reads, alloc, room)
+}
+
+// How many items a walk has left.
+pub(crate) fn count_walk<T: BitSetLike>(walk: BitIter<T>) -> usize
+    requires { length (items_left T.holds walk) < 2 ^ 64 }
+    ensures { result ≡ length (items_left T.holds walk) }
+{
+    let BitIter {
+        set,
+        mut cursor,
+        mut reads,
+    } = walk;
+    count_left(&set, &mut cursor, &mut reads)
+}
+
+// The items that are left, with so much room taken for them.
+#[inline]
+fn listed<T: BitSetLike>(
+    set: &T,
+    cursor: &mut Cursor<LAYERS>,
+    reads: &mut Reads,
+    alloc: Global,
+    room: usize,
+) -> Result<Vec<Index>, AllocError>
+    ensures { IfOk result (λ v. v.items ≡ items_of (T.holds set.now) (left cursor.old)) }
+{
+    let mut list = Vec::with_capacity(alloc, room)?;
+    let mut buffer = [0; BUFFER];
+    list_left(set, cursor, reads, &mut buffer, &mut list)?;
+    Ok(list)
+}
+
+// The members of a set.
+#[inline]
+pub(crate) fn list_members<T: BitSetLike>(set: &T, alloc: Global) -> Result<Vec<Index>, AllocError>
+    ensures { IfOk result (λ v. v.items ≡ members_below MAX_EID (T.holds set.now)) }
+{
+    let room = count_members(set);
+    let mut reads = Reads::none();
+    let mut cursor = start(set, &mut reads);
+    listed(set, &mut cursor, &mut reads, alloc, room)
+}
+
+// The bits of a word from a bit on.
+#[inline]
+fn tail(word: usize, bit: u32) -> usize
+    requires { bit ≤ 64 }
+    ensures { HasTail word bit result }
+{
+    if bit == 64 {
+        return 0;
+    }
+    word & !((1usize << bit) - 1)
+}
+
+// Reads the words over an index, and answers where a walk begins that goes over the members from it on.
+#[inline]
+fn begin_at<T: BitSetLike>(set: &T, reads: &mut Reads, from: Index) -> Cursor<LAYERS>
+    requires { from < MAX_EID }
+    ensures reads { reads.new.count ≡ reads.old.count + LAYERS }
+    ensures items { items_of (T.holds set.now) (left result) ≡ members (T.holds set.now) from (MAX_EID - from) }
+    ensures drawn { AllStand (T.word set.now) (left result) }
+{
+    let mut masks = [0; LAYERS];
+    let mut prefix = [0; LAYERS];
+    let mut place = from;
+    let mut own = 0;
+    'layers: for layer in 0..LAYERS {
+        let position = place >> BITS;
+        let word = read(set, reads, layer, position);
+        masks[layer] = tail(word, place % 64 + own);
+        prefix[layer] = position << BITS;
+        place = position;
+        own = 1;
+    }
+    Cursor::new(masks, prefix)
+}
+
+impl<T: BitSetLike> BitIter<T> {
+    // Starts at an index.
+    #[inline]
+    pub(crate) fn from_index(set: T, from: Index) -> Self
+        ensures set { set_of result ≡ set }
+        ensures items { items_left T.holds result ≡ members (T.holds set) from (MAX_EID - from) }
+        ensures drawn { IsDrawn T.word result }
+        ensures read { words_read result ≤ LAYERS }
+    {
+        let mut reads = Reads::none();
+        if from as usize >= MAX_EID {
+            return BitIter {
+                set,
+                cursor: Cursor::at_top(0),
+                reads,
+            };
+        }
+        let cursor = begin_at(&set, &mut reads, from);
+        BitIter { set, cursor, reads }
+    }
+}
