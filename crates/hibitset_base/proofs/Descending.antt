@@ -49,10 +49,14 @@ module _ (n : ℕ) {p : ℕ → Bool} {w : ℕ → ℕ → ℕ} (lawful : IsLawf
       flat_map-append (λ place. items_under p place.layer place.position) (places_in l (bits_from (64 * q) (w l q))) ps
       ∙ ap (λ xs. xs ++ items_of p ps) (read_word n p w lawful l (n - (l + 1)) q (omega arith) within)
 
+-- the words of places of one layer, and of others after them
+pub words_before : (w : ℕ → ℕ → ℕ) (l : ℕ) (xs : List ℕ) (ps : List Place) → words_of w (places_in l xs ++ ps) ≡ flat_map (words_under w l) xs ++ words_of w ps
+words_before w l xs ps =
+    flat_map-append (λ place. words_under w place.layer place.position) (places_in l xs) ps
+    ∙ ap (λ ys. ys ++ words_of w ps) (flat_map-map (λ place. words_under w place.layer place.position) (λ i. record { layer = l; position = i }) xs)
+
 words_after : (w : ℕ → ℕ → ℕ) (l q : ℕ) (ps : List Place) → words_of w (places_in l (bits_from (64 * q) (w l q)) ++ ps) ≡ flat_map (words_under w l) (bits_from (64 * q) (w l q)) ++ words_of w ps
-words_after w l q ps =
-    flat_map-append (λ place. words_under w place.layer place.position) (places_in l (bits_from (64 * q) (w l q))) ps
-    ∙ ap (λ xs. xs ++ words_of w ps) (flat_map-map (λ place. words_under w place.layer place.position) (λ i. record { layer = l; position = i }) (bits_from (64 * q) (w l q)))
+words_after w l q ps = words_before w l (bits_from (64 * q) (w l q)) ps
 
 pub goes_down : (n : ℕ) (p : ℕ → Bool) (w : ℕ → ℕ → ℕ) → IsLawful n p w → (l q r : ℕ) (ps : List Place) → l + 1 < n → q < 64 ^ (n - (l + 1)) → w l q < 2 ^ 64
     → GoesOn n p w r ((record { layer = suc l; position = q }) ∷ ps) (r + 1) (places_in l (bits_from (64 * q) (w l q)) ++ ps)

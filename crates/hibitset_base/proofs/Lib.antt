@@ -18,6 +18,7 @@ pub mod Stepping
 pub mod Beginning
 pub mod Draining
 pub mod Bounds
+pub mod Passing
 pub mod Splitting
 pub mod Folding
 pub mod Given

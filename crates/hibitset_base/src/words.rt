@@ -1,7 +1,6 @@
 //! What is left of a walk, by whole words.
 ghost use Rattle.std.specs.Prelude.{◌≡◌, ℕ, ◌+◌, ◌-◌, ◌%◌, ◌^◌, ◌<◌, ◌≤◌, ◌∷◌, ◌++◌, [], length, take, MatchOption, IfSome, IfOk, true, false, ⊤, Bool, Option, None, ℕ, List};
 ghost use Rattle.hibitset_base.specs.Members.{members, members_below};
-ghost use Rattle.hibitset_base.specs.From.{HasTail};
 ghost use Rattle.hibitset_base.specs.Sets.{IsExact};
 ghost use Rattle.hibitset_base.specs.First.{IsFirst, HasNone};
 ghost use Rattle.hibitset_base.specs.Written.{IsWritten};
@@ -213,61 +212,4 @@ pub(crate) fn list_members<T: BitSetLike>(set: &T, alloc: Global) -> Result<Vec<
     let mut reads = Reads::none();
     let mut cursor = start(set, &mut reads);
     listed(set, &mut cursor, &mut reads, alloc, room)
-}
-
-// The bits of a word from a bit on.
-#[inline]
-fn tail(word: usize, bit: u32) -> usize
-    requires { bit ≤ 64 }
-    ensures { HasTail word bit result }
-{
-    if bit == 64 {
-        return 0;
-    }
-    word & !((1usize << bit) - 1)
-}
-
-// Reads the words over an index, and answers where a walk begins that goes over the members from it on.
-#[inline]
-fn begin_at<T: BitSetLike>(set: &T, reads: &mut Reads, from: Index) -> Cursor<LAYERS>
-    requires { from < MAX_EID }
-    ensures reads { reads.new.count ≡ reads.old.count + LAYERS }
-    ensures items { items_of (T.holds set.now) (left result) ≡ members (T.holds set.now) from (MAX_EID - from) }
-    ensures drawn { AllStand (T.word set.now) (left result) }
-{
-    let mut masks = [0; LAYERS];
-    let mut prefix = [0; LAYERS];
-    let mut place = from;
-    let mut own = 0;
-    'layers: for layer in 0..LAYERS {
-        let position = place >> BITS;
-        let word = read(set, reads, layer, position);
-        masks[layer] = tail(word, place % 64 + own);
-        prefix[layer] = position << BITS;
-        place = position;
-        own = 1;
-    }
-    Cursor::new(masks, prefix)
-}
-
-impl<T: BitSetLike> BitIter<T> {
-    // Starts at an index.
-    #[inline]
-    pub(crate) fn from_index(set: T, from: Index) -> Self
-        ensures set { set_of result ≡ set }
-        ensures items { items_left T.holds result ≡ members (T.holds set) from (MAX_EID - from) }
-        ensures drawn { IsDrawn T.word result }
-        ensures read { words_read result ≤ LAYERS }
-    {
-        let mut reads = Reads::none();
-        if from as usize >= MAX_EID {
-            return BitIter {
-                set,
-                cursor: Cursor::at_top(0),
-                reads,
-            };
-        }
-        let cursor = begin_at(&set, &mut reads, from);
-        BitIter { set, cursor, reads }
-    }
 }
