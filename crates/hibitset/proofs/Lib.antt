@@ -3,3 +3,4 @@ pub mod Merging
 pub mod Blocks
 pub mod Comparing
 pub mod Equality
+pub mod Ending

@@ -1,6 +1,7 @@
 -- The words of layer 0 of two sets, put together.
-use Rattle.std.specs.Prelude.{◌≡◌, ◌≢◌, ℕ, ◌+◌, ◌*◌, ◌/◌, ◌%◌, ◌^◌, ◌<◌, ◌↔◌}
+use Rattle.std.specs.Prelude.{◌≡◌, ◌≢◌, ℕ, ◌+◌, ◌-◌, ◌*◌, ◌/◌, ◌%◌, ◌^◌, ◌<◌, ◌≤◌, ◌↔◌}
 use Rattle.std.specs.Int.{bit_at}
+use Rattle.hibitset_base.specs.declared.util.TheConstants.{LAYERS}
 
 -- each is a word
 abbrev pub AreWords : (ℕ → ℕ) → Type 0
@@ -24,3 +25,7 @@ pub record Summarizes (words : ℕ → ℕ) (q summary : ℕ) : Type 0 where
 -- Each of the 64 words from 64 * q on that is not 0 has its bit; bits over words that are 0 are allowed.
 pub record Covers (words : ℕ → ℕ) (q summary : ℕ) : Type 0 where
   pub bits : (b : ℕ) → b < 64 → 0 < words (64 * q + b) → bit_at summary b ≡ 1
+
+-- a set with these words has none in layer 0 from `end` on but words that are 0
+abbrev pub NoWordsFrom : (ℕ → ℕ → ℕ) → ℕ → Type 0
+NoWordsFrom word end = (p : ℕ) → p < 64 ^ (LAYERS - 1) → end ≤ p → word 0 p ≡ 0

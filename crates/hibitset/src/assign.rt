@@ -1,16 +1,16 @@
 //! Assignments: a set put together with any other, whole words at a time.
-ghost use Rattle.std.specs.Prelude.{◌≡◌, ◌≢◌, ℕ, ◌+◌, ◌-◌, ◌*◌, ◌/◌, ◌^◌, ◌<◌, ◌≤◌, ◌||◌, ◌&&◌, ◌↔◌, false, get_or, length, OnOk, OnErr};
+ghost use Rattle.std.specs.Prelude.{◌≡◌, ◌≢◌, ℕ, ◌+◌, ◌-◌, ◌*◌, ◌/◌, ◌^◌, ◌<◌, ◌≤◌, ◌||◌, ◌&&◌, ◌↔◌, false, get_or, length, OnOk, OnErr, IsOk};
 ghost use Rattle.std.specs.Int.{bit_at};
 ghost use Rattle.hibitset_base.specs.Sets.{bit_of};
 ghost use Rattle.hibitset.specs.BitSet.{has, word_of, slice_len};
-ghost use Rattle.hibitset.specs.Merging.{AreWords, MergedUnder, MergedAt, Summarizes, Covers};
+ghost use Rattle.hibitset.specs.Merging.{AreWords, MergedUnder, MergedAt, Summarizes, Covers, NoWordsFrom};
 ghost use Rattle.hibitset_base.specs.Virtual.{differ};
 ghost use Rattle.hibitset.specs.Operators.{none_lawful};
 ghost use Rattle.hibitset_base.specs.declared.util.TheConstants.{LAYERS, MAX_EID};
 
 use crate::operator::{And, Operator, Or, Xor};
 use crate::set::BitSet;
-use hibitset_base::bits::{last_bit, take_bit, with_bit};
+use hibitset_base::bits::{last_bit, take_bit, take_last_bit, with_bit};
 use hibitset_base::like::BitSetLike;
 use hibitset_base::util::{Index, LAYERS, MAX_EID};
 use std::alloc::AllocError;
@@ -140,10 +140,10 @@ fn lower_end<B: BitSetLike>(other: &B, layer: usize, end: usize) -> usize
     }
 }
 
-// A place of layer 0 from which on the other has no words, found by the last bit of each layer.
+// A place of layer 0 from which on the other has no words, found by the last bit of each layer. Past the last word lie places of summary bits over words that are 0.
 fn end_of<B: BitSetLike>(other: &B) -> usize
     ensures within { result ≤ 64 ^ (LAYERS - 1) }
-    ensures end { (p : ℕ) → p < 64 ^ (LAYERS - 1) → result ≤ p → B.word other.now 0 p ≡ 0 }
+    ensures end { NoWordsFrom (B.word other.now) result }
 {
     let mut layer = LAYERS - 1;
     let mut end = 1;
@@ -152,6 +152,27 @@ fn end_of<B: BitSetLike>(other: &B) -> usize
         layer -= 1;
     }
     end
+}
+
+// The place after the last word of layer 0 that the other has under word `place` of a layer, and 0 where it has none there. Words under summary bits are read from the last one down, until one is not 0.
+fn end_under<B: BitSetLike>(other: &B, layer: usize, place: usize) -> usize
+    requires layer { layer < LAYERS }
+    requires place { place < 64 ^ (LAYERS - 1 - layer) }
+    ensures end { (p : ℕ) → p / 64 ^ layer ≡ place → result ≤ p → B.word other.now 0 p ≡ 0 }
+    ensures last { 0 < result → (0 < B.word other.now 0 (result - 1)) × ((result - 1) / 64 ^ layer ≡ place) }
+{
+    let mut left = other.get_from_layer(layer, place);
+    if layer == 0 {
+        return if left == 0 { 0 } else { place + 1 };
+    }
+    while left != 0 {
+        let bit = take_last_bit(&mut left);
+        let end = end_under(other, layer - 1, 64 * place + bit);
+        if end > 0 {
+            return end;
+        }
+    }
+    0
 }
 
 impl BitSet {
@@ -222,13 +243,19 @@ impl BitSet {
         self.merge_under::<O, B>(other, LAYERS - 1, 0, theirs);
     }
 
-    // Makes room for all words of the other.
+    // Makes room for all words of the other that are not 0, and no more. The exact end is looked for where summary bits lie past the room.
     fn make_room<B: BitSetLike>(&mut self, other: &B) -> Result<(), AllocError>
         ensures same { (l p : ℕ) → word_of self.new l p ≡ word_of self.old l p }
         ensures keeps { slice_len self.old 0 ≤ slice_len self.new 0 }
-        ensures fits { OnOk result ((p : ℕ) → p < 64 ^ (LAYERS - 1) → slice_len self.new 0 ≤ p → B.word other.now 0 p ≡ 0) }
+        ensures fits { OnOk result (NoWordsFrom (B.word other.now) (slice_len self.new 0)) }
+        ensures room { NoWordsFrom (B.word other.now) (slice_len self.old 0) → IsOk result }
+        ensures most { (end : ℕ) → slice_len self.old 0 ≤ end → NoWordsFrom (B.word other.now) end → slice_len self.new 0 ≤ end }
+        ensures stays { OnErr result (slice_len self.new 0 ≡ slice_len self.old 0) }
     {
-        let end = end_of(other);
+        if end_of(other) <= self.layer0.len() {
+            return Ok(());
+        }
+        let end = end_under(other, LAYERS - 1, 0);
         if end == 0 {
             return Ok(());
         }
@@ -237,11 +264,14 @@ impl BitSet {
 
     /// Adds the members of any other set. Where memory is refused the members stay.
     ///
-    /// All room is made first. Words that the other has not are neither read nor changed.
+    /// All room is made first, up to the last word of the other that is not 0 and no further: it needs no memory where `layer0_as_slice` is that long, and refused, it leaves its length. Words that the other has not are neither read nor changed; where it has summary bits over words that are 0, past the room of this set, those may be read twice, and take no room.
     pub fn bitor_assign<B: BitSetLike>(&mut self, other: &B) -> Result<(), AllocError>
         ensures members { OnOk result ((i : ℕ) → i < MAX_EID → has self.new i ≡ (has self.old i || B.holds other.now i)) }
         ensures refused { OnErr result ((i : ℕ) → has self.new i ≡ has self.old i) }
         ensures keeps { slice_len self.old 0 ≤ slice_len self.new 0 }
+        ensures room { NoWordsFrom (B.word other.now) (slice_len self.old 0) → IsOk result }
+        ensures most { (end : ℕ) → slice_len self.old 0 ≤ end → NoWordsFrom (B.word other.now) end → slice_len self.new 0 ≤ end }
+        ensures stays { OnErr result (slice_len self.new 0 ≡ slice_len self.old 0) }
     {
         self.make_room(other)?;
         self.merge_with::<Or, B>(other);
@@ -250,11 +280,14 @@ impl BitSet {
 
     /// Adds the members of any other set that were not there, and takes out those that were. Where memory is refused the members stay.
     ///
-    /// All room is made first. Words that the other has not are neither read nor changed.
+    /// All room is made first, up to the last word of the other that is not 0 and no further: it needs no memory where `layer0_as_slice` is that long, and refused, it leaves its length. Words that the other has not are neither read nor changed; where it has summary bits over words that are 0, past the room of this set, those may be read twice, and take no room.
     pub fn bitxor_assign<B: BitSetLike>(&mut self, other: &B) -> Result<(), AllocError>
         ensures members { OnOk result ((i : ℕ) → i < MAX_EID → has self.new i ≡ differ (has self.old i) (B.holds other.now i)) }
         ensures refused { OnErr result ((i : ℕ) → has self.new i ≡ has self.old i) }
         ensures keeps { slice_len self.old 0 ≤ slice_len self.new 0 }
+        ensures room { NoWordsFrom (B.word other.now) (slice_len self.old 0) → IsOk result }
+        ensures most { (end : ℕ) → slice_len self.old 0 ≤ end → NoWordsFrom (B.word other.now) end → slice_len self.new 0 ≤ end }
+        ensures stays { OnErr result (slice_len self.new 0 ≡ slice_len self.old 0) }
     {
         self.make_room(other)?;
         self.merge_with::<Xor, B>(other);

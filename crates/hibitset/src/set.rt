@@ -28,6 +28,7 @@ fn fill_up(words: &mut Vec<usize>, place: usize) -> Result<(), AllocError>
     ensures same { (p : ℕ) → get_or words.new.items p 0 ≡ get_or words.old.items p 0 }
     ensures length { length words.new.items ≤ max (length words.old.items) (place + 1) }
     ensures keeps { length words.old.items ≤ length words.new.items }
+    ensures stays { OnErr result (length words.new.items ≡ length words.old.items) }
     ensures covers { OnOk result (place < length words.new.items) }
 {
     if words.len() == place {
@@ -72,11 +73,12 @@ impl BitSet {
         }
     }
 
-    /// An empty set with room for every index below `max`, which is at most `MAX_EID`: no `add` of one needs memory until `clear`.
+    /// An empty set with room for every index below `max`, which is at most `MAX_EID`, and no more words of layer 0 than these have: no `add` of one needs memory until `clear`.
     pub fn with_capacity(alloc: Global, max: Index) -> Result<BitSet, AllocError>
         requires { max ≤ MAX_EID }
         ensures empty { IfOk result (λ set. (i : ℕ) → has set i ≡ false) }
         ensures room { IfOk result (λ set. (i : ℕ) → i < max → i / 64 < slice_len set 0) }
+        ensures length { IfOk result (λ set. slice_len set 0 ≡ (max + 63) / 64) }
     {
         let mut set = BitSet::new(alloc);
         if max > 0 {
@@ -91,6 +93,8 @@ impl BitSet {
         requires { id < MAX_EID }
         ensures same { (l p : ℕ) → word_of self.new l p ≡ word_of self.old l p }
         ensures keeps { slice_len self.old 0 ≤ slice_len self.new 0 }
+        ensures most { slice_len self.new 0 ≤ max (slice_len self.old 0) (id / 64 + 1) }
+        ensures stays { OnErr result (slice_len self.new 0 ≡ slice_len self.old 0) }
         ensures covers { OnOk result (id / 64 < slice_len self.new 0) }
     {
         let (p0, p1, p2) = offsets(id);
@@ -105,6 +109,8 @@ impl BitSet {
         requires { id < MAX_EID }
         ensures same { (l p : ℕ) → word_of self.new l p ≡ word_of self.old l p }
         ensures keeps { slice_len self.old 0 ≤ slice_len self.new 0 }
+        ensures most { slice_len self.new 0 ≤ max (slice_len self.old 0) (id / 64 + 1) }
+        ensures stays { OnErr result (slice_len self.new 0 ≡ slice_len self.old 0) }
         ensures covers { OnOk result (id / 64 < slice_len self.new 0) }
         ensures room { id / 64 < slice_len self.old 0 → IsOk result }
     {
@@ -159,7 +165,7 @@ impl BitSet {
 
     /// Adds an index below `MAX_EID`, and tells whether it was there. Where memory is refused the members stay.
     ///
-    /// It needs no memory where the word at position `id / 64` lies in `layer0_as_slice`, so for no index that is there.
+    /// It needs no memory where the word at position `id / 64` lies in `layer0_as_slice`, so for no index that is there. Else it makes that slice as long as this word needs and no longer; refused, it leaves its length.
     #[inline]
     pub fn add(&mut self, id: Index) -> Result<bool, AllocError>
         requires { id < MAX_EID }
@@ -168,6 +174,8 @@ impl BitSet {
         ensures refused { OnErr result ((i : ℕ) → has self.new i ≡ has self.old i) }
         ensures room { id / 64 < slice_len self.old 0 → IsOk result }
         ensures keeps { slice_len self.old 0 ≤ slice_len self.new 0 }
+        ensures most { slice_len self.new 0 ≤ max (slice_len self.old 0) (id / 64 + 1) }
+        ensures stays { OnErr result (slice_len self.new 0 ≡ slice_len self.old 0) }
     {
         self.extend(id)?;
         Ok(self.put(id, true))

@@ -23,9 +23,25 @@ pub fn take_bit(word: &mut usize) -> usize
 pub fn last_bit(word: usize) -> usize
     requires { 0 < word }
     ensures below { result < 64 }
+    ensures stood { bit_at word result ≡ 1 }
     ensures last { (b : ℕ) → bit_at word b ≡ 1 → b ≤ result }
 {
     63 - word.leading_zeros() as usize
+}
+
+/// Takes the highest bit out of a word, and answers its number.
+#[inline]
+pub fn take_last_bit(word: &mut usize) -> usize
+    requires { 0 < word.old }
+    ensures below { result < 64 }
+    ensures last { (b : ℕ) → bit_at word.old b ≡ 1 → b ≤ result }
+    ensures gone { bit_at word.new result ≡ 0 }
+    ensures same { (b : ℕ) → b < 64 → b ≢ result → bit_at word.new b ≡ bit_at word.old b }
+    ensures less { word.new < word.old }
+{
+    let bit = last_bit(*word);
+    *word &= !(1 << bit);
+    bit
 }
 
 /// The word with one bit set or cleared.

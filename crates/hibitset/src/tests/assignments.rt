@@ -1,6 +1,6 @@
 //! Assignments, by sets that keep their words and by virtual ones.
 use crate::tests::{list, set_of};
-use crate::{BitSet, BitSetAll, BitSetAnd, BitSetLike, Index};
+use crate::{BitSet, BitSetAll, BitSetAnd, BitSetLike, BitSetXor, Index};
 use std::test::Fail;
 
 #[test]
@@ -131,5 +131,22 @@ fn a_union_that_grows(rt: HostRuntime) -> Result<(), Fail> {
     let added = set.bitxor_assign(&set_of(rt.alloc(), &[2000000])?).is_ok();
     assert_eq!(rt; set.contains(2000000), added);
     assert_eq!(rt; set.contains(1000000), grown);
+    Ok(())
+}
+
+// Summary bits over words that are 0 take no room.
+#[test]
+fn room_for_words_alone(rt: HostRuntime) -> Result<(), Fail> {
+    let a = set_of(rt.alloc(), &[200, 4_096, 1_000_000, 16_777_215])?;
+    let b = set_of(rt.alloc(), &[200, 4_097, 1_000_001, 16_777_214])?;
+    let mut set = BitSet::new(rt.alloc());
+    set.bitor_assign(&BitSetAnd(&a, &b))?;
+    assert_eq!(rt; list(rt.alloc(), &set)?.as_slice(), [200].as_slice());
+    assert_eq!(rt; set.layer0_as_slice().len(), 4);
+    set.bitxor_assign(&BitSetXor(&a, &a))?;
+    assert_eq!(rt; set.layer0_as_slice().len(), 4);
+    let mut five = BitSet::new(rt.alloc());
+    five.bitor_assign(&set_of(rt.alloc(), &[5])?)?;
+    assert_eq!(rt; five.layer0_as_slice().len(), 1);
     Ok(())
 }

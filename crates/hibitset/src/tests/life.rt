@@ -1,6 +1,6 @@
 //! A set from `new` to `clear`.
 use crate::tests::{list, set_of};
-use crate::{BitSet, BitSetLike};
+use crate::{BitSet, BitSetLike, Index};
 use hibitset_base::util::{LAYERS, MAX, MAX_EID, SHIFT0, SHIFT1, SHIFT2, SHIFT3};
 use std::test::Fail;
 
@@ -111,5 +111,34 @@ fn room_made_before(rt: HostRuntime) -> Result<(), Fail> {
     assert_eq!(rt; set.add(998), Ok(false));
     let none = BitSet::with_capacity(rt.alloc(), 0)?;
     assert_eq!(rt; none.layer0_as_slice().len(), 0);
+    Ok(())
+}
+
+#[test]
+fn words_made_before(rt: HostRuntime) -> Result<(), Fail> {
+    let rows: [(Index, usize); 6] = [
+        (0, 0),
+        (1, 1),
+        (64, 1),
+        (65, 2),
+        (4_097, 65),
+        (16_777_216, 262_144),
+    ];
+    for (max, words) in rows {
+        let set = BitSet::with_capacity(rt.alloc(), max)?;
+        assert_eq!(rt; set.layer0_as_slice().len(), words, "below {max}");
+    }
+    Ok(())
+}
+
+#[test]
+fn words_of_a_copy(rt: HostRuntime) -> Result<(), Fail> {
+    let mut set = set_of(rt.alloc(), &[7, 70, 700_000])?;
+    assert!(rt; set.remove(700_000));
+    let copy = set.clone()?;
+    assert_eq!(rt; copy.layer0_as_slice(), set.layer0_as_slice());
+    assert_eq!(rt; copy.layer1_as_slice(), set.layer1_as_slice());
+    assert_eq!(rt; copy.layer2_as_slice(), set.layer2_as_slice());
+    assert_eq!(rt; copy.layer0_as_slice().len(), 10_938);
     Ok(())
 }

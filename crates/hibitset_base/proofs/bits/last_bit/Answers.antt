@@ -1,8 +1,17 @@
-use Rattle.std.proofs.Common.{suc, inl, inr, arith}
+use Rattle.std.proofs.Common.{◌≡◌, ◌-◌, ◌/◌, ◌^◌, suc, inl, inr, arith, refl}
+use Rattle.std.specs.Int.Count.{count_leading_zeros}
+use Rattle.std.proofs.Math.Nat.{div-eq_of_lt-le}
 use Rattle.std.proofs.lemmas.Bool.{cases_lt}
 use Rattle.std.proofs.lemmas.Nat.{leading_top}
 use Rattle.std.proofs.lemmas.Nat.Bits.{bit_at_above}
 use Rattle.hibitset_base.proofs.bits.last_bit.Goals as goal
+
+pub returns-clause-stood : goal.returns-clause-stood
+returns-clause-stood c =
+    let top = leading_top 64 c.args.word c.requires (omega arith) in
+    let at : 63 - count_leading_zeros 64 c.args.word ≡ top.0 = (let h = top.1 in omega (arith, h)) in
+    let one : c.args.word / 2 ^ top.0 ≡ 1 = div-eq_of_lt-le (2 ^ top.0) (let h = top.2 in omega (arith, h)) (let h = top.3 in omega (arith, h)) in
+    rw (at, one) refl
 
 pub returns-clause-last : goal.returns-clause-last
 returns-clause-last c = λ b stands.

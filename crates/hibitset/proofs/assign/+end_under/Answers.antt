@@ -1,0 +1,27 @@
+use Rattle.std.proofs.Common.{◌≡◌, ℕ, suc, ◌-◌, ◌*◌, ◌^◌, ◌<◌, ap, ◌∙◌, lit<, arith}
+use Rattle.std.proofs.Math.Nat.{pow-suc, one-le-pow}
+use Rattle.hibitset.proofs.Ending.{end_after, last_after}
+use Rattle.hibitset.proofs.assign.+end_under.Goals as goal
+
+-- the size of a place of a layer
+whole_is : (layer : ℕ) → 0 < layer → 64 ^ layer ≡ 64 ^ (layer - 1) * 64
+whole_is layer some = let s : layer ≡ suc (layer - 1) = omega (arith, some) in ap (λ x. 64 ^ x) s ∙ pow-suc 64 (layer - 1)
+
+pub returns-then-end-gt0-clause-end : goal.returns-then-end-gt0-clause-end
+returns-then-end-gt0-clause-end g t c =
+    let layer : ℕ = c.args.layer in
+    let bit = c.take_last_bit-bit.ensures in
+    let below = c.end_under-end.ensures in
+    let some = c.if-end-gt0.true in
+    end_after (g.B.BitSetLike.word c.args.other.now 0) (64 ^ (layer - 1)) (64 ^ layer) c.args.place c.loop-left.left c.take_last_bit-bit.result c.end_under-end.result (whole_is layer (let h = c.if-layer-eq0.false in omega (arith, h)))
+    (one-le-pow (layer - 1) 64 (lit< tt)) c.loop-left.invariant.rest below.end bit.last some ((below.last some).1)
+
+pub returns-then-end-gt0-clause-last : goal.returns-then-end-gt0-clause-last
+returns-then-end-gt0-clause-last g t c =
+    let layer : ℕ = c.args.layer in
+    let last = c.end_under-end.ensures.last c.if-end-gt0.true in
+    λ some. (
+      last.0,
+      last_after (g.B.BitSetLike.word c.args.other.now 0) (64 ^ (layer - 1)) (64 ^ layer) c.args.place c.loop-left.left c.take_last_bit-bit.result c.end_under-end.result (whole_is layer (let h = c.if-layer-eq0.false in omega (arith, h)))
+          c.take_last_bit-bit.ensures.below last.1,
+    )

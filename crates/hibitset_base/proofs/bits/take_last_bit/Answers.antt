@@ -1,0 +1,25 @@
+use Rattle.std.proofs.Common.{◌≡◌, ℕ, ◌<◌, inl, inr, w64, bit_and, ap, arith}
+use Rattle.std.specs.Int.{bit_at}
+use Rattle.std.proofs.lemmas.Bool.{cases_lt}
+use Rattle.std.proofs.lemmas.Nat.{and_le_l}
+use Rattle.std.proofs.lemmas.Nat.Bits.{bit_at_clear_same, bit_at_clear_other}
+use Rattle.hibitset_base.proofs.bits.take_last_bit.Goals as goal
+
+-- a word that lost a bit is less
+lost_less : (word mask b : ℕ) → bit_at word b ≡ 1 → bit_at (bit_and word mask) b ≡ 0 → bit_and word mask < word
+lost_less word mask b stood gone = elim (cases_lt (bit_and word mask) word) [
+  | inl less ↦ less
+  | inr more ↦ absurd (
+      let same : bit_and word mask ≡ word = (let h = and_le_l word mask in omega (arith, h, more)) in
+      let bit : bit_at (bit_and word mask) b ≡ bit_at word b = ap (λ x. bit_at x b) same in
+      omega (arith, bit, stood, gone))
+]
+
+pub returns-clause-gone : goal.returns-clause-gone
+returns-clause-gone c = bit_at_clear_same w64 c.args.word.now c.last_bit-bit.result c.last_bit-bit.ensures.below
+
+pub returns-clause-same : goal.returns-clause-same
+returns-clause-same c = λ b small other. bit_at_clear_other w64 c.args.word.now c.last_bit-bit.result c.last_bit-bit.ensures.below b small other
+
+pub returns-clause-less : goal.returns-clause-less
+returns-clause-less c = lost_less c.args.word.now _ c.last_bit-bit.result c.last_bit-bit.ensures.stood (returns-clause-gone c)
