@@ -1,7 +1,9 @@
 -- What a command on two sets that are kept does is its step.
-use Rattle.std.proofs.Common.{◌≡◌, ◌≢◌, ℕ, suc, ◌<◌, Bool, true, false, not, ◌||◌, ◌&&◌, ◌==◌, List, [], ◌∷◌, length, get_or, set, refl, sym, ◌∙◌, ap, arith, inl, inr}
-use Rattle.std.specs.Bool.{Decides, one_answer}
-use Rattle.std.proofs.lemmas.Bool.{cases_lt}
+use Rattle.std.proofs.Common.{◌≡◌, ◌≢◌, ◌↔◌, ℕ, suc, ◌<◌, Bool, true, false, not, ◌||◌, ◌&&◌, ◌==◌, List, [], ◌∷◌, length, get_or, set, refl, sym, ◌∙◌, ap, arith, inl, inr}
+use Rattle.std.specs.Bool.{Decides, IsTrue, one_answer}
+use Rattle.std.proofs.lemmas.Bool.{cases_lt, true≢false}
+use Rattle.std.proofs.lemmas.Bool.Decides.{nat_tests}
+use Rattle.std.proofs.lemmas.List.{nil_from_length}
 use Rattle.hibitset.specs.declared.set.BitSet.{BitSet}
 use Rattle.hibitset.specs.BitSet.{has}
 use Rattle.hibitset.proofs.Comparing.{same_of_test}
@@ -11,7 +13,7 @@ use Rattle.hibitset_base.specs.declared.util.TheConstants.{MAX_EID}
 use Rattle.hibitset_base.proofs.Members.{members-none}
 use Rattle.hibitset_run.specs.declared.script.Slot.{Slot}
 use Rattle.hibitset_run.specs.declared.script.Command.TheVariants as command
-use Rattle.hibitset_run.specs.Script.{bool, done, no_memory, members_of, are_same, is_within, sets_of, with_set, slot_number, IsStep}
+use Rattle.hibitset_run.specs.Script.{bool, done, no_memory, members_of, has_members, are_same, is_within, sets_of, with_set, slot_number, IsStep}
 use Rattle.hibitset_run.proofs.Members.{has-out_of_range}
 use Rattle.hibitset_run.proofs.Kept.{sets_of-at, sets_of-other, sets_of-alike, sets_of-set, sets_of-put_back, sets_of-put_back_same, with_set-same}
 
@@ -33,6 +35,28 @@ or_itself false = refl
 differ_itself : (a : Bool) → differ a a ≡ false
 differ_itself true = refl
 differ_itself false = refl
+
+or_false : (a : Bool) → (a || false) ≡ a
+or_false true = refl
+or_false false = refl
+
+differ_false : (a : Bool) → differ a false ≡ a
+differ_false true = refl
+differ_false false = refl
+
+-- a set whose list of members is empty has none
+no_member : (set : BitSet) → members_of (has set) ≡ [] → (i : ℕ) → has set i ≡ false
+no_member set empty i = elim (cases_lt i MAX_EID) [
+  | inl below ↦ same_list (has set) (λ j. false) 0 MAX_EID (empty ∙ sym (members-none (λ j. false) 0 MAX_EID (λ j from end. refl))) i (omega arith) (omega arith)
+  | inr out ↦ has-out_of_range set i out
+]
+
+-- a test that tells that a set has no members
+pub not_empty : (empty : Bool) (set : BitSet) → empty ≡ false → IsTrue empty ↔ (members_of (has set) ≡ []) → has_members (has set) ≡ true
+not_empty empty set off tells = elim (cases_lt 0 (length (members_of (has set)))) [
+  | inl some ↦ grind (arith, nat_tests)
+  | inr none ↦ absurd (true≢false (sym (tells.1 (nil_from_length (members_of (has set)) (omega arith))) ∙ off))
+]
 
 -- The two sets are one.
 module _ (kept : List BitSet) (slot other : Slot) (one : slot_number other ≡ slot_number slot) where
@@ -79,11 +103,33 @@ module _ (kept : List BitSet) (slot other : Slot) (d e left new : BitSet) (long 
   put_back : ((i : ℕ) → has new i ≡ has ours i) → sets_of (set (set kept (slot_number slot) left) (slot_number slot) new) ≡ sets_of kept
   put_back same = sets_of-put_back_same kept slot d long left new same
 
-  pub or_refused : ((i : ℕ) → has new i ≡ has ours i) → IsStep (command.Or slot other) (sets_of kept) no_memory (sets_of (set (set kept (slot_number slot) left) (slot_number slot) new))
-  or_refused same = (refl, put_back same)
+  may_lack : has_members (has (get_or kept (slot_number other) e)) ≡ true → (not (slot_number slot == slot_number other) && has_members (sets_of kept other)) ≡ true
+  may_lack some =
+      let two : (slot_number slot == slot_number other) ≡ false = grind (arith, nat_tests) in
+      rw two (ap has_members (sets_of-at kept other e long) ∙ some)
 
-  pub xor_refused : ((i : ℕ) → has new i ≡ has ours i) → IsStep (command.Xor slot other) (sets_of kept) no_memory (sets_of (set (set kept (slot_number slot) left) (slot_number slot) new))
-  xor_refused same = (refl, put_back same)
+  pub or_refused : has_members (has (get_or kept (slot_number other) e)) ≡ true → ((i : ℕ) → has new i ≡ has ours i)
+      → IsStep (command.Or slot other) (sets_of kept) no_memory (sets_of (set (set kept (slot_number slot) left) (slot_number slot) new))
+  or_refused some same = (may_lack some, put_back same)
+
+  pub xor_refused : has_members (has (get_or kept (slot_number other) e)) ≡ true → ((i : ℕ) → has new i ≡ has ours i)
+      → IsStep (command.Xor slot other) (sets_of kept) no_memory (sets_of (set (set kept (slot_number slot) left) (slot_number slot) new))
+  xor_refused some same = (may_lack some, put_back same)
+
+-- The other set has no members.
+module _ (kept : List BitSet) (slot other : Slot) (e : BitSet) (long : length kept ≡ 8) (empty : Bool) (on : empty ≡ true)
+    (tells : IsTrue empty ↔ (members_of (has (get_or kept (slot_number other) e)) ≡ [])) where
+  none : (i : ℕ) → sets_of kept other i ≡ false
+  none i = ap (λ f. f i) (sets_of-at kept other e long) ∙ no_member (get_or kept (slot_number other) e) (tells.0 on) i
+
+  nothing_put : (f : Bool → Bool → Bool) → ((a : Bool) → f a false ≡ a) → with_set (sets_of kept) slot (λ i. f (sets_of kept slot i) (sets_of kept other i)) ≡ sets_of kept
+  nothing_put f same = with_set-same (sets_of kept) slot _ (λ i. ap (f (sets_of kept slot i)) (none i) ∙ same (sets_of kept slot i)) (λ another e. sets_of-alike kept slot another e)
+
+  pub or_none : IsStep (command.Or slot other) (sets_of kept) done (sets_of kept)
+  or_none = (refl, sym (nothing_put ◌||◌ or_false))
+
+  pub xor_none : IsStep (command.Xor slot other) (sets_of kept) done (sets_of kept)
+  xor_none = (refl, sym (nothing_put differ differ_false))
 
 -- a length as a test
 no_length : (xs : List ℕ) → Decides (length xs == 0) (xs ≡ [])

@@ -1,6 +1,6 @@
 -- What commands do to eight sets, and what they reply.
-use Rattle.std.specs.Prelude.{◌≡◌, ℕ, ◌-◌, ◌/◌, ◌^◌, max, Bool, true, false, not, ◌&&◌, ◌||◌, ◌==◌, nat_lt, if◌then◌else◌, IsTrue, List, [], ◌∷◌, length, slice_get}
-use Rattle.std.specs.List.{list_any}
+use Rattle.std.specs.Prelude.{◌≡◌, ℕ, ◌-◌, ◌/◌, ◌^◌, max, Bool, false, not, ◌&&◌, ◌||◌, ◌==◌, nat_lt, if◌then◌else◌, IsTrue, List, [], ◌∷◌, length, slice_get}
+use Rattle.std.specs.List.{list_all, list_any}
 use Rattle.std.specs.Option.{option_map_or}
 use Rattle.std.specs.Cmp.Lexicographic.{pointwise}
 use Rattle.hibitset.specs.declared.set.BitSet.{BitSet}
@@ -117,20 +117,28 @@ effect (command.Same slot other) sets = sets
 effect (command.Within slot other) sets = sets
 effect (command.Split slot layers) sets = sets
 
--- The command may be refused memory: an `Add` of an index that is in range and not there, a `List`, an `Or`, a `Xor`, a `Split`.
+-- the set has a member
+abbrev pub has_members : (ℕ → Bool) → Bool
+has_members set = nat_lt 0 (length (members_of set))
+
+-- the word of the index lies past those of all members
+abbrev pub is_past_all_words : (ℕ → Bool) → ℕ → Bool
+is_past_all_words set id = list_all (λ i. nat_lt (i / 64) (id / 64)) (members_of set)
+
+-- The command may be refused memory: an `Add` of an index that is in range and past the words of all members, a `List` of a set with members, an `Or` or a `Xor` with another set that has members.
 abbrev pub may_lack_memory : Command → Sets → Bool
-may_lack_memory (command.Add slot id) sets = nat_lt id MAX_EID && not (sets slot id)
+may_lack_memory (command.Add slot id) sets = nat_lt id MAX_EID && is_past_all_words (sets slot) id
 may_lack_memory (command.Remove slot id) sets = false
 may_lack_memory (command.Has slot id) sets = false
-may_lack_memory (command.List slot) sets = true
+may_lack_memory (command.List slot) sets = has_members (sets slot)
 may_lack_memory (command.Count slot) sets = false
 may_lack_memory (command.And slot other) sets = false
-may_lack_memory (command.Or slot other) sets = true
-may_lack_memory (command.Xor slot other) sets = true
+may_lack_memory (command.Or slot other) sets = not (slot_number slot == slot_number other) && has_members (sets other)
+may_lack_memory (command.Xor slot other) sets = not (slot_number slot == slot_number other) && has_members (sets other)
 may_lack_memory (command.Clear slot) sets = false
 may_lack_memory (command.Same slot other) sets = false
 may_lack_memory (command.Within slot other) sets = false
-may_lack_memory (command.Split slot layers) sets = true
+may_lack_memory (command.Split slot layers) sets = false
 
 -- From the old sets the command gives this answer, and leaves the new sets. One that is refused memory changes nothing.
 abbrev pub IsStep : Command → Sets → Answer → Sets → Type 0

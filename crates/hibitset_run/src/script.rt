@@ -1,5 +1,5 @@
 //! Scripts: commands on eight sets, and the replies to them.
-ghost use Rattle.std.specs.Prelude.{◌≡◌, IfOk, OnErr, length, map};
+ghost use Rattle.std.specs.Prelude.{◌≡◌, ◌<◌, [], IfOk, IsOk, OnErr, length, map};
 ghost use Rattle.hibitset.specs.BitSet.{has};
 ghost use Rattle.hibitset_base.specs.Members.{members_below};
 ghost use Rattle.hibitset_run.specs.Script.{IsRun, IsStep, answer_of, layers_number, sets_of, slot_number};
@@ -102,7 +102,7 @@ pub enum Reply {
 
 /// Runs commands on eight sets, one after the other, and gives one reply a command, in order.
 ///
-/// The room for the replies is made first, and where it is refused nothing has changed. A command that is refused memory replies `NoMemory` and changes no set, and the run goes on.
+/// The room for the replies is made first, and where it is refused nothing has changed; a run of no commands needs none. A command that is refused memory replies `NoMemory` and changes no set, and the run goes on. Four can be: `Add` of an index past the words of all members, `List` of a set with members, and `Or` and `Xor` with another set that has members.
 pub fn run(
     alloc: Global,
     sets: &mut [BitSet; 8],
@@ -111,6 +111,7 @@ pub fn run(
     ensures run { IfOk result (λ replies.
         IsRun commands.now (sets_of sets.old) (map answer_of replies.items) (sets_of sets.new)) }
     ensures refused { OnErr result (sets.new ≡ sets.old) }
+    ensures none { commands.now ≡ [] → IsOk result }
 {
     let mut replies = Vec::with_capacity(alloc, commands.len())?;
     for command in commands {
@@ -136,7 +137,7 @@ fn step(alloc: Global, sets: &mut [BitSet; 8], command: Command) -> Reply
         Command::Clear { set } => clear(sets, set),
         Command::Same { set, other } => pairs::same(sets, set, other),
         Command::Within { set, other } => pairs::within(sets, set, other),
-        Command::Split { set, layers } => splits::split(alloc, sets, set, layers),
+        Command::Split { set, layers } => splits::split(sets, set, layers),
     }
 }
 
@@ -179,7 +180,8 @@ fn list(alloc: Global, sets: &[BitSet; 8], slot: Slot) -> Reply
 
 // The indices of a set, ascending. `collect` would make a request that is refused once more.
 fn indices_of(alloc: Global, set: &BitSet) -> Result<Vec<Index>, AllocError>
-    ensures { IfOk result (λ indices. indices.items ≡ members_below MAX_EID (has set.now)) }
+    ensures indices { IfOk result (λ indices. indices.items ≡ members_below MAX_EID (has set.now)) }
+    ensures refused { OnErr result (0 < length (members_below MAX_EID (has set.now))) }
 {
     let mut indices = Vec::new(alloc);
     for index in set.iter() {

@@ -3,7 +3,7 @@ ghost use Rattle.std.specs.Prelude.{◌≡◌};
 ghost use Rattle.hibitset_run.specs.Script.{IsStep, answer_of, sets_of};
 
 use super::{Command, Reply, Slot};
-use hibitset::BitSet;
+use hibitset::{BitSet, BitSetLike};
 use std::alloc::{AllocError, Global};
 use std::mem;
 
@@ -31,6 +31,9 @@ pub(super) fn or(alloc: Global, sets: &mut [BitSet; 8], slot: Slot, other: Slot)
     if place == other_place {
         return Reply::Done;
     }
+    if sets[other_place].is_empty() {
+        return Reply::Done;
+    }
     let mut set = mem::replace(&mut sets[place], BitSet::new(alloc));
     let joined = set.bitor_assign(&sets[other_place]);
     sets[place] = set;
@@ -48,6 +51,9 @@ pub(super) fn xor(alloc: Global, sets: &mut [BitSet; 8], slot: Slot, other: Slot
     let other_place = other.number();
     if place == other_place {
         sets[place].clear();
+        return Reply::Done;
+    }
+    if sets[other_place].is_empty() {
         return Reply::Done;
     }
     let mut set = mem::replace(&mut sets[place], BitSet::new(alloc));
