@@ -1,3 +1,4 @@
+mod CallerLemmas
 pub mod Within
 pub mod Merging
 pub mod Blocks
