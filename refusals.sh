@@ -18,7 +18,7 @@ refused() {
     done
 }
 
-refused hibitset 4 life::room_made_before building::extending_with_little_memory
+refused hibitset 4 life::room_made_before building::extending_with_little_memory reach::listing_with_little_memory
 refused hibitset 7 assignments::a_union_that_grows
 refused hibitset_atomic 4 held::refused building::building_without_an_empty_set
 refused hibitset_atomic 6 held::refused building::extending_with_little_memory

@@ -137,6 +137,36 @@ fn last_of(list: Vec<usize>) -> u64 {
     (list.len() + list.last().copied().unwrap_or(0)) as u64
 }
 
+/// How many members a set has, and their list, by whole words.
+fn sizes_and_lists(bench: &mut Bench, all: &[(&Sample, f64, f64)]) {
+    bench.part("the size and the list of a set (ns per member)");
+    for (sample, len_aim, list_aim) in all {
+        let (ids, k) = (&sample.ids[..], &sample.peers);
+        let mut row = Row::new(format!("len, {}", sample.name), ids.len(), *len_aim, both!(len, ids));
+        peer!(row, fixedbitset, "fixedbitset", || timed(|| k.fixed.count_ones(..) as u64));
+        peer!(row, bit_set, "bit-set", || timed(|| k.bits.len() as u64));
+        bench.run(row);
+        let mut row = Row::new(format!("to_vec, {}", sample.name), ids.len(), *list_aim, both!(to_vec, ids));
+        peer!(row, fixedbitset, "fixedbitset", || timed(|| last_of(k.fixed.ones().collect())));
+        peer!(row, bit_set, "bit-set", || timed(|| last_of(k.bits.iter().collect())));
+        bench.run(row);
+    }
+}
+
+/// The first member of a set, and walks that begin at an index.
+fn firsts(bench: &mut Bench, all: &[&Sample], asked: &[u32]) {
+    bench.part("the first member (ns per call)");
+    for sample in all {
+        let (ids, k) = (&sample.ids[..], &sample.peers);
+        let first = || k.tree.first().map_or(0, |index| *index as u64);
+        bench.run(Row::new(format!("first, {}", sample.name), 1, 1.0, both!(first, ids)).peer("BTreeSet", || timed(first)));
+        bench.run(Row::new(format!("iter().next(), {}", sample.name), 1, 1.0, both!(walk_next, ids)).peer("BTreeSet", || timed(first)));
+        let from = |start: &u32| k.tree.range(*start..).next().map_or(0, |index| *index as u64);
+        bench.run(Row::new(format!("iter_from(i).next(), {}", sample.name), asked.len(), 0.5, both!(walk_from, ids, asked))
+            .peer("BTreeSet", || timed(|| asked.iter().map(from).sum())));
+    }
+}
+
 fn pair_walks(bench: &mut Bench, a: &Sample, b: &Sample, aim: f64) {
     let (ops, of) = (a.len() + b.len(), format!("{} and {}", a.name, b.name));
     let (x, y) = (&a.ids[..], &b.ids[..]);
@@ -287,9 +317,19 @@ fn main() {
     adds(&mut bench, &random, &members, &absent, &ascending);
     walks(&mut bench, &[(&dense, 0.4), (&half, 0.6), (&ten, 0.6), (&one, 0.6), (&few, 0.6), (&clusters, 0.4)]);
     walks_by_method(&mut bench, &[(&dense, 0.4), (&half, 0.6), (&ten, 0.6), (&one, 0.6)]);
+    sizes_and_lists(&mut bench, &[(&dense, 0.02, 0.2), (&half, 0.02, 0.2), (&ten, 0.04, 0.33), (&one, 0.3, 0.6)]);
+    firsts(&mut bench, &[&dense, &ten, &one], &random);
     bench.part("walks of two sets (ns per member of both)");
     for (a, b, aim) in [(&half, &other_half, 0.6), (&ten, &other_ten, 0.6), (&one, &other_one, 0.6), (&few, &ten, 0.6), (&clusters, &one, 0.6)] {
         pair_walks(&mut bench, a, b, aim);
+    }
+    bench.part("the size of two sets together (ns per member of both)");
+    for (a, b) in [(&half, &other_half), (&ten, &other_ten), (&one, &other_one)] {
+        let (x, y) = (&a.ids[..], &b.ids[..]);
+        let mut row = Row::new(format!("len of a & b, {} and {}", a.name, b.name), a.len() + b.len(), 0.6, both!(and_len, x, y));
+        peer!(row, fixedbitset, "fixedbitset", || timed(|| a.peers.fixed.intersection(&b.peers.fixed).count() as u64));
+        peer!(row, bit_set, "bit-set", || timed(|| a.peers.bits.intersection(&b.peers.bits).count() as u64));
+        bench.run(row);
     }
     bench.part("walks of what is not there (ns per item)");
     for (sample, aim) in [(&half, 0.4), (&one, 0.4)] {

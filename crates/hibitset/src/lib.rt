@@ -16,7 +16,8 @@ pub use hibitset_atomic::{
 };
 pub use hibitset_base::{
     BitIter, BitParIter, BitProducer, BitSetAll, BitSetAnd, BitSetLike, BitSetNot, BitSetOr,
-    BitSetXor, DrainBitIter, DrainableBitSet, Index, drain, iter, like, parallel, util, virt,
+    BitSetXor, DrainBitIter, DrainableBitSet, Index, LAYERS, MAX_EID, drain, iter, like, parallel,
+    util, virt,
 };
 pub use set::BitSet;
 

@@ -7,6 +7,7 @@ mod life;
 mod made;
 mod operators;
 mod parallel;
+mod reach;
 mod reads;
 mod splits;
 mod strangers;

@@ -1,20 +1,20 @@
 //! What is left of a walk, by whole words.
-ghost use Rattle.std.specs.Prelude.{◌≡◌, ℕ, ◌+◌, ◌-◌, ◌%◌, ◌^◌, ◌<◌, ◌≤◌, ◌∷◌, ◌++◌, [], length, take, MatchOption, IfSome, IfOk, true, false, ⊤, Bool, Option, None, ℕ, List};
-ghost use Rattle.hibitset_base.specs.Members.{members, members_below};
+ghost use Rattle.std.specs.Prelude.{◌≡◌, ℕ, List, ◌+◌, ◌-◌, ◌%◌, ◌^◌, ◌<◌, ◌≤◌, ◌++◌, [], length, take, MatchOption, IfSome, IfOk, None};
+ghost use Rattle.hibitset_base.specs.Members.{members_below};
 ghost use Rattle.hibitset_base.specs.Sets.{IsExact};
 ghost use Rattle.hibitset_base.specs.First.{IsFirst, HasNone};
 ghost use Rattle.hibitset_base.specs.Written.{IsWritten};
 ghost use Rattle.hibitset_base.specs.Places.{places_in, bits_from, items_of};
 ghost use Rattle.hibitset_base.specs.Cursor.{left};
-ghost use Rattle.hibitset_base.specs.Reading.{GoesOn, AllStand};
-ghost use Rattle.hibitset_base.specs.Walk.{set_of, items_left, words_read, IsDrawn};
+ghost use Rattle.hibitset_base.specs.Reading.{GoesOn};
+ghost use Rattle.hibitset_base.specs.Walk.{items_left};
 ghost use Rattle.hibitset_base.specs.declared.util.TheConstants.{LAYERS, MAX_EID};
 
 use crate::cursor::Cursor;
-use crate::iter::{BitIter, read, refill, start, step};
+use crate::iter::{BitIter, refill, start, step};
 use crate::like::BitSetLike;
 use crate::reads::Reads;
-use crate::util::{BITS, Index, LAYERS, MAX_EID};
+use crate::util::{Index, LAYERS};
 use std::alloc::{AllocError, Global};
 
 // All places of the first word of layer 0 that has any left: the position of the word's first bit, and the word. They are taken.

@@ -65,6 +65,47 @@ pub extern "C" fn hibitset_bench_walk_collect(alloc: Global, ids: &[u32], times:
     walk::collect(alloc, ids, times).unwrap_or(u64::MAX)
 }
 
+/// Asks a set how many members it has, `times` times over.
+#[unsafe(no_mangle)]
+pub extern "C" fn hibitset_bench_len(alloc: Global, ids: &[u32], times: usize) -> u64 {
+    walk::len(alloc, ids, times).unwrap_or(u64::MAX)
+}
+
+/// Asks a set for its first member, `times` times over.
+#[unsafe(no_mangle)]
+pub extern "C" fn hibitset_bench_first(alloc: Global, ids: &[u32], times: usize) -> u64 {
+    walk::first(alloc, ids, times).unwrap_or(u64::MAX)
+}
+
+/// Asks a walk for its first item, `times` times over.
+#[unsafe(no_mangle)]
+pub extern "C" fn hibitset_bench_walk_next(alloc: Global, ids: &[u32], times: usize) -> u64 {
+    walk::first_of_walk(alloc, ids, times).unwrap_or(u64::MAX)
+}
+
+/// Lists the members of a set, `times` times over.
+#[unsafe(no_mangle)]
+pub extern "C" fn hibitset_bench_to_vec(alloc: Global, ids: &[u32], times: usize) -> u64 {
+    walk::to_vec(alloc, ids, times).unwrap_or(u64::MAX)
+}
+
+/// Asks walks from each of `b` on over a set of `a` for their first item, `times` times over.
+#[unsafe(no_mangle)]
+pub extern "C" fn hibitset_bench_walk_from(
+    alloc: Global,
+    a: &[u32],
+    b: &[u32],
+    times: usize,
+) -> u64 {
+    walk::from_index(alloc, a, b, times).unwrap_or(u64::MAX)
+}
+
+/// Asks how many indices are in both of two sets, `times` times over.
+#[unsafe(no_mangle)]
+pub extern "C" fn hibitset_bench_and_len(alloc: Global, a: &[u32], b: &[u32], times: usize) -> u64 {
+    walk::and_len(alloc, a, b, times).unwrap_or(u64::MAX)
+}
+
 /// Walks over what is not in a set, `times` times over.
 #[unsafe(no_mangle)]
 pub extern "C" fn hibitset_bench_walk_not(alloc: Global, ids: &[u32], times: usize) -> u64 {

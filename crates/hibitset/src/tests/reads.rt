@@ -6,9 +6,9 @@ use std::test::Fail;
 
 // A set that counts the calls of its layer functions.
 #[derive(Drop)]
-struct Counting {
-    set: BitSet,
-    reads: Cell<usize>,
+pub(super) struct Counting {
+    pub(super) set: BitSet,
+    pub(super) reads: Cell<usize>,
 }
 
 impl Counting {
@@ -72,8 +72,8 @@ fn one_word_and_then_three_a_step(rt: HostRuntime) -> Result<(), Fail> {
 
 // A set that counts in the same way, with all bits in the layers above the lowest.
 #[derive(Drop)]
-struct Everywhere {
-    counting: Counting,
+pub(super) struct Everywhere {
+    pub(super) counting: Counting,
 }
 
 impl BitSetLike for Everywhere {

@@ -1,0 +1,227 @@
+//! The size of a set, its first member, the list of its members, and walks that begin at an index.
+ghost use Rattle.std.specs.Prelude.{◌≡◌, ◌-◌, length, IfOk};
+ghost use Rattle.hibitset_base.specs.Members.{members, members_below};
+ghost use Rattle.hibitset_base.specs.declared.util.TheConstants.{MAX_EID};
+
+use crate::tests::reads::{Counting, Everywhere};
+use crate::tests::{list, run_of, set_of};
+use crate::{BitSet, BitSetAll, BitSetLike, Index, LAYERS, MAX_EID};
+use std::alloc::{AllocError, Global};
+use std::cell::Cell;
+use std::test::Fail;
+
+// The first and the last index under words of each layer.
+const BORDERS: [Index; 9] = [
+    0, 63, 64, 4_095, 4_096, 262_143, 262_144, 8_388_608, 16_777_215,
+];
+
+// What a walk from an index gives.
+fn list_from<T: BitSetLike>(alloc: Global, set: T, start: Index) -> Result<Vec<Index>, AllocError> {
+    set.iter_from(start).collect(alloc)
+}
+
+#[test]
+fn constants_at_the_root(rt: HostRuntime) {
+    assert_eq!(rt; LAYERS, 4);
+    assert_eq!(rt; MAX_EID, 16_777_216);
+}
+
+#[test]
+fn an_empty_set(rt: HostRuntime) -> Result<(), Fail> {
+    let none = BitSet::new(rt.alloc());
+    assert_eq!(rt; none.len(), 0);
+    assert_eq!(rt; none.first(), None);
+    assert_eq!(rt; none.to_vec(rt.alloc())?.len(), 0);
+    for start in BORDERS {
+        assert_eq!(rt; (&none).iter_from(start).next(), None);
+    }
+    assert_eq!(rt; (&none).iter_from(u32::MAX).next(), None);
+    Ok(())
+}
+
+#[test]
+fn one_member(rt: HostRuntime) -> Result<(), Fail> {
+    for id in BORDERS {
+        let one = set_of(rt.alloc(), &[id])?;
+        assert_eq!(rt; one.len(), 1);
+        assert_eq!(rt; one.first(), Some(id));
+        assert_eq!(rt; one.to_vec(rt.alloc())?.as_slice(), [id].as_slice());
+        assert_eq!(rt; (&one).iter_from(0).next(), Some(id));
+        assert_eq!(rt; (&one).iter_from(id).next(), Some(id));
+        assert_eq!(rt; (&one).iter_from(id.saturating_add(1)).next(), None);
+    }
+    Ok(())
+}
+
+#[test]
+fn borders_of_words(rt: HostRuntime) -> Result<(), Fail> {
+    let set = set_of(rt.alloc(), BORDERS.as_slice())?;
+    assert_eq!(rt; set.len(), 9);
+    assert_eq!(rt; set.first(), Some(0));
+    assert_eq!(rt; set.to_vec(rt.alloc())?.as_slice(), BORDERS.as_slice());
+    // how many of them lie before the index
+    let before: [(Index, usize); 18] = [
+        (0, 0),
+        (1, 1),
+        (63, 1),
+        (64, 2),
+        (65, 3),
+        (4_095, 3),
+        (4_096, 4),
+        (4_097, 5),
+        (262_143, 5),
+        (262_144, 6),
+        (262_145, 7),
+        (8_388_607, 7),
+        (8_388_608, 7),
+        (8_388_609, 8),
+        (16_777_214, 8),
+        (16_777_215, 8),
+        (16_777_216, 9),
+        (u32::MAX, 9),
+    ];
+    for (start, passed) in before {
+        let rest = list_from(rt.alloc(), &set, start)?;
+        assert_eq!(rt; rest.as_slice(), &BORDERS[passed.min(9)..], "from {start}");
+    }
+    Ok(())
+}
+
+#[test]
+fn words_with_many_bits_and_with_few(rt: HostRuntime) -> Result<(), Fail> {
+    let dense = run_of(rt.alloc(), 5_000)?;
+    assert_eq!(rt; dense.len(), 5_000);
+    let listed = dense.to_vec(rt.alloc())?;
+    assert_eq!(rt; listed.as_slice(), list(rt.alloc(), &dense)?.as_slice());
+    assert_eq!(rt; listed.last(), Some(&4_999));
+    let from = list_from(rt.alloc(), &dense, 4_321)?;
+    assert_eq!(rt;
+        from.as_slice(),
+        &listed.as_slice()[4_321.min(listed.len())..]
+    );
+    let mut mixed = BitSet::new(rt.alloc());
+    let mut added = 0usize;
+    for id in 0..20_000u32 {
+        let ones = id / 64 % 64;
+        if id % 64 <= ones {
+            mixed.add(id)?;
+            added = added.wrapping_add(1);
+        }
+    }
+    assert_eq!(rt; mixed.len(), added);
+    let listed = mixed.to_vec(rt.alloc())?;
+    assert_eq!(rt; listed.as_slice(), list(rt.alloc(), &mixed)?.as_slice());
+    Ok(())
+}
+
+#[test]
+fn over_virtual_sets(rt: HostRuntime) -> Result<(), Fail> {
+    let a = set_of(rt.alloc(), &[0, 5, 63, 4_096, 262_144])?;
+    let b = set_of(rt.alloc(), &[5, 64, 4_096, 16_777_215])?;
+    assert_eq!(rt; (&a & &b).len(), 2);
+    assert_eq!(rt; (&a & &b).first(), Some(5));
+    let both = (&a & &b).to_vec(rt.alloc())?;
+    assert_eq!(rt; both.as_slice(), [5, 4_096].as_slice());
+    assert_eq!(rt; (&a & &b).iter_from(6).next(), Some(4_096));
+    assert_eq!(rt; (&a & &b).iter_from(4_097).next(), None);
+    assert_eq!(rt; (&a | &b).len(), 7);
+    let either = list_from(rt.alloc(), &a | &b, 64)?;
+    assert_eq!(rt;
+        either.as_slice(),
+        [64, 4_096, 262_144, 16_777_215].as_slice()
+    );
+    let one = (&a ^ &b).to_vec(rt.alloc())?;
+    assert_eq!(rt; one.as_slice(), [0, 63, 64, 262_144, 16_777_215].as_slice());
+    assert_eq!(rt; (&a ^ &b).first(), Some(0));
+    assert_eq!(rt; (&a & !&a).first(), None);
+    assert_eq!(rt; (&a & !&a).len(), 0);
+    assert_eq!(rt; (!&a).first(), Some(1));
+    assert_eq!(rt; (!&a).iter_from(63).next(), Some(64));
+    assert_eq!(rt; (!&a).len(), 16_777_211);
+    assert_eq!(rt; BitSetAll.len(), 16_777_216);
+    assert_eq!(rt; BitSetAll.iter_from(16_777_215).next(), Some(16_777_215));
+    assert_eq!(rt; BitSetAll.iter_from(16_777_216).next(), None);
+    Ok(())
+}
+
+#[test]
+fn over_a_stranger(rt: HostRuntime) -> Result<(), Fail> {
+    let everywhere = Everywhere {
+        counting: Counting {
+            set: set_of(rt.alloc(), &[70, 4_096, 300_000])?,
+            reads: Cell::new(0),
+        },
+    };
+    assert_eq!(rt; everywhere.first(), Some(70));
+    assert_eq!(rt; (&everywhere).iter_from(71).next(), Some(4_096));
+    assert_eq!(rt; (&everywhere).iter_from(300_000).next(), Some(300_000));
+    assert_eq!(rt; everywhere.len(), 3);
+    let listed = everywhere.to_vec(rt.alloc())?;
+    assert_eq!(rt; listed.as_slice(), [70, 4_096, 300_000].as_slice());
+    Ok(())
+}
+
+#[test]
+fn one_word_a_layer(rt: HostRuntime) -> Result<(), Fail> {
+    let counting = Counting {
+        set: set_of(rt.alloc(), &[64, 70, 16_777_215])?,
+        reads: Cell::new(0),
+    };
+    assert_eq!(rt; counting.first(), Some(64));
+    assert_eq!(rt; counting.reads.replace(0), 4);
+    // start, words read when the walk is made, the first item, and words read up to it
+    let rows: [(Index, usize, Option<Index>, usize); 8] = [
+        (0, 3, Some(64), 1),
+        (64, 4, Some(64), 0),
+        (65, 4, Some(70), 0),
+        (71, 4, Some(16_777_215), 3),
+        (4_096, 2, Some(16_777_215), 3),
+        (262_144, 1, Some(16_777_215), 3),
+        (16_777_215, 4, Some(16_777_215), 0),
+        (16_777_216, 0, None, 0),
+    ];
+    for (start, made, first, later) in rows {
+        let mut walk = (&counting).iter_from(start);
+        assert_eq!(rt; counting.reads.replace(0), made, "made from {start}");
+        assert_eq!(rt; walk.next(), first);
+        assert_eq!(rt; counting.reads.replace(0), later, "next from {start}");
+    }
+    let mut all = (&counting).iter();
+    assert_eq!(rt; all.nth(2), Some(16_777_215));
+    assert_eq!(rt; counting.reads.replace(0), 7);
+    Ok(())
+}
+
+// A list that finds no memory leaves the set as it is, and the next one is whole. A run under failing allocations takes the other branch.
+#[test]
+fn listing_with_little_memory(rt: HostRuntime) -> Result<(), Fail> {
+    let set = set_of(rt.alloc(), &[5, 6, 7])?;
+    if let Ok(listed) = set.to_vec(rt.alloc()) {
+        assert_eq!(rt; listed.as_slice(), [5, 6, 7].as_slice());
+    }
+    assert_eq!(rt; set.len(), 3);
+    let again = set.to_vec(rt.alloc())?;
+    assert_eq!(rt; again.as_slice(), [5, 6, 7].as_slice());
+    Ok(())
+}
+
+// A caller's own: what the contracts say is enough, without a proof by hand.
+fn without_the_first<T: BitSetLike>(set: &T) -> usize
+    ensures { result ≡ length (members_below MAX_EID (T.holds set.now)) - 1 }
+{
+    set.len().saturating_sub(1)
+}
+
+fn rest_of<T: BitSetLike>(alloc: Global, set: &T) -> Result<Vec<Index>, AllocError>
+    ensures { IfOk result (λ v. v.items ≡ members_below MAX_EID (T.holds set.now)) }
+{
+    set.to_vec(alloc)
+}
+
+#[test]
+fn callers(rt: HostRuntime) -> Result<(), Fail> {
+    let set = set_of(rt.alloc(), &[1, 2, 3])?;
+    assert_eq!(rt; without_the_first(&set), 2);
+    assert_eq!(rt; rest_of(rt.alloc(), &set)?.as_slice(), [1, 2, 3].as_slice());
+    Ok(())
+}
