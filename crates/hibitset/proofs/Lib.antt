@@ -5,3 +5,4 @@ pub mod Blocks
 pub mod Comparing
 pub mod Equality
 pub mod Ending
+pub mod Lengths

@@ -1,20 +1,42 @@
 -- `BitSet`s that take the items of an iterator.
-use Rattle.std.specs.Prelude.{ℕ, Bool, Option}
+use Rattle.std.specs.Prelude.{◌≡◌, ℕ, ◌/◌, ◌%◌, ◌<◌, ◌≤◌, ◌==◌, Bool, true, false, Option, get_or, List}
+use Rattle.std.specs.Int.{bit_at}
+use Rattle.std.proofs.Common.{arith, ap, sym, ◌∙◌, inl, inr}
+use Rattle.std.proofs.lemmas.Bool.{cases_lt}
+use Rattle.std.proofs.lemmas.List.{get_or_past}
+use Rattle.std.proofs.lemmas.Nat.Bits.{bit_at-zero}
+use Rattle.hibitset_base.specs.Sets.{bit_of}
+use Rattle.hibitset.specs.BitSet.{has, slice_len}
+use Rattle.hibitset.specs.declared.set.BitSet.{BitSet}
 use Rattle.hibitset_base.specs.Building.{RefusesBelow, TakesAllBelow, StopsAtRefusedBelow}
 use Rattle.hibitset_base.specs.declared.build.BuildError.{BuildError}
 use Rattle.hibitset_base.specs.declared.util.TheConstants.{MAX_EID}
 
+-- the words of all members lie before this position
+abbrev pub MembersEndBy : (ℕ → Bool) → ℕ → Type 0
+MembersEndBy holds end = (i : ℕ) → holds i ≡ true → i / 64 < end
+
+no_bit : (x b : ℕ) → x ≡ 0 → (bit_at x b == 1) ≡ true → bit_of true ≡ bit_of false
+no_bit x b none on = ap bit_of (sym on ∙ ap (λ y. y == 1) (ap (λ z. bit_at z b) none ∙ bit_at-zero b))
+
+-- the word of a member lies before that of a number whose word the set lacks
+pub member_apart : (set : BitSet) (i j : ℕ) → has set i ≡ true → slice_len set 0 ≤ j / 64 → i / 64 < j / 64
+member_apart set i j on lacks = elim (cases_lt (i / 64) (slice_len set 0)) [
+  | inl there ↦ omega (arith, there, lacks)
+  | inr past ↦ absurd (let h = no_bit (get_or set.layer0.items (i / 64) 0) (i % 64) (get_or_past set.layer0.items (i / 64) 0 past) on in omega (arith, h))
+]
+
 -- U is what is iterated over, S its iterator and A an item, of which `number` reads the index.
 module _ {U S A : Type 0} (becomes : U → S → Type 0) (steps : S → Option A → S → Type 0) (number : A → ℕ) (iter : U) where
-  -- an item was refused with this error, after items that are all in range, and no item was drawn after it
+  -- An item was refused with this error, after items that are all in range, and no item was drawn after it. Memory is refused only for an item whose word lies past those of all before it.
   abbrev pub Refuses : BuildError → Type 0
-  Refuses = RefusesBelow MAX_EID becomes steps number iter
+  Refuses = RefusesBelow MAX_EID becomes steps number iter (λ i j. i / 64 < j / 64)
 
   module _ (old new : ℕ → Bool) where
     -- the iterator came to its end, and all its items were added
     abbrev pub TakesAll : Type 0
     TakesAll = TakesAllBelow MAX_EID becomes steps number iter old new
 
-    -- the items were added up to one that was refused with this error, and no item was drawn after it
-    abbrev pub StopsAtRefused : BuildError → Type 0
-    StopsAtRefused = StopsAtRefusedBelow MAX_EID becomes steps number iter old new
+    -- The items were added up to one that was refused with this error, and no item was drawn after it. Memory is refused only for an item whose word lies past so many words.
+    abbrev pub StopsAtRefused : ℕ → BuildError → Type 0
+    StopsAtRefused words = StopsAtRefusedBelow MAX_EID becomes steps number iter old new (λ i. words ≤ i / 64)

@@ -1,9 +1,9 @@
 //! Sets made of the items of an iterator, or extended by them.
-ghost use Rattle.std.specs.Prelude.{◌≡◌, ℕ, ◌<◌, ◌≤◌, ◌||◌, Bool, false, OnOk, OnErr, IfOk, IfErr};
+ghost use Rattle.std.specs.Prelude.{◌≡◌, ℕ, ◌/◌, ◌<◌, ◌≤◌, ◌||◌, Bool, false, OnOk, OnErr, IfOk, IfErr};
 ghost use Rattle.std.specs.Iterator.{IsFiniteIterable};
 ghost use Rattle.hibitset_base.specs.declared.util.TheConstants.{MAX_EID};
 ghost use Rattle.hibitset.specs.BitSet.{has, slice_len};
-ghost use Rattle.hibitset.specs.Building.{Refuses, TakesAll, StopsAtRefused};
+ghost use Rattle.hibitset.specs.Building.{MembersEndBy, Refuses, TakesAll, StopsAtRefused, member_apart};
 
 use crate::set::BitSet;
 pub use hibitset_base::build::BuildError;
@@ -14,7 +14,11 @@ use std::alloc::{AllocError, Global};
 impl Extendable for BitSet {
     ghost RANGE = { MAX_EID };
 
-    ghost size = { λ set. slice_len set 0 };
+    ghost lacks_room = { λ set i. slice_len set 0 ≤ i / 64 };
+
+    ghost lie_apart = { λ i j. i / 64 < j / 64 };
+
+    ghost apart = { member_apart };
 
     const RANGE: usize = MAX_EID;
 
@@ -27,15 +31,16 @@ impl Extendable for BitSet {
 impl BitSet {
     /// Adds the items of an iterator, each of which is to be below `MAX_EID`.
     ///
-    /// It stops at the first item that is not, and where memory is refused: then the set has its old members and the items before that one, and no later item is drawn.
+    /// It stops at the first item that is not, and where memory is refused: then the set has its old members and the items before that one, and no later item is drawn. Memory is refused only for an item whose word lies past `layer0_as_slice`, and that slice grows no longer than the members need.
     pub fn extend_indices<U: IntoIterator<Item = Index>>(
         &mut self,
         iter: U,
     ) -> Result<(), BuildError>
         requires { IsFiniteIterable U.into_iter_gives U.IntoIter.can_next U.IntoIter.remaining iter }
         ensures all { OnOk result (TakesAll U.into_iter_gives U.IntoIter.next_gives (λ i. i) iter (has self.old) (has self.new)) }
-        ensures stops { IfErr result (StopsAtRefused U.into_iter_gives U.IntoIter.next_gives (λ i. i) iter (has self.old) (has self.new)) }
+        ensures stops { IfErr result (StopsAtRefused U.into_iter_gives U.IntoIter.next_gives (λ i. i) iter (has self.old) (has self.new) (slice_len self.new 0)) }
         ensures keeps { slice_len self.old 0 ≤ slice_len self.new 0 }
+        ensures most { (end : ℕ) → slice_len self.old 0 ≤ end → MembersEndBy (has self.new) end → slice_len self.new 0 ≤ end }
     {
         build::extend_indices(self, iter)
     }
@@ -47,21 +52,23 @@ impl BitSet {
     ) -> Result<(), BuildError>
         requires { IsFiniteIterable U.into_iter_gives U.IntoIter.can_next U.IntoIter.remaining iter }
         ensures all { OnOk result (TakesAll U.into_iter_gives U.IntoIter.next_gives (λ i. i.now) iter (has self.old) (has self.new)) }
-        ensures stops { IfErr result (StopsAtRefused U.into_iter_gives U.IntoIter.next_gives (λ i. i.now) iter (has self.old) (has self.new)) }
+        ensures stops { IfErr result (StopsAtRefused U.into_iter_gives U.IntoIter.next_gives (λ i. i.now) iter (has self.old) (has self.new) (slice_len self.new 0)) }
         ensures keeps { slice_len self.old 0 ≤ slice_len self.new 0 }
+        ensures most { (end : ℕ) → slice_len self.old 0 ≤ end → MembersEndBy (has self.new) end → slice_len self.new 0 ≤ end }
     {
         build::extend_index_refs(self, iter)
     }
 
     /// A set of the items of an iterator, each of which is to be below `MAX_EID`.
     ///
-    /// It stops at the first item that is not, and where memory is refused: then no later item is drawn.
+    /// It stops at the first item that is not, and where memory is refused: then no later item is drawn. Memory is refused only for an item whose word lies past those of all items before it.
     pub fn from_indices<U: IntoIterator<Item = Index>>(
         alloc: Global,
         iter: U,
     ) -> Result<BitSet, BuildError>
         requires { IsFiniteIterable U.into_iter_gives U.IntoIter.can_next U.IntoIter.remaining iter }
         ensures all { IfOk result (λ set. TakesAll U.into_iter_gives U.IntoIter.next_gives (λ i. i) iter (λ _. false) (has set)) }
+        ensures most { IfOk result (λ set. (end : ℕ) → MembersEndBy (has set) end → slice_len set 0 ≤ end) }
         ensures stops { IfErr result (Refuses U.into_iter_gives U.IntoIter.next_gives (λ i. i) iter) }
     {
         build::from_indices(BitSet::new(alloc), iter)
@@ -74,6 +81,7 @@ impl BitSet {
     ) -> Result<BitSet, BuildError>
         requires { IsFiniteIterable U.into_iter_gives U.IntoIter.can_next U.IntoIter.remaining iter }
         ensures all { IfOk result (λ set. TakesAll U.into_iter_gives U.IntoIter.next_gives (λ i. i.now) iter (λ _. false) (has set)) }
+        ensures most { IfOk result (λ set. (end : ℕ) → MembersEndBy (has set) end → slice_len set 0 ≤ end) }
         ensures stops { IfErr result (Refuses U.into_iter_gives U.IntoIter.next_gives (λ i. i.now) iter) }
     {
         build::from_index_refs(BitSet::new(alloc), iter)

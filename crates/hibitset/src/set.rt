@@ -1,5 +1,5 @@
 //! The set that keeps its words.
-ghost use Rattle.std.specs.Prelude.{◌≡◌, ◌≢◌, ℕ, ◌+◌, ◌-◌, ◌*◌, ◌/◌, ◌%◌, ◌^◌, ◌<◌, ◌≤◌, ◌==◌, ◌||◌, ◌&&◌, not, if◌then◌else◌, Bool, true, false, List, [], ◌∷◌, get_or, length, slice_index_or, OnOk, OnErr, IfOk, IsOk, max};
+ghost use Rattle.std.specs.Prelude.{◌≡◌, ◌≢◌, ℕ, ◌+◌, ◌-◌, ◌*◌, ◌/◌, ◌%◌, ◌^◌, ◌<◌, ◌≤◌, ◌==◌, ◌||◌, ◌&&◌, not, if◌then◌else◌, Bool, true, false, List, [], ◌∷◌, get_or, length, slice_index_or, OnOk, OnErr, IfOk, IsOk, max, refl};
 ghost use Rattle.std.specs.Int.{bit_at};
 ghost use Rattle.hibitset_base.specs.Words.{IsStored, word_at, holds_at};
 ghost use Rattle.hibitset_base.specs.declared.util.TheConstants.{LAYERS, MAX_EID};
@@ -284,6 +284,15 @@ impl BitSetLike for BitSet {
 }
 
 impl DrainableBitSet for BitSet {
+    ghost use Rattle.std.proofs.Common.{◌∙◌};
+    ghost use Rattle.hibitset.specs.BitSet.{slice_len};
+
+    ghost keeps_room = { λ old new. slice_len new 0 ≡ slice_len old 0 };
+
+    ghost keeps_own = { λ s. refl };
+
+    ghost keeps_both = { λ a b c first second. second ∙ first };
+
     #[inline]
     fn remove(&mut self, i: Index) -> bool {
         BitSet::remove(self, i)

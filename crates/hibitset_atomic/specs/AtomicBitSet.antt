@@ -1,5 +1,10 @@
 -- What a contract sees of an `AtomicBitSet`.
-use Rattle.std.specs.Prelude.{◌≡◌, ℕ, ◌-◌, ◌/◌, Bool, true, List}
+use Rattle.std.specs.Prelude.{◌≡◌, ◌≢◌, ℕ, ◌-◌, ◌/◌, ◌%◌, ◌*◌, ◌+◌, ◌==◌, Bool, true, false, List, get_or}
+use Rattle.std.specs.Int.{bit_at}
+use Rattle.std.proofs.Common.{arith, ap, sym, ◌∙◌}
+use Rattle.std.proofs.lemmas.Nat.Bits.{bit_at-zero}
+use Rattle.hibitset_base.specs.Sets.{bit_of}
+use Rattle.hibitset_atomic.specs.Blocks.{block_word, IsUnmade}
 use Rattle.hibitset_base.specs.Members.{members_below}
 use Rattle.hibitset_atomic.specs.declared.atomic.TheConstants.{ATOMIC_MAX_EID}
 use Rattle.hibitset_atomic.specs.declared.layers.TheConstants.{ATOMIC_LAYERS}
@@ -27,3 +32,22 @@ members_of set = members_below ATOMIC_MAX_EID (has set)
 -- some member lies in the same 4,096 indices
 abbrev pub HasNear : AtomicBitSet → ℕ → Type 0
 HasNear set i = (j : ℕ) × (j / 4096 ≡ i / 4096) × (has set j ≡ true)
+
+-- no member lies in the same 4,096 indices
+abbrev pub HasNoNear : AtomicBitSet → ℕ → Type 0
+HasNoNear set i = (j : ℕ) → has set j ≡ true → j / 4096 ≢ i / 4096
+
+-- The block of 4,096 indices that has the number is not made, so that an addition there needs memory. Where some member is near, it is made.
+abbrev pub LacksBlock : AtomicBitSet → ℕ → Type 0
+LacksBlock set i = IsUnmade set.layers.layer0 (i / 4096)
+
+no_bit : (x b : ℕ) → x ≡ 0 → (bit_at x b == 1) ≡ true → bit_of true ≡ bit_of false
+no_bit x b none on = ap bit_of (sym on ∙ ap (λ y. y == 1) (ap (λ z. bit_at z b) none ∙ bit_at-zero b))
+
+pub block_apart : (set : AtomicBitSet) (i j : ℕ) → has set i ≡ true → LacksBlock set j → i / 4096 ≢ j / 4096
+block_apart set i j on lacks same =
+    let blocks = set.layers.layer0 in
+    let at : i / 64 / 64 ≡ j / 4096 = omega (arith, same) in
+    let first : 64 * get_or blocks.places.items (i / 64 / 64) 0 + i / 64 % 64 ≡ i / 64 % 64 = rw at (let h : get_or blocks.places.items (j / 4096) 0 ≡ 0 = lacks in omega (arith, h)) in
+    let none : block_word blocks (i / 64) ≡ 0 = rw first (blocks.placed.blank (i / 64 % 64) (omega arith)) in
+    (let h = no_bit (block_word blocks (i / 64)) (i % 64) none on in omega (arith, h))

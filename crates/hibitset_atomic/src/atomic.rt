@@ -26,11 +26,12 @@ pub struct AtomicBitSet {
 
 impl AtomicBitSet {
     ghost use Rattle.hibitset_atomic.specs.Blocks.{IsMade, HasRoom};
-    ghost use Rattle.hibitset_atomic.specs.AtomicBitSet.{has, word_of, HasNear};
+    ghost use Rattle.hibitset_atomic.specs.AtomicBitSet.{has, word_of, HasNear, LacksBlock};
 
     /// The empty set.
     pub fn new(alloc: Global) -> Result<AtomicBitSet, AllocError>
         ensures empty { IfOk result (λ set. (i : ℕ) → has set i ≡ false) }
+        ensures bare { IfOk result (λ set. (i : ℕ) → LacksBlock set i) }
     {
         let layers = Layers::new(alloc)?;
         Ok(AtomicBitSet { layers })
@@ -89,6 +90,7 @@ impl AtomicBitSet {
         requires { IsMade self.old.layers.layer0 (id / 64) }
         ensures was { result ≡ has self.old id }
         ensures put { (i : ℕ) → has self.new i ≡ (if i == id then stands else has self.old i) }
+        ensures blocks { self.new.layers.layer0.places.items ≡ self.old.layers.layer0.places.items }
     {
         let place = id as usize / 64;
         let before = self.layers.layer0(place);
@@ -102,7 +104,7 @@ impl AtomicBitSet {
 
     /// Adds an index below `ATOMIC_MAX_EID`, and tells whether it was there. Where memory is refused the members stay.
     ///
-    /// It needs no memory where some member `j` has the same `j / 4096`.
+    /// It needs no memory where some member `j` has the same `j / 4096`, nor where the block of those 4,096 indices was made before: once made it stays. It makes no other block.
     #[inline]
     pub fn add(&mut self, id: Index) -> Result<bool, AllocError>
         requires { id < ATOMIC_MAX_EID }
@@ -110,16 +112,21 @@ impl AtomicBitSet {
         ensures added { OnOk result ((i : ℕ) → has self.new i ≡ (has self.old i || i == id)) }
         ensures refused { OnErr result ((i : ℕ) → has self.new i ≡ has self.old i) }
         ensures near { HasNear self.old id → IsOk result }
+        ensures lacking { OnErr result (LacksBlock self.old id) }
+        ensures keeps { (i : ℕ) → LacksBlock self.new i → LacksBlock self.old i }
+        ensures most { (i : ℕ) → i / 4096 ≢ id / 4096 → LacksBlock self.old i → LacksBlock self.new i }
+        ensures stays { OnErr result ((i : ℕ) → LacksBlock self.old i → LacksBlock self.new i) }
     {
         self.layers.make(id as usize / 64)?;
         Ok(self.put(id, true))
     }
 
-    /// Takes an index out, and tells whether it was there.
+    /// Takes an index out, and tells whether it was there. Blocks that were made stay.
     #[inline]
     pub fn remove(&mut self, id: Index) -> bool
         ensures was { result ≡ has self.old id }
         ensures removed { (i : ℕ) → has self.new i ≡ (has self.old i && not (i == id)) }
+        ensures keeps { (i : ℕ) → LacksBlock self.new i → LacksBlock self.old i }
     {
         if !self.contains(id) {
             return false;
@@ -136,9 +143,10 @@ impl AtomicBitSet {
         self.layers.layer0(index / 64) >> (index % 64) & 1 == 1
     }
 
-    /// Takes all members out, and keeps the memory.
+    /// Takes all members out, and keeps the memory: blocks that were made stay.
     pub fn clear(&mut self)
-        ensures { (i : ℕ) → has self.new i ≡ false }
+        ensures empty { (i : ℕ) → has self.new i ≡ false }
+        ensures keeps { (i : ℕ) → LacksBlock self.new i → LacksBlock self.old i }
     {
         self.layers.clear();
     }
@@ -186,6 +194,14 @@ impl BitSetLike for AtomicBitSet {
 }
 
 impl DrainableBitSet for AtomicBitSet {
+    ghost use Rattle.hibitset_atomic.specs.AtomicBitSet.{LacksBlock};
+
+    ghost keeps_room = { λ old new. (i : ℕ) → LacksBlock new i → LacksBlock old i };
+
+    ghost keeps_own = { λ s i lacks. lacks };
+
+    ghost keeps_both = { λ a b c first second i lacks. first i (second i lacks) };
+
     #[inline]
     fn remove(&mut self, i: Index) -> bool {
         AtomicBitSet::remove(self, i)

@@ -47,11 +47,12 @@ fn wipe_block(words: &mut Vec<usize>, start: usize)
 }
 
 impl Blocks {
-    ghost use Rattle.hibitset_atomic.specs.Blocks.{block_word, IsMade, HasRoom};
+    ghost use Rattle.hibitset_atomic.specs.Blocks.{block_word, IsMade, IsUnmade, HasRoom};
 
     /// No block is made.
     pub(crate) fn new(alloc: Global) -> Result<Blocks, AllocError>
         ensures zero { IfOk result (λ blocks. (p : ℕ) → block_word blocks p ≡ 0) }
+        ensures unmade { IfOk result (λ blocks. (k : ℕ) → IsUnmade blocks k) }
     {
         let places = no_places(alloc, BLOCKS)?;
         let words = zeros(alloc, 64)?;
@@ -85,6 +86,7 @@ impl Blocks {
         ensures same { (p : ℕ) → block_word self.new p ≡ block_word self.old p }
         ensures made { OnOk result (0 < get_or self.new.places.items block 0) }
         ensures others { (k : ℕ) → k ≢ block → get_or self.new.places.items k 0 ≡ get_or self.old.places.items k 0 }
+        ensures refused { OnErr result (self.new.places.items ≡ self.old.places.items) }
         ensures room { HasRoom self.old → IsOk result × HasRoom self.new }
     {
         let len = self.words.len();
@@ -100,6 +102,9 @@ impl Blocks {
         ensures same { (p : ℕ) → block_word self.new p ≡ block_word self.old p }
         ensures made { OnOk result (IsMade self.new position) }
         ensures there { IsMade self.old position → IsOk result }
+        ensures refused { OnErr result (IsUnmade self.old (position / 64) × (self.new.places.items ≡ self.old.places.items)) }
+        ensures keeps { (k : ℕ) → IsUnmade self.new k → IsUnmade self.old k }
+        ensures others { (k : ℕ) → k ≢ position / 64 → IsUnmade self.old k → IsUnmade self.new k }
         ensures room { HasRoom self.old → IsOk result × HasRoom self.new }
     {
         if self.places[position / 64] != 0 {
@@ -140,6 +145,7 @@ impl Blocks {
         requires { block < 4096 }
         ensures inside { (p : ℕ) → p / 64 ≡ block → block_word self.new p ≡ 0 }
         ensures outside { (p : ℕ) → p / 64 ≢ block → block_word self.new p ≡ block_word self.old p }
+        ensures made { self.new.places.items ≡ self.old.places.items }
     {
         let place = self.places[block];
         wipe_block(&mut self.words, place as usize * 64);

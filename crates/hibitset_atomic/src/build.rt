@@ -1,9 +1,9 @@
 //! Atomic sets made of the items of an iterator, or extended by them.
-ghost use Rattle.std.specs.Prelude.{◌≡◌, ℕ, ◌<◌, ◌≤◌, ◌⊎◌, ◌||◌, Bool, false, OnOk, OnErr, IfOk, IfErr};
+ghost use Rattle.std.specs.Prelude.{◌≡◌, ◌≢◌, ℕ, ◌/◌, ◌<◌, ◌≤◌, ◌⊎◌, ◌||◌, Bool, false, OnOk, OnErr, IfOk, IfErr};
 ghost use Rattle.std.specs.Iterator.{IsFiniteIterable};
 ghost use Rattle.hibitset_base.specs.declared.build.BuildError.TheVariants.{Memory};
 ghost use Rattle.hibitset_atomic.specs.declared.atomic.TheConstants.{ATOMIC_MAX_EID};
-ghost use Rattle.hibitset_atomic.specs.AtomicBitSet.{has};
+ghost use Rattle.hibitset_atomic.specs.AtomicBitSet.{has, HasNoNear, LacksBlock, block_apart};
 ghost use Rattle.hibitset_atomic.specs.Building.{Refuses, TakesAll, StopsAtRefused};
 
 use crate::atomic::{ATOMIC_MAX_EID, AtomicBitSet};
@@ -14,8 +14,11 @@ use std::alloc::{AllocError, Global};
 impl Extendable for AtomicBitSet {
     ghost RANGE = { ATOMIC_MAX_EID };
 
-    // No length is promised.
-    ghost size = { λ _. 0 };
+    ghost lacks_room = { LacksBlock };
+
+    ghost lie_apart = { λ i j. i / 4096 ≢ j / 4096 };
+
+    ghost apart = { block_apart };
 
     const RANGE: usize = ATOMIC_MAX_EID;
 
@@ -28,6 +31,7 @@ impl Extendable for AtomicBitSet {
 // The empty set, whose words are made before any item is drawn.
 fn empty_set(alloc: Global) -> Result<AtomicBitSet, BuildError>
     ensures empty { IfOk result (λ set. (i : ℕ) → has set i ≡ false) }
+    ensures bare { IfOk result (λ set. (i : ℕ) → LacksBlock set i) }
     ensures refused { IfErr result (λ error. error ≡ Memory 0) }
 {
     match AtomicBitSet::new(alloc) {
@@ -39,14 +43,16 @@ fn empty_set(alloc: Global) -> Result<AtomicBitSet, BuildError>
 impl AtomicBitSet {
     /// Adds the items of an iterator, each of which is to be below `ATOMIC_MAX_EID`.
     ///
-    /// It stops at the first item that is not, and where memory is refused: then the set has its old members and the items before that one, and no later item is drawn. It is `Extend` of the original.
+    /// It stops at the first item that is not, and where memory is refused: then the set has its old members and the items before that one, and no later item is drawn. Memory is refused only for an item whose block of 4,096 indices is not made, and no block is made but those of members. It is `Extend` of the original.
     pub fn extend_indices<U: IntoIterator<Item = Index>>(
         &mut self,
         iter: U,
     ) -> Result<(), BuildError>
         requires { IsFiniteIterable U.into_iter_gives U.IntoIter.can_next U.IntoIter.remaining iter }
         ensures all { OnOk result (TakesAll U.into_iter_gives U.IntoIter.next_gives (λ i. i) iter (has self.old) (has self.new)) }
-        ensures stops { IfErr result (StopsAtRefused U.into_iter_gives U.IntoIter.next_gives (λ i. i) iter (has self.old) (has self.new)) }
+        ensures stops { IfErr result (StopsAtRefused U.into_iter_gives U.IntoIter.next_gives (λ i. i) iter (has self.old) (has self.new) (LacksBlock self.new)) }
+        ensures keeps { (i : ℕ) → LacksBlock self.new i → LacksBlock self.old i }
+        ensures most { (i : ℕ) → LacksBlock self.old i → HasNoNear self.new i → LacksBlock self.new i }
     {
         build::extend_indices(self, iter)
     }
@@ -58,20 +64,23 @@ impl AtomicBitSet {
     ) -> Result<(), BuildError>
         requires { IsFiniteIterable U.into_iter_gives U.IntoIter.can_next U.IntoIter.remaining iter }
         ensures all { OnOk result (TakesAll U.into_iter_gives U.IntoIter.next_gives (λ i. i.now) iter (has self.old) (has self.new)) }
-        ensures stops { IfErr result (StopsAtRefused U.into_iter_gives U.IntoIter.next_gives (λ i. i.now) iter (has self.old) (has self.new)) }
+        ensures stops { IfErr result (StopsAtRefused U.into_iter_gives U.IntoIter.next_gives (λ i. i.now) iter (has self.old) (has self.new) (LacksBlock self.new)) }
+        ensures keeps { (i : ℕ) → LacksBlock self.new i → LacksBlock self.old i }
+        ensures most { (i : ℕ) → LacksBlock self.old i → HasNoNear self.new i → LacksBlock self.new i }
     {
         build::extend_index_refs(self, iter)
     }
 
     /// A set of the items of an iterator, each of which is to be below `ATOMIC_MAX_EID`.
     ///
-    /// It stops at the first item that is not, and where memory is refused: then no later item is drawn. Where there is no memory for the empty set itself, it answers `Memory` at place 0 and draws no item. It is `FromIterator` of the original.
+    /// It stops at the first item that is not, and where memory is refused: then no later item is drawn. Memory is refused only for an item with none before it in the same 4,096 indices. Where there is no memory for the empty set itself, it answers `Memory` at place 0 and draws no item. It is `FromIterator` of the original.
     pub fn from_indices<U: IntoIterator<Item = Index> + Drop>(
         alloc: Global,
         iter: U,
     ) -> Result<AtomicBitSet, BuildError>
         requires { IsFiniteIterable U.into_iter_gives U.IntoIter.can_next U.IntoIter.remaining iter }
         ensures all { IfOk result (λ set. TakesAll U.into_iter_gives U.IntoIter.next_gives (λ i. i) iter (λ _. false) (has set)) }
+        ensures most { IfOk result (λ set. (i : ℕ) → HasNoNear set i → LacksBlock set i) }
         ensures stops { IfErr result (λ error. (error ≡ Memory 0) ⊎ Refuses U.into_iter_gives U.IntoIter.next_gives (λ i. i) iter error) }
     {
         build::from_indices(empty_set(alloc)?, iter)
@@ -84,6 +93,7 @@ impl AtomicBitSet {
     ) -> Result<AtomicBitSet, BuildError>
         requires { IsFiniteIterable U.into_iter_gives U.IntoIter.can_next U.IntoIter.remaining iter }
         ensures all { IfOk result (λ set. TakesAll U.into_iter_gives U.IntoIter.next_gives (λ i. i.now) iter (λ _. false) (has set)) }
+        ensures most { IfOk result (λ set. (i : ℕ) → HasNoNear set i → LacksBlock set i) }
         ensures stops { IfErr result (λ error. (error ≡ Memory 0) ⊎ Refuses U.into_iter_gives U.IntoIter.next_gives (λ i. i.now) iter error) }
     {
         build::from_index_refs(empty_set(alloc)?, iter)

@@ -49,12 +49,13 @@ fn or_at(words: &mut Vec<usize>, position: usize, bit: u32) -> usize
 }
 
 impl Layers {
-    ghost use Rattle.hibitset_atomic.specs.Blocks.{IsMade, HasRoom};
+    ghost use Rattle.hibitset_atomic.specs.Blocks.{IsMade, IsUnmade, HasRoom};
     ghost use Rattle.hibitset_atomic.specs.Layers.{layer_word};
 
     /// All words are 0.
     pub(crate) fn new(alloc: Global) -> Result<Layers, AllocError>
         ensures zero { IfOk result (λ layers. (l p : ℕ) → layer_word layers l p ≡ 0) }
+        ensures unmade { IfOk result (λ layers. (k : ℕ) → IsUnmade layers.layer0 k) }
     {
         let layer2 = zeros(alloc, 64)?;
         let layer1 = zeros(alloc, 4_096)?;
@@ -82,6 +83,7 @@ impl Layers {
         ensures inside { IsClearUnder (layer_word self.new) place }
         ensures outside { IsSameBeside (layer_word self.old) (layer_word self.new) place }
         ensures top { self.new.layer3 ≡ self.old.layer3 }
+        ensures blocks { self.new.layer0.places.items ≡ self.old.layer0.places.items }
     {
         let mut left = self.layer2[place];
         self.layer2[place] = 0;
@@ -95,7 +97,8 @@ impl Layers {
     /// Makes all words 0, and takes no memory. It goes only to words that are not 0.
     pub(crate) fn clear(&mut self)
         requires { IsSummed ATOMIC_LAYERS (layer_word self.old) }
-        ensures { (l p : ℕ) → layer_word self.new l p ≡ 0 }
+        ensures zero { (l p : ℕ) → layer_word self.new l p ≡ 0 }
+        ensures blocks { self.new.layer0.places.items ≡ self.old.layer0.places.items }
     {
         let mut left = self.layer3;
         self.layer3 = 0;
@@ -135,6 +138,9 @@ impl Layers {
         ensures same { (l p : ℕ) → layer_word self.new l p ≡ layer_word self.old l p }
         ensures made { OnOk result (IsMade self.new.layer0 place) }
         ensures there { IsMade self.old.layer0 place → IsOk result }
+        ensures refused { OnErr result (IsUnmade self.old.layer0 (place / 64) × (self.new.layer0.places.items ≡ self.old.layer0.places.items)) }
+        ensures keeps { (k : ℕ) → IsUnmade self.new.layer0 k → IsUnmade self.old.layer0 k }
+        ensures others { (k : ℕ) → k ≢ place / 64 → IsUnmade self.old.layer0 k → IsUnmade self.new.layer0 k }
         ensures room { HasRoom self.old.layer0 → IsOk result × HasRoom self.new.layer0 }
     {
         self.layer0.make(place)
@@ -150,6 +156,7 @@ impl Layers {
         ensures others { (p : ℕ) → p ≢ place → layer_word self.new 0 p ≡ layer_word self.old 0 p }
         ensures summed { IsSummed ATOMIC_LAYERS (layer_word self.new) }
         ensures room { HasRoom self.old.layer0 → HasRoom self.new.layer0 }
+        ensures blocks { self.new.layer0.places.items ≡ self.old.layer0.places.items }
     {
         self.layer0.put(place, word);
         if (before == 0) == (word == 0) {

@@ -23,6 +23,6 @@ module _ {T : Type 0} where
   abbrev pub IsWithout : (T → ℕ → Bool) → T → Option ℕ → T → Type 0
   IsWithout holds old item new = MatchOption item (new ≡ old) (λ i. (j : ℕ) → holds new j ≡ (holds old j && not (j == i)))
 
-  -- a step gives the first item that is left, and takes it out of the set
-  abbrev pub DrainSteps : (T → ℕ → Bool) → DrainBitIter T → Option ℕ → DrainBitIter T → Type 0
-  DrainSteps holds old item new = YieldsFirst (items_to_drain holds) old item new × (lender new ≡ lender old) × IsWithout holds (drained old) item (drained new)
+  -- a step gives the first item that is left, and takes it out of the set, which keeps its room
+  abbrev pub DrainSteps : (T → ℕ → Bool) → (T → T → Type 0) → DrainBitIter T → Option ℕ → DrainBitIter T → Type 0
+  DrainSteps holds keeps_room old item new = YieldsFirst (items_to_drain holds) old item new × (lender new ≡ lender old) × IsWithout holds (drained old) item (drained new) × keeps_room (drained old) (drained new)

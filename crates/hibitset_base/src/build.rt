@@ -1,7 +1,7 @@
 //! Sets made of the items of an iterator, or extended by them: one text for every set that keeps its words.
-ghost use Rattle.std.specs.Prelude.{◌≡◌, ℕ, ◌<◌, ◌≤◌, ◌==◌, ◌||◌, false, Some, OnOk, OnErr, IfOk, IfErr};
+ghost use Rattle.std.specs.Prelude.{◌≡◌, ℕ, ◌<◌, ◌≤◌, ◌==◌, ◌||◌, true, false, Some, OnOk, OnErr, IfOk, IfErr};
 ghost use Rattle.std.specs.Iterator.{IsFiniteIterable};
-ghost use Rattle.hibitset_base.specs.Building.{IsRefusalBelow, RefusesBelow, TakesAllBelow, StopsAtRefusedBelow, text_of};
+ghost use Rattle.hibitset_base.specs.Building.{IsRefusalBelow, LiesApart, RefusesBelow, TakesAllBelow, StopsAtRefusedBelow, text_of};
 
 use crate::like::BitSetLike;
 use crate::util::Index;
@@ -41,8 +41,11 @@ pub trait Extendable: BitSetLike {
     // The bound below which an index can be added.
     ghost RANGE: { ℕ };
 
-    // What no addition makes smaller.
-    ghost size: { Self → ℕ };
+    // A set lacks room for an index if to add it takes memory.
+    ghost lacks_room: { Self → ℕ → Type 0 };
+
+    // The room for the one index is none for the other.
+    ghost lie_apart: { ℕ → ℕ → Type 0 };
 
     /// The bound below which an index can be added.
     const RANGE: usize;
@@ -52,7 +55,13 @@ pub trait Extendable: BitSetLike {
         requires { index < RANGE }
         ensures added { OnOk result ((i : ℕ) → Self.holds self.new i ≡ (Self.holds self.old i || i == index)) }
         ensures refused { OnErr result ((i : ℕ) → Self.holds self.new i ≡ Self.holds self.old i) }
-        ensures keeps { size self.old ≤ size self.new };
+        ensures lacking { OnErr result (lacks_room self.old index) }
+        ensures keeps { (j : ℕ) → lacks_room self.new j → lacks_room self.old j }
+        ensures most { OnOk result ((j : ℕ) → lacks_room self.old j → lie_apart index j → lacks_room self.new j) }
+        ensures stays { OnErr result ((j : ℕ) → lacks_room self.old j → lacks_room self.new j) };
+
+    // Each member has room, and so has what does not lie apart from it.
+    ghost apart: { (s : Self) (i j : ℕ) → Self.holds s i ≡ true → lacks_room s j → lie_apart i j };
 }
 
 // Adds the item at `place`, if it is in range and there is memory for it.
@@ -60,8 +69,10 @@ pub trait Extendable: BitSetLike {
 fn add_item<T: Extendable>(set: &mut T, place: usize, index: Index) -> Result<(), BuildError>
     ensures added { OnOk result ((i : ℕ) → T.holds set.new i ≡ (T.holds set.old i || index == i)) }
     ensures in_range { OnOk result (index < T.RANGE) }
-    ensures refused { IfErr result (λ error. IsRefusalBelow T.RANGE error place index × ((i : ℕ) → T.holds set.new i ≡ T.holds set.old i)) }
-    ensures keeps { T.size set.old ≤ T.size set.new }
+    ensures refused { IfErr result (λ error. IsRefusalBelow T.RANGE (T.lacks_room set.new) error place index × ((i : ℕ) → T.holds set.new i ≡ T.holds set.old i)) }
+    ensures keeps { (j : ℕ) → T.lacks_room set.new j → T.lacks_room set.old j }
+    ensures most { OnOk result ((j : ℕ) → T.lacks_room set.old j → T.lie_apart index j → T.lacks_room set.new j) }
+    ensures stays { OnErr result ((j : ℕ) → T.lacks_room set.old j → T.lacks_room set.new j) }
 {
     if index as usize >= T::RANGE {
         return Err(BuildError::OutOfRange { place, index });
@@ -80,8 +91,9 @@ pub fn extend_indices<T: Extendable, U: IntoIterator<Item = Index>>(
 ) -> Result<(), BuildError>
     requires { IsFiniteIterable U.into_iter_gives U.IntoIter.can_next U.IntoIter.remaining iter }
     ensures all { OnOk result (TakesAllBelow T.RANGE U.into_iter_gives U.IntoIter.next_gives (λ i. i) iter (T.holds set.old) (T.holds set.new)) }
-    ensures stops { IfErr result (StopsAtRefusedBelow T.RANGE U.into_iter_gives U.IntoIter.next_gives (λ i. i) iter (T.holds set.old) (T.holds set.new)) }
-    ensures keeps { T.size set.old ≤ T.size set.new }
+    ensures stops { IfErr result (StopsAtRefusedBelow T.RANGE U.into_iter_gives U.IntoIter.next_gives (λ i. i) iter (T.holds set.old) (T.holds set.new) (T.lacks_room set.new)) }
+    ensures keeps { (j : ℕ) → T.lacks_room set.new j → T.lacks_room set.old j }
+    ensures most { (j : ℕ) → T.lacks_room set.old j → LiesApart T.lie_apart (T.holds set.new) j → T.lacks_room set.new j }
 {
     let mut place = 0usize;
     for index in iter {
@@ -99,8 +111,9 @@ pub fn extend_index_refs<'a, T: Extendable, U: IntoIterator<Item = &'a Index>>(
 ) -> Result<(), BuildError>
     requires { IsFiniteIterable U.into_iter_gives U.IntoIter.can_next U.IntoIter.remaining iter }
     ensures all { OnOk result (TakesAllBelow T.RANGE U.into_iter_gives U.IntoIter.next_gives (λ i. i.now) iter (T.holds set.old) (T.holds set.new)) }
-    ensures stops { IfErr result (StopsAtRefusedBelow T.RANGE U.into_iter_gives U.IntoIter.next_gives (λ i. i.now) iter (T.holds set.old) (T.holds set.new)) }
-    ensures keeps { T.size set.old ≤ T.size set.new }
+    ensures stops { IfErr result (StopsAtRefusedBelow T.RANGE U.into_iter_gives U.IntoIter.next_gives (λ i. i.now) iter (T.holds set.old) (T.holds set.new) (T.lacks_room set.new)) }
+    ensures keeps { (j : ℕ) → T.lacks_room set.new j → T.lacks_room set.old j }
+    ensures most { (j : ℕ) → T.lacks_room set.old j → LiesApart T.lie_apart (T.holds set.new) j → T.lacks_room set.new j }
 {
     let mut place = 0usize;
     for index in iter {
@@ -118,8 +131,10 @@ pub fn from_indices<T: Extendable, U: IntoIterator<Item = Index>>(
 ) -> Result<T, BuildError>
     requires finite { IsFiniteIterable U.into_iter_gives U.IntoIter.can_next U.IntoIter.remaining iter }
     requires empty { (i : ℕ) → T.holds set i ≡ false }
+    requires bare { (j : ℕ) → T.lacks_room set j }
     ensures all { IfOk result (λ made. TakesAllBelow T.RANGE U.into_iter_gives U.IntoIter.next_gives (λ i. i) iter (λ _. false) (T.holds made)) }
-    ensures stops { IfErr result (RefusesBelow T.RANGE U.into_iter_gives U.IntoIter.next_gives (λ i. i) iter) }
+    ensures most { IfOk result (λ made. (j : ℕ) → LiesApart T.lie_apart (T.holds made) j → T.lacks_room made j) }
+    ensures stops { IfErr result (RefusesBelow T.RANGE U.into_iter_gives U.IntoIter.next_gives (λ i. i) iter T.lie_apart) }
 {
     extend_indices(&mut set, iter)?;
     Ok(set)
@@ -133,8 +148,10 @@ pub fn from_index_refs<'a, T: Extendable, U: IntoIterator<Item = &'a Index>>(
 ) -> Result<T, BuildError>
     requires finite { IsFiniteIterable U.into_iter_gives U.IntoIter.can_next U.IntoIter.remaining iter }
     requires empty { (i : ℕ) → T.holds set i ≡ false }
+    requires bare { (j : ℕ) → T.lacks_room set j }
     ensures all { IfOk result (λ made. TakesAllBelow T.RANGE U.into_iter_gives U.IntoIter.next_gives (λ i. i.now) iter (λ _. false) (T.holds made)) }
-    ensures stops { IfErr result (RefusesBelow T.RANGE U.into_iter_gives U.IntoIter.next_gives (λ i. i.now) iter) }
+    ensures most { IfOk result (λ made. (j : ℕ) → LiesApart T.lie_apart (T.holds made) j → T.lacks_room made j) }
+    ensures stops { IfErr result (RefusesBelow T.RANGE U.into_iter_gives U.IntoIter.next_gives (λ i. i.now) iter T.lie_apart) }
 {
     extend_index_refs(&mut set, iter)?;
     Ok(set)

@@ -58,7 +58,7 @@ impl<'a, T: BitSetLike> DrainBitIter<'a, T> {
 impl<'a, T: DrainableBitSet> Iterator for DrainBitIter<'a, T> {
     type Item = Index;
 
-    ghost next_gives = { DrainSteps T.holds };
+    ghost next_gives = { DrainSteps T.holds T.keeps_room };
 
     ghost remaining = { item_count (items_to_drain T.holds) };
 

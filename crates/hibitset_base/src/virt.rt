@@ -62,11 +62,18 @@ impl<A: BitSetLike, B: BitSetLike> BitSetLike for BitSetAnd<A, B> {
 }
 
 impl<A: DrainableBitSet, B: DrainableBitSet> DrainableBitSet for BitSetAnd<A, B> {
-    /// Takes an index out of both operands, if both have it.
+    ghost keeps_room = { λ old new. A.keeps_room old.0 new.0 × B.keeps_room old.1 new.1 };
+
+    ghost keeps_own = { λ s. (A.keeps_own s.0, B.keeps_own s.1) };
+
+    ghost keeps_both = { λ a b c first second. (A.keeps_both a.0 b.0 c.0 first.0 second.0, B.keeps_both a.1 b.1 c.1 first.1 second.1) };
+
+    /// Takes an index out of both operands, if both have it. They keep their room.
     #[inline]
     fn remove(&mut self, i: Index) -> bool
         ensures was { result ≡ (A.holds self.old.0 i && B.holds self.old.1 i) }
         ensures removed { (j : ℕ) → (A.holds self.new.0 j && B.holds self.new.1 j) ≡ (A.holds self.old.0 j && B.holds self.old.1 j && not (j == i)) }
+        ensures room { A.keeps_room self.old.0 self.new.0 × B.keeps_room self.old.1 self.new.1 }
         ensures first { (j : ℕ) → A.holds self.new.0 j ≡ (A.holds self.old.0 j && not (result && j == i)) }
         ensures second { (j : ℕ) → B.holds self.new.1 j ≡ (B.holds self.old.1 j && not (result && j == i)) }
     {
@@ -131,11 +138,18 @@ impl<A: BitSetLike, B: BitSetLike> BitSetLike for BitSetOr<A, B> {
 }
 
 impl<A: DrainableBitSet, B: DrainableBitSet> DrainableBitSet for BitSetOr<A, B> {
-    /// Takes an index out of each operand that has it.
+    ghost keeps_room = { λ old new. A.keeps_room old.0 new.0 × B.keeps_room old.1 new.1 };
+
+    ghost keeps_own = { λ s. (A.keeps_own s.0, B.keeps_own s.1) };
+
+    ghost keeps_both = { λ a b c first second. (A.keeps_both a.0 b.0 c.0 first.0 second.0, B.keeps_both a.1 b.1 c.1 first.1 second.1) };
+
+    /// Takes an index out of each operand that has it. They keep their room.
     #[inline]
     fn remove(&mut self, i: Index) -> bool
         ensures was { result ≡ (A.holds self.old.0 i || B.holds self.old.1 i) }
         ensures removed { (j : ℕ) → (A.holds self.new.0 j || B.holds self.new.1 j) ≡ ((A.holds self.old.0 j || B.holds self.old.1 j) && not (j == i)) }
+        ensures room { A.keeps_room self.old.0 self.new.0 × B.keeps_room self.old.1 self.new.1 }
         ensures first { (j : ℕ) → A.holds self.new.0 j ≡ (A.holds self.old.0 j && not (j == i)) }
         ensures second { (j : ℕ) → B.holds self.new.1 j ≡ (B.holds self.old.1 j && not (j == i)) }
     {

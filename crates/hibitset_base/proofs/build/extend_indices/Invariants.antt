@@ -1,5 +1,5 @@
-use Rattle.std.proofs.Common.{◌≡◌, ◌≤◌, length}
-use Rattle.hibitset_base.specs.Building.{AddsItemsBelow, place_after}
+use Rattle.std.proofs.Common.{◌≡◌, ℕ, length}
+use Rattle.hibitset_base.specs.Building.{AddsItemsBelow, LiesApart, place_after}
 use Rattle.hibitset_base.proofs.build.extend_indices.Given as goal
 
 abbrev pub invariant-loop-index : goal.invariant-loop-index
@@ -7,4 +7,5 @@ invariant-loop-index g l = (goal.iterator-loop-index g).can_next l.index-iterato
     × (goal.iterator-loop-index g).is_finite l.index-iterator
     × AddsItemsBelow g.T.Extendable.RANGE (λ i. i) (g.T.BitSetLike.holds l.initial.set) (g.T.BitSetLike.holds l.set) l.yielded
     × (l.place ≡ place_after (length l.yielded))
-    × (g.T.Extendable.size l.initial.set ≤ g.T.Extendable.size l.set)
+    × ((j : ℕ) → g.T.Extendable.lacks_room l.set j → g.T.Extendable.lacks_room l.initial.set j)
+    × ((j : ℕ) → g.T.Extendable.lacks_room l.initial.set j → LiesApart g.T.Extendable.lie_apart (g.T.BitSetLike.holds l.set) j → g.T.Extendable.lacks_room l.set j)

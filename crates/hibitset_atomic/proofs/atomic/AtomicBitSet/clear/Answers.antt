@@ -2,5 +2,5 @@ use Rattle.hibitset_atomic.specs.Layers.{layer_word}
 use Rattle.hibitset_base.proofs.Holding.{holds_none}
 use Rattle.hibitset_atomic.proofs.atomic.AtomicBitSet.clear.Goals as goal
 
-pub returns : goal.returns
-returns c = holds_none (layer_word c.clear.new.self) c.clear.ensures
+pub returns-clause-empty : goal.returns-clause-empty
+returns-clause-empty c = holds_none (layer_word c.clear.new.self) c.clear.ensures.zero

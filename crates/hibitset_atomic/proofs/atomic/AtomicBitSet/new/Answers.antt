@@ -2,5 +2,5 @@ use Rattle.hibitset_atomic.specs.Layers.{layer_word}
 use Rattle.hibitset_base.proofs.Holding.{holds_none}
 use Rattle.hibitset_atomic.proofs.atomic.AtomicBitSet.new.Goals as goal
 
-pub returns : goal.returns
-returns c = record { empty = holds_none (layer_word c.in_ok-layers.layers) c.in_ok-layers.ensures.zero }
+pub returns-clause-empty : goal.returns-clause-empty
+returns-clause-empty c = holds_none (layer_word c.in_ok-layers.layers) c.in_ok-layers.ensures.zero

@@ -7,6 +7,7 @@ use Rattle.hibitset_atomic.proofs.layers.Layers.clear.Given as goal
 abbrev pub invariant-loop-left : goal.invariant-loop-left
 invariant-loop-left l = record {
   top : l.self.layer3 ≡ 0;
+  blocks : l.self.layer0.places.items ≡ l.fn.self.layer0.places.items;
   fits : l.left < 2 ^ 64;
   covered : IsCovered (layer_word l.self);
   clear : (q : ℕ) → (bit_at l.left q ≡ 1 → ⊥) → IsClearUnder (layer_word l.self) q;

@@ -1,4 +1,4 @@
-use Rattle.std.proofs.Common.{◌≡◌, ◌≢◌, ℕ, ◌+◌, ◌*◌, refl, arith, set}
+use Rattle.std.proofs.Common.{◌≡◌, ◌≢◌, ℕ, ◌+◌, ◌*◌, refl, ◌∙◌, arith, set}
 use Rattle.std.proofs.lemmas.List.{get_or-set_same, get_or-set_other}
 use Rattle.hibitset_atomic.specs.Layers.{layer_word, word_over}
 use Rattle.hibitset_atomic.specs.Blocks.{block_word}
@@ -22,6 +22,7 @@ loop-left-preserved c =
       layer0 = layer0_more (layer_word self) v c.args.place c.take_bit.result i.left c.take_bit.new.word bit.below bit.same (λ k. refl) here others e.inside e.outside i.invariant.layer0;
       outside = (let o = beside_more (layer_word self) v c.args.place c.take_bit.result i.left c.take_bit.new.word bit.below bit.same (λ k. refl) here others e.inside e.outside (layer_word c.args.self.now) i.invariant.outside in record { layer2 = o.layer2; layer1 = o.layer1; layer0 = o.layer0 });
       top = i.invariant.top;
+      blocks = e.made ∙ i.invariant.blocks;
     }
 
 pub returns-clause-inside : goal.returns-clause-inside

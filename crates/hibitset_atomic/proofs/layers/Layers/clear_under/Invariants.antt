@@ -11,6 +11,7 @@ invariant-loop-left l = record {
   layer0 : (b p : ℕ) → b < 64 → (bit_at l.left b ≡ 1 → ⊥) → p / 64 ≡ 64 * l.fn.place + b → layer_word l.self 0 p ≡ 0;
   outside : IsSameBeside (layer_word l.fn.self) (layer_word l.self) l.fn.place;
   top : l.self.layer3 ≡ l.fn.self.layer3;
+  blocks : l.self.layer0.places.items ≡ l.fn.self.layer0.places.items;
 }
 
 abbrev pub decreases-loop-left : goal.decreases-loop-left

@@ -1,0 +1,10 @@
+use Rattle.std.proofs.Common.{◌≤◌, arith}
+use Rattle.hibitset.specs.BitSet.{has, slice_len}
+use Rattle.hibitset.proofs.Lengths.{length_kept, length_most}
+use Rattle.hibitset.proofs.set.BitSet.extend_indices.Goals as goal
+
+pub returns-clause-keeps : goal.returns-clause-keeps
+returns-clause-keeps g c = length_kept (slice_len c.args.self.now 0) (slice_len c.extend_indices.new.set 0) c.extend_indices.ensures.keeps
+
+pub returns-clause-most : goal.returns-clause-most
+returns-clause-most g c = λ end after. length_most (has c.extend_indices.new.set) (slice_len c.extend_indices.new.set 0) end (λ j past. c.extend_indices.ensures.most j (omega (arith, after, past)))
