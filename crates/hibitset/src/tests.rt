@@ -12,6 +12,7 @@ mod reads;
 mod splits;
 mod strangers;
 mod walks;
+mod words;
 
 use crate::{BitSet, BitSetLike, Index};
 use hibitset_base::util::MAX_EID;
