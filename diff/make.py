@@ -86,6 +86,20 @@ def of_recipes():
     return scripts
 
 
+def bad_lines():
+    """Each bad line of recipes.py alone, without its newline, and in the middle of a good script."""
+    scripts = []
+    for number, line in enumerate(recipes.BAD_LINES):
+        line = line.encode("latin-1")
+        for place, text in [
+            ("alone", line + b"\n"),
+            ("bare", line),
+            ("middle", b"add a 5\nhas a 5\n" + line + b"\nlist a\n"),
+        ]:
+            scripts.append(with_text(f"bad-line-{number:02}-{place}", text))
+    return scripts
+
+
 def other_runs():
     """Runs that are told apart by more than their script."""
     scripts = []
@@ -126,7 +140,7 @@ def main():
     for kind in found:
         if kind not in wanted:
             sys.exit(f"make.py: scripts of a kind that make.py does not know: {kind}")
-    files = {"made": of_recipes(), "runs": other_runs()}
+    files = {"made": of_recipes(), "bad-lines": bad_lines(), "runs": other_runs()}
     for kind, paths in found.items():
         paths = [path for path in paths if path.stem not in recipes.RECIPES]
         kept = spread(paths, wanted[kind])

@@ -17,6 +17,14 @@ class Numbers:
         return all[self.below(len(all))]
 
 
+# Lines that are no command, beside those that the oracle's generator makes.
+BAD_LINES = (
+    "add a 5:", "add a /5", "add a 5/", "add a :5", "add\x0ca\x0c5", "add a\x0c5", "add\x0ba 5", "add a 5\0", "add a \x85",
+    "clear a ", "count a ", "list a ", "remove a 5 6", "has a 5 6", "remove a 5 ", "and a b c", "within a b ", "split a 2 1",
+    "split a :", "split a /", "add ` 5", "add @ 5", "add a\xff5",
+)  # fmt: skip
+
+
 # Where the ids of a long script come from.
 
 
@@ -96,6 +104,11 @@ def full_range():
     return "\n".join(lines) + "\n"
 
 
+def long_last_list():
+    """A list of over 64 KiB as the last reply, after as many short ones."""
+    return "".join(f"add a {END - 1 - 3 * n}\n" for n in range(8_000)) + "list a"
+
+
 RECIPES = {
     "pairs": pairs,
     "full-range": full_range,
@@ -115,6 +128,7 @@ RECIPES = {
     "bad-zeros": lambda: "\0" * 5000,
     "bad-at-99999": lambda: "add a 5\n" * 99_998 + "list\nhas a 5\n\n",
     "bad-at-100001": lambda: "add a 5\n" * 100_000 + "add a 05\n",
+    "long-last-list": long_last_list,
     "good-long-no-newline": lambda: "add a 5\n" * 100_000 + "list a",
 }
 

@@ -1,6 +1,7 @@
+mod streams;
+
 use super::*;
 use std::array;
-use std::io::{self, ErrorKind, Read, Write};
 use std::test::Fail;
 
 // What a script prints, and how it ends.
@@ -8,62 +9,6 @@ fn printed(alloc: Global, script: &str) -> (Vec<u8>, Ended) {
     let mut output = Vec::new(alloc);
     let ended = run_text(alloc, script.as_bytes(), &mut output);
     (output, ended)
-}
-
-// Gives its bytes, at most three at a time, and then fails each read.
-#[derive(Drop)]
-struct Breaking<'a> {
-    bytes: &'a [u8],
-    kind: ErrorKind,
-}
-
-impl Read for Breaking<'_> {
-    fn read(&mut self, buf: &mut [u8]) -> io::Result<usize> {
-        if self.bytes.is_empty() {
-            return Err(io::Error::new(self.kind, "broken"));
-        }
-        let count = buf.len().min(3);
-        self.bytes.read(&mut buf[..count])
-    }
-}
-
-// Gives its bytes, with an interruption before each read.
-#[derive(Drop)]
-struct Halting<'a> {
-    bytes: &'a [u8],
-    halted: bool,
-}
-
-impl Read for Halting<'_> {
-    fn read(&mut self, buf: &mut [u8]) -> io::Result<usize> {
-        self.halted = !self.halted;
-        if self.halted {
-            return Err(io::Error::new(ErrorKind::Interrupted, "halted"));
-        }
-        self.bytes.read(buf)
-    }
-}
-
-// Fails each write, or each flush.
-#[derive(Drop)]
-struct Full {
-    kind: ErrorKind,
-    writes: usize,
-    takes_text: bool,
-}
-
-impl Write for Full {
-    fn write(&mut self, buf: &[u8]) -> io::Result<usize> {
-        self.writes = self.writes.saturating_add(1);
-        if self.takes_text {
-            return Ok(buf.len());
-        }
-        Err(io::Error::new(self.kind, "full"))
-    }
-
-    fn flush(&mut self) -> io::Result<()> {
-        Err(io::Error::new(self.kind, "full"))
-    }
 }
 
 #[test]
@@ -160,6 +105,10 @@ fn refuses_every_other_line(rt: HostRuntime) {
         "add  a 5",
         "add a  5",
         "add a 5 6",
+        "add a 5:",
+        "add a /5",
+        "add\u{c}a 5",
+        "add a\u{c}5",
         "add 5 a",
         "add\ta\t5",
         "add i 5",
@@ -184,7 +133,9 @@ fn refuses_every_other_line(rt: HostRuntime) {
         "remove a",
         "remove a 05",
         "remove a b",
+        "remove a 5 6",
         "count",
+        "count a ",
         "count a 5",
         "counts a",
         "and a",
@@ -196,6 +147,7 @@ fn refuses_every_other_line(rt: HostRuntime) {
         "xor a",
         "xor  a b",
         "clear",
+        "clear a ",
         "clear a b",
         "same a",
         "same a B",
@@ -236,61 +188,6 @@ fn names_the_first_bad_line(rt: HostRuntime) {
         assert_eq!(rt; ended, Ended::BadLine(number), "after {script:?}");
         assert_eq!(rt; output.len(), 0, "after {script:?}");
     }
-}
-
-#[test]
-fn ends_where_a_read_fails(rt: HostRuntime) {
-    for kind in [ErrorKind::Other, ErrorKind::OutOfMemory] {
-        let reader = Breaking {
-            bytes: b"add a 5\n",
-            kind,
-        };
-        let mut output = Vec::new(rt.alloc());
-        let ended = run_text(rt.alloc(), reader, &mut output);
-        assert_eq!(rt; ended, Ended::InputFailed);
-        assert_eq!(rt; output.len(), 0);
-    }
-}
-
-#[test]
-fn reads_on_after_an_interruption(rt: HostRuntime) {
-    let reader = Halting {
-        bytes: b"add a 5\n",
-        halted: false,
-    };
-    let mut output = Vec::new(rt.alloc());
-    assert_eq!(rt; run_text(rt.alloc(), reader, &mut output), Ended::Done);
-    assert_eq!(rt; output.as_slice(), b"false\n".as_slice());
-}
-
-#[test]
-fn ends_where_a_write_fails(rt: HostRuntime) {
-    for (kind, takes_text) in [
-        (ErrorKind::Other, false),
-        (ErrorKind::OutOfMemory, false),
-        (ErrorKind::Other, true),
-    ] {
-        let mut writer = Full {
-            kind,
-            writes: 0,
-            takes_text,
-        };
-        let ended = run_text(rt.alloc(), b"add a 5\n".as_slice(), &mut writer);
-        assert_eq!(rt; ended, Ended::OutputFailed);
-        assert_eq!(rt; writer.writes, 1);
-    }
-}
-
-#[test]
-fn writes_nothing_where_nothing_is_asked(rt: HostRuntime) {
-    let mut writer = Full {
-        kind: ErrorKind::Other,
-        writes: 0,
-        takes_text: false,
-    };
-    let ended = run_text(rt.alloc(), b"".as_slice(), &mut writer);
-    assert_eq!(rt; ended, Ended::Done);
-    assert_eq!(rt; writer.writes, 0);
 }
 
 #[test]
