@@ -4,7 +4,7 @@ use Rattle.std.specs.Int.{bit_at}
 use Rattle.std.proofs.Math.Nat.{div-div-eq-div-mul, div-lt_iff_lt-mul, div-mul-le_self}
 use Rattle.std.proofs.lemmas.Bool.{cases_lt}
 use Rattle.std.proofs.lemmas.Nat.Bits.{bit_at-lt}
-use Rattle.hibitset_base.proofs.Mending.{same_or_not}
+use Rattle.hibitset_base.specs.Deciding.{same_or_not}
 use Rattle.hibitset.proofs.Merging.{zero_or_one}
 
 -- A place q has 64 parts of `size` words, and words may be other than 0 only under the bits of `left`, of which b is the highest.

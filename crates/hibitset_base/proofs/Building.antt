@@ -3,10 +3,10 @@ use Rattle.std.proofs.Common.{◌≡◌, ℕ, ◌==◌, ◌||◌, Bool, true, fa
 use Rattle.std.specs.List.{list_any}
 use Rattle.std.specs.Result.{IsErrAnd}
 use Rattle.std.proofs.lemmas.List.Elements.{All-nil, All-cons}
+use Rattle.hibitset_base.specs.Deciding.{eq_same}
 use Rattle.hibitset_base.specs.Building.{IsRefusalBelow}
 use Rattle.hibitset_base.specs.declared.build.BuildError.{BuildError}
 use Rattle.hibitset_base.specs.declared.build.BuildError.TheVariants.{OutOfRange, Memory}
-use Rattle.hibitset_base.proofs.Holding.{eq_same}
 
 -- a fact on an error holds of the result that hands it on
 pub IfErr-handed_on : {A E : Type 0} (P : E → Type 0) (r : Result A E) (error : E) → IsErrAnd r (λ e. e ≡ error) → P error → IfErr r P
