@@ -1,5 +1,5 @@
 -- What a contract sees of a `BitSet`.
-use Rattle.std.specs.Prelude.{ℕ, Bool, List, [], ◌∷◌, get_or, length}
+use Rattle.std.specs.Prelude.{◌≡◌, ℕ, Bool, List, [], ◌∷◌, get_or, length}
 use Rattle.hibitset_base.specs.Members.{members_below}
 use Rattle.hibitset_base.specs.declared.util.TheConstants.{MAX_EID}
 use Rattle.hibitset_base.specs.Words.{word_at, holds_at}
@@ -24,3 +24,9 @@ members_of set = members_below MAX_EID (has set)
 -- how many words the slice of a layer has
 abbrev pub slice_len : BitSet → ℕ → ℕ
 slice_len set l = length (get_or (layers set) l [])
+
+-- A copy has the same members and words, in slices of the same lengths.
+pub record IsCopy (set copy : BitSet) : Type 0 where
+  pub members : (i : ℕ) → has copy i ≡ has set i
+  pub words : (l p : ℕ) → word_of copy l p ≡ word_of set l p
+  pub lengths : (l : ℕ) → slice_len copy l ≡ slice_len set l

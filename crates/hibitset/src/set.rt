@@ -299,11 +299,11 @@ impl DrainableBitSet for BitSet {
     }
 }
 
-/// A copy with the same members, and refused for memory only.
+/// A copy with the same members and words, whose slices have the same lengths. It is refused for memory only.
 impl Clone for BitSet {
-    ghost use Rattle.hibitset.specs.BitSet.{has};
+    ghost use Rattle.hibitset.specs.BitSet.{IsCopy};
 
-    ghost is_clone = { λ set copy. (i : ℕ) → has copy i ≡ has set i };
+    ghost is_clone = { IsCopy };
 
     fn clone(&self) -> Result<BitSet, AllocError> {
         Ok(BitSet {

@@ -19,6 +19,8 @@ pub mod Beginning
 pub mod Draining
 pub mod Bounds
 pub mod Passing
+pub mod Running
+pub mod Copying
 pub mod Splitting
 pub mod Folding
 pub mod Given

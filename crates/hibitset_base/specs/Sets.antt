@@ -19,6 +19,10 @@ pub record IsExact (n : ℕ) (word : ℕ → ℕ → ℕ) : Type 0 where
 abbrev pub SameSet : (ℕ → Bool) → (ℕ → Bool) → Type 0
 SameSet p q = (i : ℕ) → q i ≡ p i
 
+-- the two sets have the same words
+abbrev pub SameWords : (ℕ → ℕ → ℕ) → (ℕ → ℕ → ℕ) → Type 0
+SameWords v w = (l p : ℕ) → w l p ≡ v l p
+
 -- whatever a clone of this value may be, it is the same set
 abbrev pub ClonesToSame : {T : Type 0} → (T → T → Type 0) → (T → ℕ → Bool) → T → Type 0
 ClonesToSame {T} is_clone holds set = (copy : T) → is_clone set copy → SameSet (holds set) (holds copy)

@@ -1,6 +1,7 @@
 //! Walks that take out of their set what they give.
-ghost use Rattle.std.specs.Prelude.{◌≡◌, ℕ, Bool};
+ghost use Rattle.std.specs.Prelude.{◌≡◌, ℕ, ◌≤◌, length, Bool};
 ghost use Rattle.std.specs.Iterator.{item_count};
+ghost use Rattle.std.specs.Iterator.Runs.{YieldsInOrder};
 ghost use Rattle.hibitset_base.specs.Members.{members_below};
 ghost use Rattle.hibitset_base.specs.Places.{places_left, items_of, IsWellFormed};
 ghost use Rattle.hibitset_base.specs.Drain.{items_to_drain, drained, lender, DrainSteps};
@@ -25,7 +26,7 @@ pub struct DrainBitIter<'a, T> {
 impl<'a, T> DrainBitIter<'a, T> {
     /// A drain of `set` that goes on from the given state: `masks` has the bits that are left of each layer from the lowest up, and `prefix` the position of each mask's first bit in its layer, below the top layer, where it is 0.
     ///
-    /// The prefix of a mask that is not 0 is a multiple of 64 within the layer, and what is left in a layer lies before what is left above it.
+    /// The prefix of a mask that is not 0 is a multiple of 64 within the layer. What is left in a layer lies in the range of one word of each layer above that has something left: the word whose first bit is at that layer's prefix. There it lies before what is left of that word.
     #[inline]
     pub fn new(set: &'a mut T, masks: [usize; LAYERS], prefix: [u32; LAYERS - 1]) -> Self
         requires { IsWellFormed LAYERS masks prefix }
@@ -48,6 +49,8 @@ impl<'a, T: BitSetLike> DrainBitIter<'a, T> {
         ensures lender { lender result ≡ set.entry.ghost_name }
         ensures set { drained result ≡ set.old }
         ensures items { items_to_drain T.holds result ≡ members_below MAX_EID (T.holds set.old) }
+        ensures runs { YieldsInOrder (DrainSteps T.holds) (items_to_drain T.holds) }
+        ensures fits { length (items_to_drain T.holds result) ≤ MAX_EID }
     {
         let mut reads = Reads::none();
         let cursor = start(&*set, &mut reads);

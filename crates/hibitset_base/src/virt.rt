@@ -22,6 +22,8 @@ impl<A: BitSetLike + Clone, B: BitSetLike + Clone> BitSetAnd<A, B> {
         requires first { ClonesToSame A.is_clone A.holds self.now.0 }
         requires second { ClonesToSame B.is_clone B.holds self.now.1 }
         ensures same { IfOk result (λ copy. SameSet (⟦<Self as BitSetLike>⟧.holds self.now) (⟦<Self as BitSetLike>⟧.holds copy)) }
+        ensures first { IfOk result (λ copy. A.is_clone self.now.0 copy.0) }
+        ensures second { IfOk result (λ copy. B.is_clone self.now.1 copy.1) }
         ensures refused { A.is_infallible self.now.0 → B.is_infallible self.now.1 → IsOk result }
     {
         Ok(BitSetAnd(self.0.clone()?, self.1.clone()?))
@@ -98,6 +100,8 @@ impl<A: BitSetLike + Clone, B: BitSetLike + Clone> BitSetOr<A, B> {
         requires first { ClonesToSame A.is_clone A.holds self.now.0 }
         requires second { ClonesToSame B.is_clone B.holds self.now.1 }
         ensures same { IfOk result (λ copy. SameSet (⟦<Self as BitSetLike>⟧.holds self.now) (⟦<Self as BitSetLike>⟧.holds copy)) }
+        ensures first { IfOk result (λ copy. A.is_clone self.now.0 copy.0) }
+        ensures second { IfOk result (λ copy. B.is_clone self.now.1 copy.1) }
         ensures refused { A.is_infallible self.now.0 → B.is_infallible self.now.1 → IsOk result }
     {
         Ok(BitSetOr(self.0.clone()?, self.1.clone()?))
@@ -171,6 +175,8 @@ impl<A: BitSetLike + Clone, B: BitSetLike + Clone> BitSetXor<A, B> {
         requires first { ClonesToSame A.is_clone A.holds self.now.0 }
         requires second { ClonesToSame B.is_clone B.holds self.now.1 }
         ensures same { IfOk result (λ copy. SameSet (⟦<Self as BitSetLike>⟧.holds self.now) (⟦<Self as BitSetLike>⟧.holds copy)) }
+        ensures first { IfOk result (λ copy. A.is_clone self.now.0 copy.0) }
+        ensures second { IfOk result (λ copy. B.is_clone self.now.1 copy.1) }
         ensures refused { A.is_infallible self.now.0 → B.is_infallible self.now.1 → IsOk result }
     {
         Ok(BitSetXor(self.0.clone()?, self.1.clone()?))
@@ -221,6 +227,7 @@ impl<A: BitSetLike + Clone> BitSetNot<A> {
     pub fn clone(&self) -> Result<Self, AllocError>
         requires { ClonesToSame A.is_clone A.holds self.now.0 }
         ensures same { IfOk result (λ copy. SameSet (⟦<Self as BitSetLike>⟧.holds self.now) (⟦<Self as BitSetLike>⟧.holds copy)) }
+        ensures operand { IfOk result (λ copy. A.is_clone self.now.0 copy.0) }
         ensures refused { A.is_infallible self.now.0 → IsOk result }
     {
         Ok(BitSetNot(self.0.clone()?))

@@ -1,0 +1,8 @@
+use Rattle.hibitset_base.proofs.Running.{walk_runs, few_items}
+use Rattle.hibitset_base.proofs.iter.BitIter.from_top.Goals as goal
+
+pub returns-clause-runs : goal.returns-clause-runs
+returns-clause-runs g c = walk_runs g.T.BitSetLike.holds g.T.BitSetLike.word
+
+pub returns-clause-fits : goal.returns-clause-fits
+returns-clause-fits g c = few_items _ c.start-cursor.ensures.items
