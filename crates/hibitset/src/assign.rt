@@ -4,7 +4,7 @@ ghost use Rattle.std.specs.Int.{bit_at};
 ghost use Rattle.hibitset_base.specs.Sets.{bit_of};
 ghost use Rattle.hibitset.specs.BitSet.{has, word_of, slice_len};
 ghost use Rattle.hibitset.specs.Merging.{AreWords, MergedUnder, MergedAt, Summarizes, Covers, NoWordsFrom};
-ghost use Rattle.hibitset_base.specs.Virtual.{differ};
+ghost use Rattle.hibitset_base.specs.Connectives.{is_member, IsIntersection, IsUnion, IsExclusive};
 ghost use Rattle.hibitset.specs.Operators.{none_lawful};
 ghost use Rattle.hibitset_base.specs.declared.util.TheConstants.{LAYERS, MAX_EID};
 
@@ -266,7 +266,7 @@ impl BitSet {
     ///
     /// All room is made first, up to the last word of the other that is not 0 and no further: it needs no memory where `layer0_as_slice` is that long, and refused, it leaves its length. Words that the other has not are neither read nor changed; where it has summary bits over words that are 0, past the room of this set, those may be read twice, and take no room.
     pub fn bitor_assign<B: BitSetLike>(&mut self, other: &B) -> Result<(), AllocError>
-        ensures members { OnOk result ((i : ℕ) → i < MAX_EID → has self.new i ≡ (has self.old i || B.holds other.now i)) }
+        ensures members { OnOk result (IsUnion (has self.old) (is_member (B.holds other.now)) (has self.new)) }
         ensures refused { OnErr result ((i : ℕ) → has self.new i ≡ has self.old i) }
         ensures keeps { slice_len self.old 0 ≤ slice_len self.new 0 }
         ensures room { NoWordsFrom (B.word other.now) (slice_len self.old 0) → IsOk result }
@@ -282,7 +282,7 @@ impl BitSet {
     ///
     /// All room is made first, up to the last word of the other that is not 0 and no further: it needs no memory where `layer0_as_slice` is that long, and refused, it leaves its length. Words that the other has not are neither read nor changed; where it has summary bits over words that are 0, past the room of this set, those may be read twice, and take no room.
     pub fn bitxor_assign<B: BitSetLike>(&mut self, other: &B) -> Result<(), AllocError>
-        ensures members { OnOk result ((i : ℕ) → i < MAX_EID → has self.new i ≡ differ (has self.old i) (B.holds other.now i)) }
+        ensures members { OnOk result (IsExclusive (has self.old) (is_member (B.holds other.now)) (has self.new)) }
         ensures refused { OnErr result ((i : ℕ) → has self.new i ≡ has self.old i) }
         ensures keeps { slice_len self.old 0 ≤ slice_len self.new 0 }
         ensures room { NoWordsFrom (B.word other.now) (slice_len self.old 0) → IsOk result }
@@ -297,7 +297,7 @@ impl BitSet {
 
 /// Takes out the members that are not in the other set. It takes no memory.
 impl<B: BitSetLike> BitAndAssign<&B> for BitSet {
-    ghost bitand_assign_gives = { λ old other new. ((i : ℕ) → i < MAX_EID → has new i ≡ (has old i && B.holds other.now i)) × (slice_len new 0 ≡ slice_len old 0) };
+    ghost bitand_assign_gives = { λ old other new. IsIntersection (has old) (B.holds other.now) (has new) × (slice_len new 0 ≡ slice_len old 0) };
 
     fn bitand_assign(&mut self, other: &B) {
         self.merge_with::<And, B>(other);

@@ -1,6 +1,7 @@
 //! Values from outside: worked rows, each public call at least once, and types of the tests' own.
 mod assignments;
 mod building;
+mod callers;
 mod comparisons;
 mod drains;
 mod life;

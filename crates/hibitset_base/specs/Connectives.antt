@@ -1,6 +1,11 @@
 -- What the operators mean. A set is given by what it holds of, and the word is true at every number.
-use Rattle.std.specs.Prelude.{◌≡◌, ℕ, Bool, ◌&&◌, ◌||◌, not}
+use Rattle.std.specs.Prelude.{◌≡◌, ℕ, Bool, ◌&&◌, ◌||◌, not, nat_lt}
 use Rattle.hibitset_base.specs.Virtual.{differ}
+use Rattle.hibitset_base.specs.declared.util.TheConstants.{MAX_EID}
+
+-- the number is a member of a set that holds so: it lies in the range too
+abbrev pub is_member : (ℕ → Bool) → ℕ → Bool
+is_member holds i = nat_lt i MAX_EID && holds i
 
 -- the result has exactly the numbers that the set lacks
 abbrev pub IsComplement : (ℕ → Bool) → (ℕ → Bool) → Type 0

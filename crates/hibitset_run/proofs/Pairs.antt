@@ -7,8 +7,10 @@ use Rattle.std.proofs.lemmas.List.{nil_from_length}
 use Rattle.hibitset.specs.declared.set.BitSet.{BitSet}
 use Rattle.hibitset.specs.BitSet.{has}
 use Rattle.hibitset.proofs.Comparing.{same_of_test}
+use Rattle.hibitset.proofs.Within.{all_members}
 use Rattle.hibitset.proofs.Equality.{same_list}
 use Rattle.hibitset_base.specs.Virtual.{differ}
+use Rattle.hibitset_base.specs.Connectives.{is_member, IsIntersection, IsUnion, IsExclusive}
 use Rattle.hibitset_base.specs.declared.util.TheConstants.{MAX_EID}
 use Rattle.hibitset_base.proofs.Members.{members-none}
 use Rattle.hibitset_run.specs.declared.script.Slot.{Slot}
@@ -16,13 +18,6 @@ use Rattle.hibitset_run.specs.declared.script.Command.TheVariants as command
 use Rattle.hibitset_run.specs.Script.{bool, done, no_memory, members_of, has_members, are_same, is_within, sets_of, with_set, slot_number, IsStep}
 use Rattle.hibitset_run.proofs.Members.{has-out_of_range}
 use Rattle.hibitset_run.proofs.Kept.{sets_of-at, sets_of-other, sets_of-alike, sets_of-set, sets_of-put_back, sets_of-put_back_same, with_set-same}
-
--- what holds of the members below the bound of all indices holds of all numbers
-everywhere : (f : Bool → Bool → Bool) (ours theirs new : BitSet) → f false false ≡ false → ((i : ℕ) → i < MAX_EID → has new i ≡ f (has ours i) (has theirs i)) → (i : ℕ) → has new i ≡ f (has ours i) (has theirs i)
-everywhere f ours theirs new none members i = elim (cases_lt i MAX_EID) [
-  | inl below ↦ members i below
-  | inr out ↦ rw (has-out_of_range new i out, has-out_of_range ours i out, has-out_of_range theirs i out) (sym none)
-]
 
 and_itself : (a : Bool) → (a && a) ≡ a
 and_itself true = refl
@@ -84,21 +79,21 @@ module _ (kept : List BitSet) (slot other : Slot) (d e left new : BitSet) (long 
   abbrev others : BitSet
   others = get_or (set kept (slot_number slot) left) (slot_number other) e
 
-  merged : (f : Bool → Bool → Bool) → f false false ≡ false → ((i : ℕ) → i < MAX_EID → has new i ≡ f (has ours i) (has others i))
+  merged : (f : Bool → Bool → Bool) → ((i : ℕ) → has new i ≡ f (has ours i) (has others i))
       → sets_of (set (set kept (slot_number slot) left) (slot_number slot) new) ≡ with_set (sets_of kept) slot (λ i. f (sets_of kept slot i) (sets_of kept other i))
-  merged f none members =
+  merged f members =
       sets_of-put_back kept slot d long left new (λ i. f (sets_of kept slot i) (sets_of kept other i)) (λ i.
-      everywhere f ours others new none members i
+      members i
       ∙ sym (ap (λ p. f (p i) (sets_of kept other i)) (sets_of-at kept slot d long) ∙ ap (λ p. f (has ours i) (p i)) (sets_of-other kept slot other e left long apart)))
 
-  pub and_two : ((i : ℕ) → i < MAX_EID → has new i ≡ (has ours i && has others i)) → IsStep (command.And slot other) (sets_of kept) done (sets_of (set (set kept (slot_number slot) left) (slot_number slot) new))
-  and_two members = (refl, merged ◌&&◌ refl members)
+  pub and_two : IsIntersection (has ours) (has others) (has new) → IsStep (command.And slot other) (sets_of kept) done (sets_of (set (set kept (slot_number slot) left) (slot_number slot) new))
+  and_two members = (refl, merged ◌&&◌ members)
 
-  pub or_two : ((i : ℕ) → i < MAX_EID → has new i ≡ (has ours i || has others i)) → IsStep (command.Or slot other) (sets_of kept) done (sets_of (set (set kept (slot_number slot) left) (slot_number slot) new))
-  or_two members = (refl, merged ◌||◌ refl members)
+  pub or_two : IsUnion (has ours) (is_member (has others)) (has new) → IsStep (command.Or slot other) (sets_of kept) done (sets_of (set (set kept (slot_number slot) left) (slot_number slot) new))
+  or_two members = (refl, merged ◌||◌ (λ i. members i ∙ ap (λ x. has ours i || x) (all_members others i)))
 
-  pub xor_two : ((i : ℕ) → i < MAX_EID → has new i ≡ differ (has ours i) (has others i)) → IsStep (command.Xor slot other) (sets_of kept) done (sets_of (set (set kept (slot_number slot) left) (slot_number slot) new))
-  xor_two members = (refl, merged differ refl members)
+  pub xor_two : IsExclusive (has ours) (is_member (has others)) (has new) → IsStep (command.Xor slot other) (sets_of kept) done (sets_of (set (set kept (slot_number slot) left) (slot_number slot) new))
+  xor_two members = (refl, merged differ (λ i. members i ∙ ap (λ x. differ (has ours i) x) (all_members others i)))
 
   put_back : ((i : ℕ) → has new i ≡ has ours i) → sets_of (set (set kept (slot_number slot) left) (slot_number slot) new) ≡ sets_of kept
   put_back same = sets_of-put_back_same kept slot d long left new same

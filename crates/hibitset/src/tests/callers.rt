@@ -1,0 +1,112 @@
+//! What callers know of walks and assignments, from the public contracts alone.
+ghost use Rattle.std.specs.Prelude.{◌≡◌, ℕ, ◌+◌, ◌≤◌, length, IfOk, OnOk, OnErr};
+ghost use Rattle.hibitset_base.specs.Connectives.{IsIntersection, IsUnion, IsExclusive};
+ghost use Rattle.hibitset_base.specs.Members.{members_below};
+ghost use Rattle.hibitset_base.specs.Walk.{IsDrawn, words_read, words_ahead, items_left};
+ghost use Rattle.hibitset_base.specs.declared.util.TheConstants.{MAX_EID};
+ghost use Rattle.hibitset.specs.BitSet.{has, word_of};
+
+use crate::laws::laws;
+use crate::tests::set_of;
+use crate::{BitIter, BitSet, BitSetLike, DrainableBitSet, Index};
+use hibitset_base::util::MAX_EID;
+use std::alloc::{AllocError, Global};
+use std::test::Fail;
+
+// The members, by a loop.
+fn looped(alloc: Global, set: &BitSet) -> Result<Vec<Index>, AllocError>
+    ensures { IfOk result (λ list. list.items ≡ members_below MAX_EID (has set.now)) }
+{
+    let mut list = Vec::new(alloc);
+    for index in set {
+        list.push(index)?;
+    }
+    Ok(list)
+}
+
+// How many members there are.
+fn counted(set: &BitSet) -> usize
+    ensures { result ≡ length (members_below MAX_EID (has set.now)) }
+{
+    set.iter().count()
+}
+
+// The members, which are taken out.
+fn drained(alloc: Global, set: &mut BitSet) -> Result<Vec<Index>, AllocError>
+    ensures { IfOk result (λ list. list.items ≡ members_below MAX_EID (has set.old)) }
+{
+    set.drain().collect(alloc)
+}
+
+// One step of a walk, which reads three words at most.
+fn step<'a>(walk: &mut BitIter<&'a BitSet>) -> Option<Index>
+    requires { IsDrawn (λ set. word_of set.now) walk.old }
+    ensures drawn { IsDrawn (λ set. word_of set.now) walk.new }
+    ensures few { words_read walk.new ≤ words_read walk.old + 3 }
+{
+    laws();
+    walk.next()
+}
+
+// A copy of a walk, which has as many words ahead.
+fn copied<'a>(walk: &BitIter<&'a BitSet>) -> Result<BitIter<&'a BitSet>, AllocError>
+    ensures ahead { IfOk result (λ copy. words_ahead (λ set. word_of set.now) copy ≡ words_ahead (λ set. word_of set.now) walk.now) }
+    ensures items { IfOk result (λ copy. items_left (λ set. has set.now) copy ≡ items_left (λ set. has set.now) walk.now) }
+{
+    walk.clone()
+}
+
+// Keeps what is in the other too.
+fn narrow(set: &mut BitSet, other: &BitSet)
+    ensures { IsIntersection (has set.old) (has other.now) (has set.new) }
+{
+    *set &= other;
+}
+
+// Adds what is in the other.
+fn widen(set: &mut BitSet, other: &BitSet) -> Result<(), AllocError>
+    ensures members { OnOk result (IsUnion (has set.old) (has other.now) (has set.new)) }
+    ensures refused { OnErr result ((i : ℕ) → has set.new i ≡ has set.old i) }
+{
+    laws();
+    set.bitor_assign(other)
+}
+
+// Adds what is in the other alone, and takes out what is in both.
+fn exchange(set: &mut BitSet, other: &BitSet) -> Result<(), AllocError>
+    ensures members { OnOk result (IsExclusive (has set.old) (has other.now) (has set.new)) }
+    ensures refused { OnErr result ((i : ℕ) → has set.new i ≡ has set.old i) }
+{
+    laws();
+    set.bitxor_assign(other)
+}
+
+#[test]
+fn walks_of_callers(rt: HostRuntime) -> Result<(), Fail> {
+    let mut a = set_of(rt.alloc(), &[3, 70, 700])?;
+    assert_eq!(rt; looped(rt.alloc(), &a)?.as_slice(), [3, 70, 700].as_slice());
+    assert_eq!(rt; counted(&a), 3);
+    let mut walk = (&a).iter();
+    assert_eq!(rt; step(&mut walk), Some(3));
+    let rest: Vec<Index> = copied(&walk)?.collect(rt.alloc())?;
+    assert_eq!(rt; rest.as_slice(), [70, 700].as_slice());
+    assert_eq!(rt;
+        drained(rt.alloc(), &mut a)?.as_slice(),
+        [3, 70, 700].as_slice()
+    );
+    assert!(rt; a.is_empty());
+    Ok(())
+}
+
+#[test]
+fn assignments_of_callers(rt: HostRuntime) -> Result<(), Fail> {
+    let mut a = set_of(rt.alloc(), &[3, 70])?;
+    let b = set_of(rt.alloc(), &[70, 71])?;
+    widen(&mut a, &b)?;
+    assert_eq!(rt; looped(rt.alloc(), &a)?.as_slice(), [3, 70, 71].as_slice());
+    exchange(&mut a, &b)?;
+    assert_eq!(rt; looped(rt.alloc(), &a)?.as_slice(), [3].as_slice());
+    narrow(&mut a, &b);
+    assert!(rt; a.is_empty());
+    Ok(())
+}
