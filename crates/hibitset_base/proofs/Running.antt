@@ -17,5 +17,5 @@ pub walk_runs : {T : Type 0} (holds : T → ℕ → Bool) (word : T → ℕ → 
 walk_runs holds word p s = as_is p (items_left holds p.from) (from_front (WalkSteps holds word) (λ x. x) (items_left holds) (λ t u h. ap length h.0.0) (λ t x u h. h.0) p s)
 
 -- and so does each run of a drain
-pub drain_runs : {T : Type 0} (holds : T → ℕ → Bool) → YieldsInOrder (DrainSteps holds) (items_to_drain holds)
-drain_runs holds p s = as_is p (items_to_drain holds p.from) (from_front (DrainSteps holds) (λ x. x) (items_to_drain holds) (λ t u h. ap length h.0.0) (λ t x u h. h.0) p s)
+pub drain_runs : {T : Type 0} (holds : T → ℕ → Bool) (keeps_room : T → T → Type 0) → YieldsInOrder (DrainSteps holds keeps_room) (items_to_drain holds)
+drain_runs holds keeps_room p s = as_is p (items_to_drain holds p.from) (from_front (DrainSteps holds keeps_room) (λ x. x) (items_to_drain holds) (λ t u h. ap length h.0.0) (λ t x u h. h.0) p s)

@@ -49,7 +49,7 @@ impl<'a, T: BitSetLike> DrainBitIter<'a, T> {
         ensures lender { lender result ≡ set.entry.ghost_name }
         ensures set { drained result ≡ set.old }
         ensures items { items_to_drain T.holds result ≡ members_below MAX_EID (T.holds set.old) }
-        ensures runs { YieldsInOrder (DrainSteps T.holds) (items_to_drain T.holds) }
+        ensures runs { YieldsInOrder (DrainSteps T.holds T.keeps_room) (items_to_drain T.holds) }
         ensures fits { length (items_to_drain T.holds result) ≤ MAX_EID }
     {
         let mut reads = Reads::none();
