@@ -9,7 +9,7 @@ ghost use Rattle.hibitset_base.specs.declared.util.TheConstants.{LAYERS, MAX_EID
 
 use crate::cursor::Cursor;
 use crate::iter::{cursor_of, start, step};
-use crate::like::{BitSetLike, DrainableBitSet};
+use crate::like::DrainableBitSet;
 use crate::reads::Reads;
 use crate::util::{Index, LAYERS, MAX_EID};
 
@@ -42,7 +42,7 @@ impl<'a, T> DrainBitIter<'a, T> {
     }
 }
 
-impl<'a, T: BitSetLike> DrainBitIter<'a, T> {
+impl<'a, T: DrainableBitSet> DrainBitIter<'a, T> {
     // Starts at the top of the set.
     #[inline]
     pub(crate) fn from_top(set: &'a mut T) -> Self

@@ -102,3 +102,86 @@ fn errors_are_told(rt: HostRuntime) -> Result<(), Fail> {
     );
     Ok(())
 }
+
+// After a refusal, the iterator goes on after the item that was refused.
+#[test]
+fn no_item_is_drawn_after_one_out_of_range(rt: HostRuntime) -> Result<(), Fail> {
+    let items = [3u32, 9, 16777216, 4];
+    let refused = BuildError::OutOfRange {
+        place: 2,
+        index: 16777216,
+    };
+    let mut set = BitSet::new(rt.alloc());
+    let mut left = items.iter().copied();
+    assert_eq!(rt; set.extend_indices(&mut left), Err(refused));
+    assert_eq!(rt; left.next(), Some(4));
+    let mut left = items.iter();
+    assert_eq!(rt; set.extend_index_refs(&mut left), Err(refused));
+    assert_eq!(rt; left.next(), Some(&4));
+    let mut left = items.iter().copied();
+    assert_eq!(rt;
+        BitSet::from_indices(rt.alloc(), &mut left).err(),
+        Some(refused)
+    );
+    assert_eq!(rt; left.next(), Some(4));
+    let mut left = items.iter();
+    assert_eq!(rt;
+        BitSet::from_index_refs(rt.alloc(), &mut left).err(),
+        Some(refused)
+    );
+    assert_eq!(rt; left.next(), Some(&4));
+    Ok(())
+}
+
+// The same where memory is refused. A run under failing allocations takes the other branch.
+#[test]
+fn extending_draws_no_more(rt: HostRuntime) -> Result<(), Fail> {
+    let mut left = [6u32, 5000000, 7].iter().copied();
+    let mut set = BitSet::new(rt.alloc());
+    match set.extend_indices(&mut left) {
+        Ok(()) => assert_eq!(rt; left.next(), None),
+        Err(error) => {
+            assert_eq!(rt; error, BuildError::Memory { place: 1 });
+            assert_eq!(rt; left.next(), Some(7));
+        }
+    }
+    Ok(())
+}
+
+#[test]
+fn extending_by_refs_draws_no_more(rt: HostRuntime) -> Result<(), Fail> {
+    let mut left = [6u32, 5000000, 7].iter();
+    let mut set = BitSet::new(rt.alloc());
+    match set.extend_index_refs(&mut left) {
+        Ok(()) => assert_eq!(rt; left.next(), None),
+        Err(error) => {
+            assert_eq!(rt; error, BuildError::Memory { place: 1 });
+            assert_eq!(rt; left.next(), Some(&7));
+        }
+    }
+    Ok(())
+}
+
+#[test]
+fn building_draws_no_more(rt: HostRuntime) {
+    let mut left = [6u32, 5000000, 7].iter().copied();
+    match BitSet::from_indices(rt.alloc(), &mut left) {
+        Ok(_) => assert_eq!(rt; left.next(), None),
+        Err(error) => {
+            assert_eq!(rt; error, BuildError::Memory { place: 1 });
+            assert_eq!(rt; left.next(), Some(7));
+        }
+    }
+}
+
+#[test]
+fn building_of_refs_draws_no_more(rt: HostRuntime) {
+    let mut left = [6u32, 5000000, 7].iter();
+    match BitSet::from_index_refs(rt.alloc(), &mut left) {
+        Ok(_) => assert_eq!(rt; left.next(), None),
+        Err(error) => {
+            assert_eq!(rt; error, BuildError::Memory { place: 1 });
+            assert_eq!(rt; left.next(), Some(&7));
+        }
+    }
+}
