@@ -201,11 +201,7 @@ fn count(sets: &[BitSet; 8], slot: Slot) -> Reply
 fn count_of(set: &BitSet) -> usize
     ensures { result ≡ length (members_below MAX_EID (has set.now)) }
 {
-    let mut count = 0;
-    for _ in set.iter() {
-        count += 1;
-    }
-    count
+    set.len()
 }
 
 // Takes all indices out of a set.
