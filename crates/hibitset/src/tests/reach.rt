@@ -1,11 +1,16 @@
 //! The size of a set, its first member, the list of its members, and walks that begin at an index.
-ghost use Rattle.std.specs.Prelude.{◌≡◌, ◌-◌, length, IfOk};
-ghost use Rattle.hibitset_base.specs.Members.{members, members_below};
-ghost use Rattle.hibitset_base.specs.declared.util.TheConstants.{MAX_EID};
+ghost use Rattle.std.specs.Prelude.{◌≡◌, ◌-◌, ◌≤◌, length, IfOk};
+ghost use Rattle.hibitset_base.specs.Members.{members_below};
+ghost use Rattle.hibitset_base.specs.Reading.{IsBoundBy};
+ghost use Rattle.hibitset_base.specs.Walk.{words_read, words_ahead};
+ghost use Rattle.hibitset_base.specs.declared.util.TheConstants.{LAYERS, MAX_EID};
+ghost use Rattle.hibitset.specs.BitSet.{has};
+ghost use Rattle.hibitset.specs.Laws.{intersected};
 
+use crate::laws::laws;
 use crate::tests::reads::{Counting, Everywhere};
 use crate::tests::{list, run_of, set_of};
-use crate::{BitSet, BitSetAll, BitSetLike, Index, LAYERS, MAX_EID};
+use crate::{BitIter, BitSet, BitSetAll, BitSetAnd, BitSetLike, Index, LAYERS, MAX_EID};
 use std::alloc::{AllocError, Global};
 use std::cell::Cell;
 use std::test::Fail;
@@ -202,6 +207,28 @@ fn listing_with_little_memory(rt: HostRuntime) -> Result<(), Fail> {
     assert_eq!(rt; set.len(), 3);
     let again = set.to_vec(rt.alloc())?;
     assert_eq!(rt; again.as_slice(), [5, 6, 7].as_slice());
+    Ok(())
+}
+
+// A walk over an intersection from an index on: its words lie over members of the first set, and are at most three for each.
+fn walk_both_from<'a>(
+    a: &'a BitSet,
+    b: &'a BitSet,
+    start: Index,
+) -> BitIter<BitSetAnd<&'a BitSet, &'a BitSet>>
+    ensures read { words_read result ≤ LAYERS }
+    ensures bound { IsBoundBy LAYERS (has a.now) (words_ahead (λ both. intersected both.0.now both.1.now) result) }
+{
+    laws();
+    (a & b).iter_from(start)
+}
+
+#[test]
+fn a_walk_over_both_from_an_index(rt: HostRuntime) -> Result<(), Fail> {
+    let a = set_of(rt.alloc(), &[3, 70, 4_096])?;
+    let b = set_of(rt.alloc(), &[3, 70, 71])?;
+    let both: Vec<u32> = walk_both_from(&a, &b, 4).collect(rt.alloc())?;
+    assert_eq!(rt; both.as_slice(), [70].as_slice());
     Ok(())
 }
 
