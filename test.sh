@@ -4,5 +4,6 @@ set -euo pipefail
 cd "$(dirname "$0")"
 rt ci
 ./refusals.sh
+./refusals.py
 ./caught.sh
 sh diff/replay.sh
