@@ -81,6 +81,16 @@ impl BitSetLike for Logging {
 }
 
 impl DrainableBitSet for Logging {
+    ghost use Rattle.std.specs.Prelude.{◌≡◌, refl};
+    ghost use Rattle.std.proofs.Common.{◌∙◌};
+    ghost use Rattle.hibitset.specs.BitSet.{slice_len};
+
+    ghost keeps_room = { λ old new. slice_len new.set 0 ≡ slice_len old.set 0 };
+
+    ghost keeps_own = { λ s. refl };
+
+    ghost keeps_both = { λ a b c first second. second ∙ first };
+
     fn remove(&mut self, i: Index) -> bool {
         self.set.remove(i)
     }
