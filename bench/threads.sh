@@ -26,7 +26,7 @@ if ls -d "$registry"/rayon-1* >/dev/null 2>&1; then
     printf '[package]\nname = "hibitset"\nversion = "0.6.3"\nedition = "2015"\n[features]\ndefault = ["parallel"]\nparallel = ["rayon"]\n[dependencies]\natom = { path = "../atom" }\nrayon = { version = "1.1", optional = true }\n' >"$work/hibitset/Cargo.toml"
     printf '[package]\nname = "threads"\nversion = "0.1.0"\nedition = "2021"\n[dependencies]\nhibitset = { path = "hibitset" }\nrayon = "1"\n[profile.release]\nopt-level = 3\n[workspace]\nexclude = ["hibitset", "atom"]\n' >"$work/Cargo.toml"
     printf '[source.crates-io]\nreplace-with = "debian"\n[source.debian]\ndirectory = "%s"\n[net]\noffline = true\n' "$registry" >"$work/.cargo/config.toml"
-    (cd "$work" && RUSTFLAGS="--cap-lints allow -C target-cpu=x86-64-v2" cargo build --release --quiet)
+    (cd "$work" && RUSTFLAGS="--cap-lints allow -C target-cpu=x86-64-v2 -C llvm-args=-align-all-functions=6" cargo build --release --quiet)
     theirs=$work/target/release/threads
 fi
 

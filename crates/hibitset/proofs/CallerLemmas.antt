@@ -25,9 +25,9 @@ is_before below above lower upper l m b = below == 0 || (not (bit_at above b == 
 abbrev pub is_formed : ℕ → List ℕ → List ℕ → Bool
 is_formed n masks prefixes =
     length masks == n && holds_below n (λ m.
-      is_aligned n (get_or masks m 0) (get_or prefixes m 0) m && holds_below m (λ l.
-        is_nested (get_or masks l 0) (get_or masks m 0) (get_or prefixes l 0) (get_or prefixes m 0) l m
-        && holds_below 64 (is_before (get_or masks l 0) (get_or masks m 0) (get_or prefixes l 0) (get_or prefixes m 0) l m)))
+    is_aligned n (get_or masks m 0) (get_or prefixes m 0) m && holds_below m (λ l.
+    is_nested (get_or masks l 0) (get_or masks m 0) (get_or prefixes l 0) (get_or prefixes m 0) l m
+    && holds_below 64 (is_before (get_or masks l 0) (get_or masks m 0) (get_or prefixes l 0) (get_or prefixes m 0) l m)))
 
 both : (a b : Bool) → (a && b) ≡ true → (a ≡ true) × (b ≡ true)
 both true true h = (h, h)

@@ -109,6 +109,7 @@ impl SharedBitSet {
     /// It answers false exactly where its own exchange put the index in, which is then the newest of the seat's reports; over all seats of a set this happens once for an index, and never for one that was there before `share`. When it returns, the seat knows the index: all four bits on the way to it stand, and stay.
     ///
     /// It reads those four bits first, and where they stand it writes nothing and answers true. Else it exchanges in layer 0, and above it, from the lowest up, in each layer whose bit does not stand yet. It takes no memory and waits for nobody.
+    #[inline]
     #[tactic(auto, unfolding(crate::specs::Seats::Came, crate::specs::Seats::Known, crate::specs::Seats::IsOld, crate::specs::Seats::weight_of, crate::specs::Seats::reports_of))]
     pub fn add_atomic(&self, seat: &mut Seat, id: Index) -> bool
         requires id { id < ATOMIC_MAX_EID }
@@ -126,6 +127,7 @@ impl SharedBitSet {
     }
 
     // The exchanges, from layer 0 up, for an index that is neither old nor known to the seat: that of layer 0 always, and above it those whose bits do not stand by then.
+    #[inline(never)]
     #[tactic(auto, unfolding(crate::specs::Seats::Came, crate::specs::Seats::Known, crate::specs::Seats::IsOld, crate::specs::Seats::weight_of, crate::specs::Seats::reports_of))]
     fn exchange(&self, seat: &mut Seat, id: Index) -> bool
         requires id { id < ATOMIC_MAX_EID }
@@ -146,6 +148,7 @@ impl SharedBitSet {
     /// Tells whether an index is there, as `AtomicBitSet::contains` of the original does, which takes no seat.
     ///
     /// It is true of each index from before `share`, and of each that the seat knows; of another it is true only where all four bits on the way to it were seen to stand, and the seat knows it from then on. It is false from `ATOMIC_MAX_EID` on. It takes no memory and waits for nobody.
+    #[inline]
     #[tactic(auto, unfolding(crate::specs::Seats::Came, crate::specs::Seats::Known, crate::specs::Seats::IsOld, crate::specs::Seats::weight_of, crate::specs::Seats::reports_of))]
     pub fn contains(&self, seat: &mut Seat, id: Index) -> bool
         requires came { Came self.now seat.old }
