@@ -146,18 +146,29 @@ fn list_left<T: BitSetLike>(
 // How many items the buffer has room for.
 const BUFFER: usize = 256;
 
-// Room for the items that are left: as many, or `usize::MAX`.
+// After so many words a set counts as sparse if they have fewer than `FEW` bits each.
+const SAMPLE: usize = 32;
+
+// To go over words twice gains nothing where most have fewer bits than this.
+const FEW: usize = 4;
+
+// Room for the items that are left: as many, or, where the first words have few each, as many as these have.
 #[inline]
 fn room_for<T: BitSetLike>(set: &T, cursor: &mut Cursor<LAYERS>) -> usize {
     let mut reads = Reads::none();
     let mut room = 0usize;
+    let mut words = 0usize;
     'words: while let Some((_, word)) = step_word(set, cursor, &mut reads) {
         room = room.saturating_add(word.count_ones() as usize);
+        words = words.saturating_add(1);
+        if words == SAMPLE && room < SAMPLE * FEW {
+            return room;
+        }
     }
     room
 }
 
-// The items that a walk has left, with room for all of them taken at once.
+// The items that a walk has left, with room for all of them taken at once, but for sparse sets.
 pub(crate) fn list_walk<T: BitSetLike>(
     walk: BitIter<T>,
     alloc: Global,
@@ -208,8 +219,8 @@ fn listed<T: BitSetLike>(
 pub(crate) fn list_members<T: BitSetLike>(set: &T, alloc: Global) -> Result<Vec<Index>, AllocError>
     ensures { IfOk result (λ v. v.items ≡ members_below MAX_EID (T.holds set.now)) }
 {
-    let room = count_members(set);
     let mut reads = Reads::none();
     let mut cursor = start(set, &mut reads);
+    let room = room_for(set, &mut cursor.copied());
     listed(set, &mut cursor, &mut reads, alloc, room)
 }

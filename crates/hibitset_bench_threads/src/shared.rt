@@ -16,6 +16,9 @@ use std::time::Instant;
 // How many indices a list has: half of them are added, and half are only asked for.
 const INDICES: usize = 2_000_000;
 
+// How often each index is asked for, so that what it takes to start threads is a small part.
+const TURNS: usize = 16;
+
 // What is done with each index.
 #[derive(Clone, Copy)]
 enum Work {
@@ -96,6 +99,21 @@ fn ask_each(set: &SharedBitSet, seat: Seat, list: &[Index]) -> Done
     Done { seat, falses }
 }
 
+// Asks for all indices, one turn after another.
+fn ask_in_turns(set: &SharedBitSet, seat: Seat, list: &[Index]) -> Done
+    requires { Came set.now seat }
+    ensures { Came set.now result.seat }
+{
+    let mut seat = seat;
+    let mut falses = 0u64;
+    for _ in 0..TURNS {
+        let turn = ask_each(set, seat, list);
+        seat = turn.seat;
+        falses = falses.wrapping_add(turn.falses);
+    }
+    Done { seat, falses }
+}
+
 // The work in the calling thread.
 fn alone(set: &SharedBitSet, seat: Seat, list: &[Index], work: Work) -> Done
     requires { Came set.now seat }
@@ -103,7 +121,7 @@ fn alone(set: &SharedBitSet, seat: Seat, list: &[Index], work: Work) -> Done
 {
     match work {
         Work::Add => add_each(set, seat, list),
-        Work::Ask => ask_each(set, seat, list),
+        Work::Ask => ask_in_turns(set, seat, list),
     }
 }
 
@@ -181,7 +199,8 @@ fn round<R: Clock + Threads + Sync>(
     let (seat, add_new) = timed(rt, &set, seat, new, Work::Add, threads, new.len())?;
     let (seat, add_there) = timed(rt, &set, seat, new, Work::Add, threads, 0)?;
     let (seat, hit) = timed(rt, &set, seat, new, Work::Ask, threads, 0)?;
-    let (mut seat, miss) = timed(rt, &set, seat, others, Work::Ask, threads, others.len())?;
+    let misses = others.len().saturating_mul(TURNS);
+    let (mut seat, miss) = timed(rt, &set, seat, others, Work::Ask, threads, misses)?;
     let start = Instant::now(rt)?;
     let sum = shared_sum(&set, &mut seat);
     let walk = nanoseconds(rt, start)?;
@@ -204,8 +223,8 @@ fn round<R: Clock + Threads + Sync>(
     Ok([
         add_new,
         add_there,
-        hit,
-        miss,
+        hit / TURNS as u64,
+        miss / TURNS as u64,
         walk,
         settled_walk,
         settle,
