@@ -3,7 +3,7 @@
 # ORIGINAL: the folder of the original crate (src/lib.rs, or files named as src--src--lib.rs.txt).
 # REPEATS: rounds that the medians are taken of (9). MILLISECONDS: how long the work of one timing is to take (20).
 # WORDS: the rows whose names have them, alone. It needs rt, rustc and objcopy, and of Debian's packages librust-fixedbitset-dev and
-# librust-bit-set-dev, where they are to be in the table, under REGISTRY.
+# librust-bit-set-dev, where they are to be in the table, under REGISTRY, and libroaring-dev.
 # README=1: also puts what it prints into README.md, in the place of the last results.
 # FLAGS: how the original, the peers and the driver are compiled. LIB: the static library, if it is not to be built.
 set -eu
@@ -58,6 +58,9 @@ if [ -n "$source" ] && [ -n "$vec" ]; then
     compile bit_vec 2015 "$vec/src/lib.rs" --cfg 'feature="std"'
     compile bit_set 2015 "$source/src/lib.rs" --cfg 'feature="std"' --extern "bit_vec=$work/libbit_vec.rlib"
     peers="$peers --cfg bit_set --extern bit_set=$work/libbit_set.rlib"
+fi
+if printf '#include <roaring/roaring.h>\nint main(void) { return 0; }\n' | cc -x c - -lroaring -o "$work/roaring" 2>"$work/roaring.log"; then
+    peers="$peers --cfg roaring"
 fi
 # shellcheck disable=SC2086
 rustc $flags --edition 2021 --crate-name bench -A unexpected_cfgs -A unused_mut -L "$work" $peers --extern "hibitset=$work/libhibitset.rlib" \

@@ -4,6 +4,8 @@ mod harness;
 mod original;
 mod ours;
 mod peers;
+#[cfg(roaring)]
+mod roaring;
 
 use std::collections::{BTreeSet, HashSet};
 use std::time::Duration;
@@ -13,6 +15,9 @@ use peers::{sum, Peers, END};
 
 #[cfg(fixedbitset)]
 use peers::{fixed_of, wide_sum};
+
+#[cfg(roaring)]
+use roaring::Roaring;
 
 const MILLION: usize = 1_000_000;
 
@@ -38,7 +43,7 @@ macro_rules! both {
     };
 }
 
-/// Adds a peer where its crate was found.
+/// Adds a peer where its crate or library was found.
 macro_rules! peer {
     ($row:ident, $cfg:ident, $who:expr, $run:expr) => {
         #[cfg($cfg)]
@@ -65,6 +70,7 @@ fn adds(bench: &mut Bench, random: &[u32], members: &Peers, absent: &[u32], asce
         let mut row = Row::new(name, ids.len(), 0.85, both!(add, ids));
         peer!(row, fixedbitset, "fixedbitset", || timed(|| { let mut s = fixedbitset::FixedBitSet::with_capacity(END); count(ids, |i| s.put(i as usize)) }));
         peer!(row, bit_set, "bit-set", || timed(|| { let mut s = bit_set::BitSet::new(); count(ids, |i| !s.insert(i as usize)) }));
+        peer!(row, roaring, "CRoaring", || timed(|| { let mut s = Roaring::new(); count(ids, |i| !s.add(i)) }));
         bench.run(row
             .peer("BTreeSet", || timed(|| { let mut s = BTreeSet::new(); count(ids, |i| !s.insert(i)) }))
             .peer("HashSet", || timed(|| { let mut s = HashSet::new(); count(ids, |i| !s.insert(i)) })));
@@ -76,6 +82,7 @@ fn adds(bench: &mut Bench, random: &[u32], members: &Peers, absent: &[u32], asce
     let mut row = Row::new("add again what is there", random.len(), 0.85, both!(add_again, random));
     peer!(row, fixedbitset, "fixedbitset", || on_copy(&members.fixed, |s| count(random, |i| s.put(i as usize))));
     peer!(row, bit_set, "bit-set", || on_copy(&members.bits, |s| count(random, |i| !s.insert(i as usize))));
+    peer!(row, roaring, "CRoaring", || on_copy(&members.roaring, |s| count(random, |i| !s.add(i))));
     bench.run(row
         .peer("BTreeSet", || on_copy(&members.tree, |s| count(random, |i| !s.insert(i))))
         .peer("HashSet", || on_copy(&members.hash, |s| count(random, |i| !s.insert(i)))));
@@ -83,6 +90,7 @@ fn adds(bench: &mut Bench, random: &[u32], members: &Peers, absent: &[u32], asce
         let mut row = Row::new(name, asked.len(), 1.0, both!(contains, random, asked));
         peer!(row, fixedbitset, "fixedbitset", || timed(|| count(asked, |i| members.fixed.contains(i as usize))));
         peer!(row, bit_set, "bit-set", || timed(|| count(asked, |i| members.bits.contains(i as usize))));
+        peer!(row, roaring, "CRoaring", || timed(|| count(asked, |i| members.roaring.contains(i))));
         bench.run(row
             .peer("BTreeSet", || timed(|| count(asked, |i| members.tree.contains(&i))))
             .peer("HashSet", || timed(|| count(asked, |i| members.hash.contains(&i)))));
@@ -91,6 +99,7 @@ fn adds(bench: &mut Bench, random: &[u32], members: &Peers, absent: &[u32], asce
     let mut row = Row::new("remove, all of 1M random", distinct.len(), 1.0, both!(remove, random, &distinct)).on_copies(both!(clone, random));
     peer!(row, fixedbitset, "fixedbitset", || on_copy(&members.fixed, |s| { distinct.iter().for_each(|i| s.set(*i as usize, false)); distinct.len() as u64 }));
     peer!(row, bit_set, "bit-set", || on_copy(&members.bits, |s| count(&distinct, |i| s.remove(i as usize))));
+    peer!(row, roaring, "CRoaring", || on_copy(&members.roaring, |s| count(&distinct, |i| s.remove(i))));
     bench.run(row
         .peer("BTreeSet", || on_copy(&members.tree, |s| count(&distinct, |i| s.remove(&i))))
         .peer("HashSet", || on_copy(&members.hash, |s| count(&distinct, |i| s.remove(&i)))));
@@ -103,6 +112,7 @@ fn walks(bench: &mut Bench, all: &[(&Sample, f64)]) {
         let mut row = Row::new(format!("walk, {}", sample.name), ids.len(), *aim, both!(walk, ids));
         peer!(row, fixedbitset, "fixedbitset", || timed(|| wide_sum(k.fixed.ones())));
         peer!(row, bit_set, "bit-set", || timed(|| wide_sum(k.bits.iter())));
+        peer!(row, roaring, "CRoaring", || timed(|| k.roaring.sum()));
         bench.run(row
             .peer("BTreeSet", || timed(|| sum(k.tree.iter().copied())))
             .peer("HashSet", || timed(|| sum(k.hash.iter().copied()))));
@@ -127,6 +137,7 @@ fn walks_by_method(bench: &mut Bench, all: &[(&Sample, f64)]) {
         let mut row = Row::new(format!("collect, {}", sample.name), ids.len(), 0.6, both!(walk_collect, ids));
         peer!(row, fixedbitset, "fixedbitset", || timed(|| last_of(k.fixed.ones().collect())));
         peer!(row, bit_set, "bit-set", || timed(|| last_of(k.bits.iter().collect())));
+        peer!(row, roaring, "CRoaring", || timed(|| k.roaring.list()));
         bench.run(row);
     }
 }
@@ -145,10 +156,12 @@ fn sizes_and_lists(bench: &mut Bench, all: &[(&Sample, f64, f64)]) {
         let mut row = Row::new(format!("len, {}", sample.name), ids.len(), *len_aim, both!(len, ids));
         peer!(row, fixedbitset, "fixedbitset", || timed(|| k.fixed.count_ones(..) as u64));
         peer!(row, bit_set, "bit-set", || timed(|| k.bits.len() as u64));
+        peer!(row, roaring, "CRoaring", || timed(|| k.roaring.len()));
         bench.run(row);
         let mut row = Row::new(format!("to_vec, {}", sample.name), ids.len(), *list_aim, both!(to_vec, ids));
         peer!(row, fixedbitset, "fixedbitset", || timed(|| last_of(k.fixed.ones().collect())));
         peer!(row, bit_set, "bit-set", || timed(|| last_of(k.bits.iter().collect())));
+        peer!(row, roaring, "CRoaring", || timed(|| k.roaring.list()));
         bench.run(row);
     }
 }
@@ -159,11 +172,14 @@ fn firsts(bench: &mut Bench, all: &[&Sample], asked: &[u32]) {
     for sample in all {
         let (ids, k) = (&sample.ids[..], &sample.peers);
         let first = || k.tree.first().map_or(0, |index| *index as u64);
-        bench.run(Row::new(format!("first, {}", sample.name), 1, 1.0, both!(first, ids)).peer("BTreeSet", || timed(first)));
+        let mut row = Row::new(format!("first, {}", sample.name), 1, 1.0, both!(first, ids));
+        peer!(row, roaring, "CRoaring", || timed(|| k.roaring.first()));
+        bench.run(row.peer("BTreeSet", || timed(first)));
         bench.run(Row::new(format!("iter().next(), {}", sample.name), 1, 1.0, both!(walk_next, ids)).peer("BTreeSet", || timed(first)));
         let from = |start: &u32| k.tree.range(*start..).next().map_or(0, |index| *index as u64);
-        bench.run(Row::new(format!("iter_from(i).next(), {}", sample.name), asked.len(), 0.5, both!(walk_from, ids, asked))
-            .peer("BTreeSet", || timed(|| asked.iter().map(from).sum())));
+        let mut row = Row::new(format!("iter_from(i).next(), {}", sample.name), asked.len(), 0.5, both!(walk_from, ids, asked));
+        peer!(row, roaring, "CRoaring", || timed(|| k.roaring.first_from(asked)));
+        bench.run(row.peer("BTreeSet", || timed(|| asked.iter().map(from).sum())));
     }
 }
 
@@ -176,6 +192,7 @@ fn pair_walks(bench: &mut Bench, a: &Sample, b: &Sample, aim: f64) {
             let mut row = Row::new(format!("walk of {}, {of}", $name), ops, aim, both!($kernel, x, y));
             peer!(row, fixedbitset, "fixedbitset", || timed(|| wide_sum(p.fixed.$method(&q.fixed))));
             peer!(row, bit_set, "bit-set", || timed(|| wide_sum(p.bits.$method(&q.bits))));
+            peer!(row, roaring, "CRoaring", || timed(|| p.roaring.$method(&q.roaring).sum()));
             bench.run(row
                 .peer("BTreeSet", || timed(|| sum(p.tree.$method(&q.tree).copied())))
                 .peer("HashSet", || timed(|| sum(p.hash.$method(&q.hash).copied()))));
@@ -204,6 +221,11 @@ fn assignments(bench: &mut Bench, a: &Sample, b: &Sample, aims: [f64; 3]) {
                 let took = timed(|| set.$flat(&q.bits)).0;
                 (took, wide_sum(set.iter()))
             });
+            peer!(row, roaring, "CRoaring", || {
+                let mut set = p.roaring.clone();
+                let took = timed(|| set.$flat(&q.roaring)).0;
+                (took, set.sum())
+            });
             bench.run(row
                 .peer("BTreeSet", || { let (took, set) = timed(|| &p.tree $op &q.tree); (took, sum(set.into_iter())) })
                 .peer("HashSet", || { let (took, set) = timed(|| &p.hash $op &q.hash); (took, sum(set.into_iter())) }));
@@ -231,6 +253,7 @@ fn whole(bench: &mut Bench, cleared: &Sample, all: &[&Sample]) {
     let mut row = Row::new(format!("clear and add one, {}", cleared.name), 1, 1.0, both!(clear, ids));
     peer!(row, fixedbitset, "fixedbitset", || on_copy(&k.fixed, |s| { s.clear(); s.insert(first as usize); s.contains(first as usize) as u64 }));
     peer!(row, bit_set, "bit-set", || on_copy(&k.bits, |s| { s.clear(); s.insert(first as usize); s.contains(first as usize) as u64 }));
+    peer!(row, roaring, "CRoaring", || on_copy(&k.roaring, |s| { s.clear(); s.add(first); s.contains(first) as u64 }));
     bench.run(row
         .peer("BTreeSet", || on_copy(&k.tree, |s| { s.clear(); s.insert(first); s.contains(&first) as u64 }))
         .peer("HashSet", || on_copy(&k.hash, |s| { s.clear(); s.insert(first); s.contains(&first) as u64 })));
@@ -240,6 +263,7 @@ fn whole(bench: &mut Bench, cleared: &Sample, all: &[&Sample]) {
         let mut row = Row::new(format!("clone, {}", sample.name), 1, 1.0, both!(clone, ids));
         peer!(row, fixedbitset, "fixedbitset", || timed(|| k.fixed.clone().contains(first as usize) as u64));
         peer!(row, bit_set, "bit-set", || timed(|| k.bits.clone().contains(first as usize) as u64));
+        peer!(row, roaring, "CRoaring", || timed(|| k.roaring.clone().contains(first) as u64));
         bench.run(row
             .peer("BTreeSet", || timed(|| k.tree.clone().contains(&first) as u64))
             .peer("HashSet", || timed(|| k.hash.clone().contains(&first) as u64)));
@@ -247,12 +271,14 @@ fn whole(bench: &mut Bench, cleared: &Sample, all: &[&Sample]) {
         let mut row = Row::new(format!("a == b, {} and its copy", sample.name), 1, 1.0, both!(equal, ids, ids));
         peer!(row, fixedbitset, "fixedbitset", || timed(|| (k.fixed == same.fixed) as u64));
         peer!(row, bit_set, "bit-set", || timed(|| (k.bits == same.bits) as u64));
+        peer!(row, roaring, "CRoaring", || timed(|| k.roaring.equals(&same.roaring) as u64));
         bench.run(row
             .peer("BTreeSet", || timed(|| (k.tree == same.tree) as u64))
             .peer("HashSet", || timed(|| (k.hash == same.hash) as u64)));
         let mut row = Row::new(format!("a.contains\\_set(b), {} and its copy", sample.name), 1, 1.0, both!(contains_set, ids, ids));
         peer!(row, fixedbitset, "fixedbitset", || timed(|| same.fixed.is_subset(&k.fixed) as u64));
         peer!(row, bit_set, "bit-set", || timed(|| same.bits.is_subset(&k.bits) as u64));
+        peer!(row, roaring, "CRoaring", || timed(|| same.roaring.is_subset(&k.roaring) as u64));
         bench.run(row
             .peer("BTreeSet", || timed(|| same.tree.is_subset(&k.tree) as u64))
             .peer("HashSet", || timed(|| same.hash.is_subset(&k.hash) as u64)));
@@ -265,6 +291,7 @@ fn builds(bench: &mut Bench, lists: [(&str, &[u32]); 2]) {
         let mut row = Row::new(format!("build from an iterator, {name}"), ids.len(), 1.0, both!(build, ids));
         peer!(row, fixedbitset, "fixedbitset", || timed(|| fixed_of(ids).contains(ids[0] as usize) as u64));
         peer!(row, bit_set, "bit-set", || timed(|| ids.iter().map(|i| *i as usize).collect::<bit_set::BitSet>().contains(ids[0] as usize) as u64));
+        peer!(row, roaring, "CRoaring", || timed(|| Roaring::of(ids).contains(ids[0]) as u64));
         bench.run(row
             .peer("BTreeSet", || timed(|| ids.iter().copied().collect::<BTreeSet<u32>>().contains(&ids[0]) as u64))
             .peer("HashSet", || timed(|| ids.iter().copied().collect::<HashSet<u32>>().contains(&ids[0]) as u64)));
@@ -329,12 +356,15 @@ fn main() {
         let mut row = Row::new(format!("len of a & b, {} and {}", a.name, b.name), a.len() + b.len(), 0.6, both!(and_len, x, y));
         peer!(row, fixedbitset, "fixedbitset", || timed(|| a.peers.fixed.intersection(&b.peers.fixed).count() as u64));
         peer!(row, bit_set, "bit-set", || timed(|| a.peers.bits.intersection(&b.peers.bits).count() as u64));
+        peer!(row, roaring, "CRoaring", || timed(|| a.peers.roaring.and_len(&b.peers.roaring)));
         bench.run(row);
     }
     bench.part("walks of what is not there (ns per item)");
     for (sample, aim) in [(&half, 0.4), (&one, 0.4)] {
         let ids = &sample.ids[..];
-        bench.run(Row::new(format!("walk of !a, {}", sample.name), END - ids.len(), aim, both!(walk_not, ids)));
+        let mut row = Row::new(format!("walk of !a, {}", sample.name), END - ids.len(), aim, both!(walk_not, ids));
+        peer!(row, roaring, "CRoaring", || timed(|| sample.peers.roaring.complement(END as u64).sum()));
+        bench.run(row);
     }
     bench.part("assignments (ns per member of both)");
     let dense_aims = [0.3, 0.6, 0.3];

@@ -1,4 +1,4 @@
-//! The same members in sets of other kinds. `fixedbitset` and `bit-set` are left out where their crates are not found.
+//! The same members in sets of other kinds. `fixedbitset`, `bit-set` and CRoaring are left out where they are not found.
 use std::collections::{BTreeSet, HashSet};
 
 pub const END: usize = 1 << 24;
@@ -9,6 +9,8 @@ pub struct Peers {
     pub fixed: fixedbitset::FixedBitSet,
     #[cfg(bit_set)]
     pub bits: bit_set::BitSet,
+    #[cfg(roaring)]
+    pub roaring: crate::roaring::Roaring,
     pub tree: BTreeSet<u32>,
     pub hash: HashSet<u32>,
 }
@@ -20,6 +22,8 @@ impl Peers {
             fixed: fixed_of(ids),
             #[cfg(bit_set)]
             bits: ids.iter().map(|id| *id as usize).collect(),
+            #[cfg(roaring)]
+            roaring: crate::roaring::Roaring::of(ids),
             tree: ids.iter().copied().collect(),
             hash: ids.iter().copied().collect(),
         }
@@ -57,6 +61,9 @@ pub fn names() -> Vec<&'static str> {
     }
     if cfg!(bit_set) {
         names.push("bit-set");
+    }
+    if cfg!(roaring) {
+        names.push("CRoaring");
     }
     names.extend(["BTreeSet", "HashSet"]);
     names
