@@ -1,4 +1,4 @@
-mod CallerLemmas
+pub mod CallerLemmas
 pub mod Within
 pub mod Merging
 pub mod Blocks

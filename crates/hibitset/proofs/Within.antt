@@ -1,19 +1,28 @@
 -- The members of a set lie in its range.
-use Rattle.std.proofs.Common.{◌≡◌, ℕ, ◌<◌, ◌≤◌, Bool, true, false, ◌&&◌, ◌||◌, nat_lt, sym, ap, ◌∙◌, inl, inr, arith, lit<}
+use Rattle.std.proofs.Common.{◌≡◌, ℕ, ◌/◌, ◌<◌, ◌≤◌, Bool, true, false, ◌&&◌, ◌||◌, nat_lt, sym, ap, ◌∙◌, inl, inr, arith, lit<}
+use Rattle.std.proofs.lemmas.List.{get_or_past}
 use Rattle.std.proofs.lemmas.Bool.{cases_lt, false_from_ne_true}
 use Rattle.std.proofs.lemmas.Bool.Decides.{nat_tests}
 use Rattle.hibitset_base.specs.Connectives.{is_member, IsIntersection, IsUnion, IsExclusive}
 use Rattle.hibitset_base.specs.Virtual.{differ}
 use Rattle.hibitset_base.specs.declared.util.TheConstants.{LAYERS, MAX_EID}
 use Rattle.hibitset_base.proofs.Holding.{member_below}
-use Rattle.hibitset.specs.BitSet.{layers, has}
+use Rattle.hibitset.specs.BitSet.{layers, word_of, has, slice_len}
 use Rattle.hibitset.specs.declared.set.BitSet.{BitSet}
 
+-- a member lies below the bound of all indices
 pub has_within : (set : BitSet) (i : ℕ) → has set i ≡ true → i < MAX_EID
+unfolding has word_of
 has_within set i holds = member_below LAYERS (layers set) (lit< tt) set.stored.shaped i holds
 
+-- from the bound of all indices on there is no member
 pub none_past : (set : BitSet) (i : ℕ) → MAX_EID ≤ i → has set i ≡ false
 none_past set i past = false_from_ne_true (has set i) (λ here. let within = has_within set i here in omega arith)
+
+-- a number whose word lies past the slice is no member
+pub none_past_slice : (set : BitSet) (i : ℕ) → slice_len set 0 ≤ i / 64 → has set i ≡ false
+unfolding has word_of
+none_past_slice set i past = rw (get_or_past set.layer0.items (i / 64) 0 past) (search arith)
 
 member_within : (p : ℕ → Bool) (i : ℕ) → i < MAX_EID → is_member p i ≡ p i
 member_within p i within = ap (λ t. t && p i) (let t : nat_lt i MAX_EID ≡ true = grind (arith, nat_tests) in t)

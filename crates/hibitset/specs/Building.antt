@@ -6,7 +6,7 @@ use Rattle.std.proofs.lemmas.Bool.{cases_lt}
 use Rattle.std.proofs.lemmas.List.{get_or_past}
 use Rattle.std.proofs.lemmas.Nat.Bits.{bit_at-zero}
 use Rattle.hibitset_base.specs.Sets.{bit_of}
-use Rattle.hibitset.specs.BitSet.{has, slice_len}
+use Rattle.hibitset.specs.BitSet.{has, word_of, slice_len}
 use Rattle.hibitset.specs.declared.set.BitSet.{BitSet}
 use Rattle.hibitset_base.specs.Building.{RefusesBelow, TakesAllBelow, StopsAtRefusedBelow}
 use Rattle.hibitset_base.specs.declared.build.BuildError.{BuildError}
@@ -21,6 +21,7 @@ no_bit x b none on = ap bit_of (sym on ∙ ap (λ y. y == 1) (ap (λ z. bit_at z
 
 -- the word of a member lies before that of a number whose word the set lacks
 pub member_apart : (set : BitSet) (i j : ℕ) → has set i ≡ true → slice_len set 0 ≤ j / 64 → i / 64 < j / 64
+unfolding has word_of
 member_apart set i j on lacks = elim (cases_lt (i / 64) (slice_len set 0)) [
   | inl there ↦ omega (arith, there, lacks)
   | inr past ↦ absurd (let h = no_bit (get_or set.layer0.items (i / 64) 0) (i % 64) (get_or_past set.layer0.items (i / 64) 0 past) on in omega (arith, h))

@@ -1,4 +1,5 @@
 //! The set that keeps its words.
+#![tactic(auto, unfolding(crate::specs::BitSet::has, crate::specs::BitSet::word_of))]
 ghost use Rattle.std.specs.Prelude.{◌≡◌, ◌≢◌, ℕ, ◌+◌, ◌-◌, ◌*◌, ◌/◌, ◌%◌, ◌^◌, ◌<◌, ◌≤◌, ◌==◌, ◌||◌, ◌&&◌, not, if◌then◌else◌, Bool, true, false, List, [], ◌∷◌, get_or, length, slice_index_or, OnOk, OnErr, IfOk, IsOk, max, refl};
 ghost use Rattle.std.specs.Int.{bit_at};
 ghost use Rattle.hibitset_base.specs.Words.{IsStored, word_at, holds_at};
@@ -243,14 +244,13 @@ impl BitSet {
 }
 
 impl BitSetLike for BitSet {
-    ghost use Rattle.hibitset.specs.BitSet.{has, word_of};
-    ghost use Rattle.hibitset_base.specs.Stored.{stored_lawful};
+    ghost use Rattle.hibitset.specs.BitSet.{has, word_of, has_is_lawful};
 
     ghost holds = { has };
 
     ghost word = { word_of };
 
-    ghost lawful = { λ s. stored_lawful LAYERS s.stored };
+    ghost lawful = { has_is_lawful };
 
     #[inline]
     fn is_empty(&self) -> bool {

@@ -190,6 +190,7 @@ first-at old past ws calls walks before place bit passed index h read none e f =
 
 pub of_start : (set start : AtomicBitSet) (past : List Event) (layers : Layers) (calls : Calls) (walks : Walks) → start ≡ set → past ≡ [] → layers ≡ set.layers → IsSummed 4 (layer_word layers)
     → ((c : ℕ) → call_in calls c ≡ None) → ((w : ℕ) → shown_in walks w ≡ None) → IsOfPast 4 (has start) (reverse past) (layer_word layers) calls walks
+unfolding word_of has
 of_start set start past layers calls walks e none same exact no-calls no-walks =
     let from : layer_word layers ≡ word_of start = ap (λ (x : Layers). layer_word x) same ∙ ap (λ (x : AtomicBitSet). word_of x) (sym e) in
     let old : holds_at (layer_word layers) ≡ has start = ap (λ (x : ℕ → ℕ → ℕ). holds_at x) from in

@@ -3,7 +3,8 @@ use Rattle.std.specs.Prelude.{◌≡◌, ◌≢◌, ℕ, ◌-◌, ◌/◌, ◌%�
 use Rattle.std.specs.Int.{bit_at}
 use Rattle.std.proofs.Common.{arith, ap, sym, ◌∙◌}
 use Rattle.std.proofs.lemmas.Nat.Bits.{bit_at-zero}
-use Rattle.hibitset_base.specs.Sets.{bit_of}
+use Rattle.hibitset_base.specs.Sets.{bit_of, IsLawful}
+use Rattle.hibitset_base.specs.Stored.{summed_lawful}
 use Rattle.hibitset_atomic.specs.Blocks.{block_word, IsUnmade}
 use Rattle.hibitset_base.specs.Members.{members_below}
 use Rattle.hibitset_atomic.specs.declared.atomic.TheConstants.{ATOMIC_MAX_EID}
@@ -14,7 +15,7 @@ use Rattle.hibitset_atomic.specs.Topped.{topped}
 use Rattle.hibitset_atomic.specs.declared.atomic.AtomicBitSet.{AtomicBitSet}
 
 -- the word of a layer at a position
-abbrev pub word_of : AtomicBitSet → ℕ → ℕ → ℕ
+unfoldable pub word_of : AtomicBitSet → ℕ → ℕ → ℕ
 word_of set = layer_word set.layers
 
 -- the same with one layer more on top
@@ -22,8 +23,13 @@ abbrev pub topped_word : AtomicBitSet → ℕ → ℕ → ℕ
 topped_word set = topped (ATOMIC_LAYERS - 1) (word_of set)
 
 -- the set has the number as a member
-abbrev pub has : AtomicBitSet → ℕ → Bool
+unfoldable pub has : AtomicBitSet → ℕ → Bool
 has set = holds_at (word_of set)
+
+-- the words are those of a set that has these members
+pub has_is_lawful : (set : AtomicBitSet) → IsLawful ATOMIC_LAYERS (has set) (word_of set)
+unfolding has word_of
+has_is_lawful set = summed_lawful ATOMIC_LAYERS set.summed
 
 -- the members, ascending
 abbrev pub members_of : AtomicBitSet → List ℕ
@@ -38,13 +44,14 @@ abbrev pub HasNoNear : AtomicBitSet → ℕ → Type 0
 HasNoNear set i = (j : ℕ) → has set j ≡ true → j / 4096 ≢ i / 4096
 
 -- The block of 4,096 indices that has the number is not made, so that an addition there needs memory. Where some member is near, it is made.
-abbrev pub LacksBlock : AtomicBitSet → ℕ → Type 0
+unfoldable pub LacksBlock : AtomicBitSet → ℕ → Type 0
 LacksBlock set i = IsUnmade set.layers.layer0 (i / 4096)
 
 no_bit : (x b : ℕ) → x ≡ 0 → (bit_at x b == 1) ≡ true → bit_of true ≡ bit_of false
 no_bit x b none on = ap bit_of (sym on ∙ ap (λ y. y == 1) (ap (λ z. bit_at z b) none ∙ bit_at-zero b))
 
 pub block_apart : (set : AtomicBitSet) (i j : ℕ) → has set i ≡ true → LacksBlock set j → i / 4096 ≢ j / 4096
+unfolding has word_of LacksBlock
 block_apart set i j on lacks same =
     let blocks = set.layers.layer0 in
     let at : i / 64 / 64 ≡ j / 4096 = omega (arith, same) in

@@ -1,4 +1,5 @@
 //! The set that can be shared, held alone.
+#![tactic(auto, unfolding(crate::specs::AtomicBitSet::has, crate::specs::AtomicBitSet::word_of, crate::specs::AtomicBitSet::LacksBlock))]
 ghost use Rattle.std.specs.Prelude.{◌≡◌, ◌≢◌, ℕ, ◌+◌, ◌-◌, ◌*◌, ◌/◌, ◌%◌, ◌<◌, ◌≤◌, ◌==◌, ◌||◌, ◌&&◌, not, if◌then◌else◌, Bool, true, false, OnOk, OnErr, IfOk, IsOk};
 ghost use Rattle.hibitset_base.specs.Words.{IsSummed, holds_at};
 ghost use Rattle.hibitset_atomic.specs.Layers.{layer_word};
@@ -153,14 +154,13 @@ impl AtomicBitSet {
 }
 
 impl BitSetLike for AtomicBitSet {
-    ghost use Rattle.hibitset_atomic.specs.AtomicBitSet.{has, word_of};
-    ghost use Rattle.hibitset_base.specs.Stored.{summed_lawful};
+    ghost use Rattle.hibitset_atomic.specs.AtomicBitSet.{has, word_of, has_is_lawful};
 
     ghost holds = { has };
 
     ghost word = { word_of };
 
-    ghost lawful = { λ s. summed_lawful LAYERS s.summed };
+    ghost lawful = { has_is_lawful };
 
     #[inline]
     fn is_empty(&self) -> bool {

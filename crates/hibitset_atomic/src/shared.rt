@@ -32,6 +32,7 @@ pub use parts::{Seat, SharedBitSet};
 pub use walk::SharedWalk;
 
 // The word at a place of the row of all words, layer 0 first.
+#[tactic(auto, unfolding(crate::specs::AtomicBitSet::word_of))]
 fn row_word(set: &AtomicBitSet, place: usize) -> u64
     ensures { result ≡ word_in_row (word_of set.now) place }
 {
@@ -227,7 +228,7 @@ impl SharedBitSet {
     /// The set held alone again, with exact summaries. It has each index from before `share`, and each that the seat knows or reported; with a whole seat it has no others, so it then has exactly the old and the reported ones.
     ///
     /// It is refused for memory alone, which it takes first: then both come back unchanged, and it can be called again. A seat that was dropped took its shares with it, so no seat is whole after that.
-    #[tactic(auto, unfolding(crate::specs::Seats::Came, crate::specs::Seats::Known, crate::specs::Seats::IsOld, crate::specs::Seats::weight_of, crate::specs::Seats::reports_of))]
+    #[tactic(auto, unfolding(crate::specs::Seats::Came, crate::specs::Seats::Known, crate::specs::Seats::IsOld, crate::specs::Seats::weight_of, crate::specs::Seats::reports_of, crate::specs::AtomicBitSet::has, crate::specs::AtomicBitSet::word_of))]
     pub fn settle(self, seat: Seat) -> Result<AtomicBitSet, (SharedBitSet, Seat)>
         requires { Came self seat }
         ensures back { IfErr result (λ r. (r.0 ≡ self) × (r.1 ≡ seat)) }

@@ -1,16 +1,20 @@
 -- Walks and drains in std's words, so that its lemmas on chains apply.
-use Rattle.std.proofs.Common.{◌≡◌, ℕ, ◌≤◌, Bool, List, length, ap, arith}
+use Rattle.std.proofs.Common.{◌≡◌, ℕ, ◌-◌, ◌≤◌, Bool, List, length, ap, arith}
 use Rattle.std.specs.Iterator.Runs.{YieldsInOrder}
 use Rattle.std.proofs.iter.runs.Sources.{from_front, as_is}
-use Rattle.hibitset_base.specs.Members.{members_below}
+use Rattle.hibitset_base.specs.Members.{members, members_below}
 use Rattle.hibitset_base.specs.Walk.{WalkSteps, items_left}
 use Rattle.hibitset_base.specs.Drain.{DrainSteps, items_to_drain}
 use Rattle.hibitset_base.specs.declared.util.TheConstants.{MAX_EID}
 use Rattle.hibitset_base.proofs.Members.{members-length}
 
--- no walk from the top has more items than there are indices
+-- no walk that begins at an index has more items than there are indices from there on
+pub few_left : (p : ℕ → Bool) (from : ℕ) {xs : List ℕ} → xs ≡ members p from (MAX_EID - from) → length xs ≤ MAX_EID - from
+few_left p from {xs} e = let few = members-length p from (MAX_EID - from) in let same = ap length e in omega arith
+
+-- and none from the top more than there are indices
 pub few_items : (p : ℕ → Bool) {xs : List ℕ} → xs ≡ members_below MAX_EID p → length xs ≤ MAX_EID
-few_items p {xs} e = let few = members-length p 0 MAX_EID in let same = ap length e in omega arith
+few_items p = few_left p 0
 
 -- each run of a walk gives what was left, in order
 pub walk_runs : {T : Type 0} (holds : T → ℕ → Bool) (word : T → ℕ → ℕ → ℕ) → YieldsInOrder (WalkSteps holds word) (items_left holds)

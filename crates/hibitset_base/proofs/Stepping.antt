@@ -4,7 +4,7 @@ use Rattle.std.proofs.lemmas.List.Elements.{All-tail}
 use Rattle.hibitset_base.specs.Places.{Place, items_of}
 use Rattle.hibitset_base.specs.Cursor.{left}
 use Rattle.hibitset_base.specs.Reading.{Stands, AllStand, words_of, depth, GoesOn}
-use Rattle.hibitset_base.specs.Walk.{items_left, KeepsOn, WalkSteps}
+use Rattle.hibitset_base.specs.Walk.{items_left, KeepsOn, WalkSteps, set_of}
 use Rattle.hibitset_base.specs.declared.iter.BitIter.{BitIter}
 use Rattle.hibitset_base.specs.declared.util.TheConstants.{LAYERS}
 use Rattle.hibitset_base.proofs.Descending.{depth-left}
@@ -16,6 +16,7 @@ module _ {T : Type 0} (holds : T → ℕ → Bool) (word : T → ℕ → ℕ →
   -- what a walk keeps where it gives no item
   keeps_on : {qs : List Place} → GoesOn LAYERS (holds old.set) (word old.set) old.reads.count (left old.cursor) new.reads.count qs
       → words_of (word old.set) qs ≡ words_of (word old.set) (left new.cursor) → (AllStand (word old.set) qs → AllStand (word old.set) (left new.cursor)) → KeepsOn word old new
+  unfolding set_of
   keeps_on goes same drawn = record {
     set = set;
     read = goes.taken;
@@ -29,6 +30,7 @@ module _ {T : Type 0} (holds : T → ℕ → Bool) (word : T → ℕ → ℕ →
       → MatchOption r (GoesOn LAYERS (holds old.set) (word old.set) old.reads.count (left old.cursor) new.reads.count (left new.cursor))
       (λ i. GoesOn LAYERS (holds old.set) (word old.set) old.reads.count (left old.cursor) new.reads.count ((record { layer = 0; position = i }) ∷ left new.cursor))
       → WalkSteps holds word old r new
+  unfolding items_left
   walk_steps None end goes =
       let none : left new.cursor ≡ [] = end refl in
       let items : items_left holds new ≡ [] = rw (set, none) refl in

@@ -16,7 +16,7 @@ module _ {T : Type 0} where
   lender drain = drain.set.ghost_name
 
   -- the items that the drain has still to give, in order
-  abbrev pub items_to_drain : (T → ℕ → Bool) → DrainBitIter T → List ℕ
+  unfoldable pub items_to_drain : (T → ℕ → Bool) → DrainBitIter T → List ℕ
   items_to_drain holds drain = items_of (holds (drained drain)) (left drain.cursor)
 
   -- the set is the same without the item that was given

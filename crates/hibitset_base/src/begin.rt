@@ -1,11 +1,13 @@
 //! Walks that begin at an index.
-ghost use Rattle.std.specs.Prelude.{◌≡◌, ℕ, ◌+◌, ◌-◌, ◌%◌, ◌<◌, ◌≤◌, Bool, true, false};
+#![tactic(auto, unfolding(crate::specs::Walk::items_left, crate::specs::Walk::set_of))]
+ghost use Rattle.std.specs.Prelude.{◌≡◌, ℕ, ◌+◌, ◌-◌, ◌%◌, ◌<◌, ◌≤◌, Bool, true, false, length};
+ghost use Rattle.std.specs.Iterator.Runs.{YieldsInOrder};
 ghost use Rattle.hibitset_base.specs.Members.{members};
 ghost use Rattle.hibitset_base.specs.From.{HasTail, IsTail, IsAheadFrom, AreOver, BeginsAt, bit_over};
 ghost use Rattle.hibitset_base.specs.Places.{items_of};
 ghost use Rattle.hibitset_base.specs.Cursor.{left};
 ghost use Rattle.hibitset_base.specs.Reading.{AllStand, Encloses, IsBoundBy, words_under, words_of};
-ghost use Rattle.hibitset_base.specs.Walk.{set_of, items_left, words_read, words_ahead, IsDrawn};
+ghost use Rattle.hibitset_base.specs.Walk.{set_of, items_left, words_read, words_ahead, IsDrawn, WalkSteps};
 ghost use Rattle.hibitset_base.specs.declared.util.TheConstants.{LAYERS, MAX_EID};
 
 use crate::cursor::Cursor;
@@ -117,6 +119,8 @@ impl<T: BitSetLike> BitIter<T> {
         ensures read { words_read result ≤ LAYERS }
         ensures bound { (p : ℕ → Bool) (a : ℕ → ℕ → ℕ) → Encloses LAYERS p a (T.word set) → IsBoundBy LAYERS p (words_ahead T.word result) }
         ensures ahead { IsAheadFrom from (words_read result) (words_under (T.word set) LAYERS 0) (words_ahead T.word result) }
+        ensures runs { YieldsInOrder (WalkSteps T.holds T.word) (items_left T.holds) }
+        ensures fits { length (items_left T.holds result) ≤ MAX_EID - from }
     {
         let mut reads = Reads::none();
         if from as usize >= MAX_EID {

@@ -16,7 +16,7 @@ use Rattle.hibitset_base.proofs.Members.{members-none}
 use Rattle.hibitset_run.specs.declared.script.Slot.{Slot}
 use Rattle.hibitset_run.specs.declared.script.Command.TheVariants as command
 use Rattle.hibitset_run.specs.Script.{bool, done, no_memory, members_of, has_members, are_same, is_within, sets_of, with_set, slot_number, IsStep}
-use Rattle.hibitset_run.proofs.Members.{has-out_of_range}
+use Rattle.hibitset.proofs.CallerLemmas.{none_past}
 use Rattle.hibitset_run.proofs.Kept.{sets_of-at, sets_of-other, sets_of-alike, sets_of-set, sets_of-put_back, sets_of-put_back_same, with_set-same}
 
 and_itself : (a : Bool) → (a && a) ≡ a
@@ -43,7 +43,7 @@ differ_false false = refl
 no_member : (set : BitSet) → members_of (has set) ≡ [] → (i : ℕ) → has set i ≡ false
 no_member set empty i = elim (cases_lt i MAX_EID) [
   | inl below ↦ same_list (has set) (λ j. false) 0 MAX_EID (empty ∙ sym (members-none (λ j. false) 0 MAX_EID (λ j from end. refl))) i (omega arith) (omega arith)
-  | inr out ↦ has-out_of_range set i out
+  | inr out ↦ none_past set i out
 ]
 
 -- a test that tells that a set has no members

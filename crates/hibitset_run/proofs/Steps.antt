@@ -12,7 +12,8 @@ use Rattle.hibitset_run.specs.declared.script.Slot.{Slot}
 use Rattle.hibitset_run.specs.declared.script.Command.TheVariants as command
 use Rattle.hibitset_run.specs.declared.script.Layers.{Layers}
 use Rattle.hibitset_run.specs.Script.{bool, list, count, done, no_memory, members_of, has_members, is_past_all_words, sets_of, slot_number, unsplit_size, parts_in, IsStep}
-use Rattle.hibitset_run.proofs.Members.{has-past, has-in_range}
+use Rattle.hibitset.proofs.CallerLemmas.{none_past_slice}
+use Rattle.hibitset_run.proofs.Members.{has-in_range}
 use Rattle.hibitset_run.proofs.Kept.{sets_of-at, sets_of-set, sets_of-set_same}
 
 module _ (kept : List BitSet) (slot : Slot) (d : BitSet) (long : length kept ≡ 8) where
@@ -28,7 +29,7 @@ module _ (kept : List BitSet) (slot : Slot) (d : BitSet) (long : length kept ≡
   past_words : (set : BitSet) (id : ℕ) → slice_len set 0 ≤ id / 64 → is_past_all_words (has set) id ≡ true
   past_words set id past =
       list_all-from_AllPass (λ i. nat_lt (i / 64) (id / 64)) (members_of (has set)) (all_found (λ i. nat_lt (i / 64) (id / 64) ≡ true) (has set) 0 MAX_EID (λ i from below holds.
-      let before : i / 64 < slice_len set 0 = elim (cases_lt (i / 64) (slice_len set 0)) [ inl lt ↦ lt | inr ge ↦ absurd (false≢true (sym (has-past set i ge) ∙ holds)) ] in
+      let before : i / 64 < slice_len set 0 = elim (cases_lt (i / 64) (slice_len set 0)) [ inl lt ↦ lt | inr ge ↦ absurd (false≢true (sym (none_past_slice set i ge) ∙ holds)) ] in
       grind (arith, nat_tests)))
 
   pub refused : (id : ℕ) (new : BitSet) → id < MAX_EID → (id / 64 < slice_len (get_or kept (slot_number slot) d) 0 → false ≡ true)

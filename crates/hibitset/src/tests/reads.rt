@@ -19,14 +19,14 @@ impl Counting {
 
 impl BitSetLike for Counting {
     ghost use Rattle.hibitset.specs.BitSet.{has, word_of};
-    ghost use Rattle.hibitset_base.specs.Stored.{stored_lawful};
+    ghost use Rattle.hibitset.specs.BitSet.{has_is_lawful};
     ghost use Rattle.hibitset_base.specs.declared.util.TheConstants.{LAYERS};
 
     ghost holds = { λ s. has s.set };
 
     ghost word = { λ s. word_of s.set };
 
-    ghost lawful = { λ s. stored_lawful LAYERS s.set.stored };
+    ghost lawful = { λ s. has_is_lawful s.set };
 
     fn layer3(&self) -> usize {
         self.count();
@@ -78,7 +78,7 @@ pub(super) struct Everywhere {
 
 impl BitSetLike for Everywhere {
     ghost use Rattle.hibitset.specs.BitSet.{has, word_of};
-    ghost use Rattle.hibitset_base.specs.Stored.{stored_lawful};
+    ghost use Rattle.hibitset.specs.BitSet.{has_is_lawful};
     ghost use Rattle.hibitset.specs.Strangers.{full_word, full_lawful};
     ghost use Rattle.hibitset_base.specs.declared.util.TheConstants.{LAYERS};
 
@@ -86,7 +86,7 @@ impl BitSetLike for Everywhere {
 
     ghost word = { λ s. full_word (word_of s.counting.set) };
 
-    ghost lawful = { λ s. full_lawful LAYERS (stored_lawful LAYERS s.counting.set.stored) };
+    ghost lawful = { λ s. full_lawful LAYERS (has_is_lawful s.counting.set) };
 
     fn layer3(&self) -> usize {
         self.counting.count();

@@ -11,7 +11,7 @@ struct Everywhere {
 
 impl BitSetLike for Everywhere {
     ghost use Rattle.hibitset.specs.BitSet.{has, word_of};
-    ghost use Rattle.hibitset_base.specs.Stored.{stored_lawful};
+    ghost use Rattle.hibitset.specs.BitSet.{has_is_lawful};
     ghost use Rattle.hibitset.specs.Strangers.{full_word, full_lawful};
     ghost use Rattle.hibitset_base.specs.declared.util.TheConstants.{LAYERS};
 
@@ -19,7 +19,7 @@ impl BitSetLike for Everywhere {
 
     ghost word = { λ s. full_word (word_of s.set) };
 
-    ghost lawful = { λ s. full_lawful LAYERS (stored_lawful LAYERS s.set.stored) };
+    ghost lawful = { λ s. full_lawful LAYERS (has_is_lawful s.set) };
 
     fn layer3(&self) -> usize {
         !0

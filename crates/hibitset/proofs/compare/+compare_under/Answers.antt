@@ -4,15 +4,15 @@ use Rattle.std.proofs.Math.Nat.{pow-suc, div-div-eq-div-mul}
 use Rattle.std.proofs.lemmas.Bool.Decides.{nat_tests}
 use Rattle.std.proofs.lemmas.Nat.Bits.{bit_at-zero}
 use Rattle.hibitset_base.specs.declared.util.TheConstants.{LAYERS}
-use Rattle.hibitset.specs.BitSet.{has, word_of}
+use Rattle.hibitset.specs.BitSet.{has, word_of, has_is_lawful}
 use Rattle.hibitset.specs.declared.set.BitSet.{BitSet}
-use Rattle.hibitset_base.specs.Stored.{stored_lawful}
 use Rattle.hibitset.specs.Comparing.{BitsPass}
 use Rattle.hibitset.proofs.Merging.{our_word, covers_below}
 use Rattle.hibitset.proofs.Comparing.{PassedPast, all_pass, passed_step, passed_under}
 use Rattle.hibitset.proofs.compare.+compare_under.Goals as goal
 
 pub returns-then-misses-ne0-clause-no : goal.returns-then-misses-ne0-clause-no
+unfolding word_of
 returns-then-misses-ne0-clause-no g t c = λ _ all.
     let ours = c.args.ours.now in
     let theirs = c.args.theirs.now in
@@ -41,7 +41,8 @@ module _ (allowed : Bool → Bool → Bool) (alone : (a : Bool) (x b : ℕ) → 
   whole = let s : layer ≡ suc (layer - 1) = omega arith in ap (λ z. 64 ^ z) s ∙ pow-suc 64 (layer - 1)
 
   all_under : (left : ℕ) → left ≡ 0 → PassedPast (λ p. BitsPass allowed (word_of ours 0 p) (word_of theirs 0 p)) (64 ^ (layer - 1)) place y left → (p : ℕ) → p / 64 ^ layer ≡ place → BitsPass allowed (word_of ours 0 p) (word_of theirs 0 p)
-  all_under left none past p e = passed_under LAYERS allowed alone (has ours) (has theirs) (word_of ours) (word_of theirs) (stored_lawful LAYERS ours.stored) (stored_lawful LAYERS theirs.stored) (layer - 1) place x y left
+  unfolding has word_of
+  all_under left none past p e = passed_under LAYERS allowed alone (has ours) (has theirs) (word_of ours) (word_of theirs) (has_is_lawful ours) (has_is_lawful theirs) (layer - 1) place x y left
       (rw above within) (rw above range) (covers_below (word_of ours) layer place x above within ours.stored.summed x-is) (covers_below (word_of theirs) layer place y above within theirs.stored.summed y-is) pass none past p
       (div-div-eq-div-mul p (64 ^ (layer - 1)) 64 ∙ (ap (λ z. p / z) (sym whole) ∙ e))
 

@@ -1,11 +1,12 @@
 use Rattle.std.proofs.Common.{lit<}
 use Rattle.hibitset_base.specs.declared.util.TheConstants.{LAYERS}
-use Rattle.hibitset.specs.BitSet.{layers, word_of}
+use Rattle.hibitset.specs.BitSet.{layers, word_of, has}
 use Rattle.hibitset_base.proofs.Holding.{end_of_words}
 use Rattle.hibitset.proofs.Comparing.{members_pass, words_pass, decided}
 use Rattle.hibitset.proofs.compare.compare.Goals as goal
 
 pub returns : goal.returns
+unfolding word_of has
 returns g c =
     let ours = c.args.ours.now in
     let theirs = c.args.theirs.now in

@@ -6,6 +6,7 @@ use Rattle.hibitset.proofs.Comparing.{unmissed_step}
 use Rattle.hibitset.proofs.compare.compare_block.Goals as goal
 
 pub loop-bit-preserved : goal.loop-bit-preserved
+unfolding word_of
 loop-bit-preserved g c =
     let ours = c.args.ours.now in
     let theirs = c.args.theirs.now in

@@ -9,6 +9,7 @@ use Rattle.hibitset_atomic.proofs.WalkLaws.{lowest-first, few-reads, none-empty}
 use Rattle.hibitset_atomic.proofs.After.{stands-lowest}
 use Rattle.hibitset_atomic.proofs.Layered.{held_below}
 use Rattle.hibitset_atomic.proofs.Stepped.{beyond-none}
+use Rattle.hibitset_atomic.specs.AtomicBitSet.{has, word_of}
 use Rattle.hibitset_atomic.proofs.laws.world_laws.Goals as goal
 
 -- an old member was never reported new, and every other was
@@ -22,6 +23,7 @@ told : (old written stands : Bool) (reports : ℕ) → stands ≡ (old || writte
 told old written stands reports s r = rw (s, r) (old_is old written)
 
 pub returns : goal.returns
+unfolding has word_of
 returns c = record {
   honest = λ world w walk e. honest 4 (old_of world) (past_of world) w walk (lit< tt) e;
   lowest = λ world w walk e. lowest-first 4 (old_of world) (past_of world) w walk (lit< tt) e;

@@ -1,9 +1,8 @@
 use Rattle.std.proofs.Common.{◌≡◌, ℕ, suc, ◌+◌, ◌-◌, ◌*◌, ◌/◌, ◌%◌, ◌^◌, ◌<◌, ap, ◌∙◌, arith}
 use Rattle.std.proofs.Math.Nat.{pow-suc}
 use Rattle.hibitset_base.specs.declared.util.TheConstants.{LAYERS}
-use Rattle.hibitset.specs.BitSet.{word_of, has}
+use Rattle.hibitset.specs.BitSet.{has, has_is_lawful, word_of}
 use Rattle.hibitset.specs.Merging.{Covers}
-use Rattle.hibitset_base.specs.Stored.{stored_lawful}
 use Rattle.hibitset.proofs.Merging.{past_step, under_after, bit_above, our_word, covers_below}
 use Rattle.hibitset.proofs.set.BitSet.+merge_under.Goals as goal
 
@@ -16,6 +15,7 @@ loop-left-preserved g t c =
     }
 
 pub returns-clause-words : goal.returns-clause-words
+unfolding word_of
 returns-clause-words g t c =
     let self = c.args.self.now in
     let layer : ℕ = c.args.layer in
@@ -31,5 +31,5 @@ returns-clause-words g t c =
     let covers : Covers (words (layer - 1)) place ours = covers_below words layer place ours above within self.stored.summed ours-is in
     under_after _ _ _ _ (64 ^ (layer - 1)) (64 ^ layer) place c.visit-visited.result c.loop-left.left whole c.loop-left-test.false c.loop-left.invariant.words
     (λ p e off. g.met.O.Operator.keeps ours c.args.theirs (p / 64 ^ (layer - 1) % 64) (words 0 p) (g.B.BitSetLike.word c.args.other.now 0 p) (rw c.visit-visited.ensures at off)
-    (λ some. bit_above LAYERS (has self) words (stored_lawful LAYERS self.stored) (layer - 1) place p ours inner range e covers some)
+    (λ some. bit_above LAYERS (has self) words (has_is_lawful self) (layer - 1) place p ours inner range e covers some)
     (λ some. bit_above LAYERS (g.B.BitSetLike.holds c.args.other.now) (g.B.BitSetLike.word c.args.other.now) (g.met.B.BitSetLike.lawful c.args.other.now) (layer - 1) place p c.args.theirs inner range e c.requires.theirs some))

@@ -1,5 +1,5 @@
 use Rattle.std.proofs.Common.{◌≡◌, ℕ, ◌+◌, ◌/◌, ◌<◌, ◌≤◌, length, get_or, List, [], ◌∷◌, arith, lit<, max}
-use Rattle.hibitset_base.specs.declared.util.TheConstants.{LAYERS}
+use Rattle.hibitset_base.specs.declared.util.TheConstants.{LAYERS, MAX_EID}
 use Rattle.hibitset_base.specs.Words.{IsStored}
 use Rattle.hibitset_base.proofs.Shapes.{stored_longer}
 use Rattle.hibitset.proofs.set.BitSet.grow.Goals as goal
@@ -10,7 +10,7 @@ record Lengthens (xs ys : List ℕ) (place : ℕ) : Type 0 where
   keeps : length xs ≤ length ys
   most : length ys ≤ max (length xs) (place + 1)
 
-module _ (a b c : List ℕ) (d i : ℕ) (stored : IsStored LAYERS (a ∷ b ∷ c ∷ (d ∷ []) ∷ [])) (within : i < 16777216) (c' : List ℕ) (third : Lengthens c c' (i / 262144)) where
+module _ (a b c : List ℕ) (d i : ℕ) (stored : IsStored LAYERS (a ∷ b ∷ c ∷ (d ∷ []) ∷ [])) (within : i < MAX_EID) (c' : List ℕ) (third : Lengthens c c' (i / 262144)) where
   stored2 : IsStored LAYERS (a ∷ b ∷ c' ∷ (d ∷ []) ∷ [])
   stored2 = stored_longer LAYERS 2 (a ∷ b ∷ c ∷ (d ∷ []) ∷ []) c' stored (lit< tt) third.same third.keeps
       (λ _. let h = stored.shaped.short 2 (lit< tt) in let k = third.most in omega arith) (λ below. absurd (omega arith))

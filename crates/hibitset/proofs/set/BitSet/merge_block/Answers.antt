@@ -1,4 +1,4 @@
-use Rattle.std.proofs.Common.{rules, ◌≡◌, ◌≢◌, ℕ, zero, suc, ◌/◌, ◌%◌, ◌^◌, ◌<◌, ◌≤◌, ◌==◌, not, List, [], ◌∷◌, get_or, length, arith, lit<, lit≤, refl, ap, sym, ◌∙◌}
+use Rattle.std.proofs.Common.{rules, ◌≡◌, ◌≢◌, ℕ, ◌-◌, zero, suc, ◌/◌, ◌%◌, ◌^◌, ◌<◌, ◌≤◌, ◌==◌, not, List, [], ◌∷◌, get_or, length, arith, lit<, lit≤, refl, ap, sym, ◌∙◌}
 use Rattle.std.specs.Int.{bit_at}
 use Rattle.std.proofs.Math.ListN.{set}
 use Rattle.std.proofs.lemmas.List.{length-set, get_or-set_same, get_or-set_other, get_or_past}
@@ -9,6 +9,7 @@ use Rattle.hibitset.specs.Merging.{Summarizes, MergedUnder, AreWords}
 use Rattle.hibitset_base.proofs.Shapes.{get_or_any}
 use Rattle.hibitset.proofs.Merging.{block_merged}
 use Rattle.hibitset.proofs.Blocks.{BlockPutUpTo, block_first, block_next, block_last}
+use Rattle.hibitset.specs.BitSet.{word_of}
 use Rattle.hibitset.proofs.set.BitSet.merge_block.Goals as goal
 
 -- the word with the bit that tells whether the word below is 0
@@ -16,7 +17,7 @@ record SetsBit (before x b below : ℕ) : Type 0 where
   same : (i : ℕ) → i < 64 → i ≢ b → bit_at x i ≡ bit_at before i
   here : bit_at x b ≡ bit_of (not (below == 0))
 
-module _ (a b c : List ℕ) (d q : ℕ) (stored : IsStored LAYERS (a ∷ b ∷ c ∷ (d ∷ []) ∷ [])) (range : q < 4096) (room1 : q < length b) where
+module _ (a b c : List ℕ) (d q : ℕ) (stored : IsStored LAYERS (a ∷ b ∷ c ∷ (d ∷ []) ∷ [])) (range : q < 64 ^ (LAYERS - 2)) (room1 : q < length b) where
   room2 : q / 64 < length c
   room2 = let h = stored.shaped.covered 1 (lit< tt) in omega arith
 
@@ -53,7 +54,7 @@ module _ (a b c : List ℕ) (d q : ℕ) (stored : IsStored LAYERS (a ∷ b ∷ c
     after = block_last LAYERS 2 (a ∷ b ∷ c ∷ (d ∷ []) ∷ []) (a' ∷ set b q s ∷ set c (q / 64) u ∷ (t ∷ []) ∷ []) q (lit≤ tt) third stored.summed
 
 -- where a block has no room, the other has no word
-no_room : (a b c : List ℕ) (d q : ℕ) (merged : ℕ → ℕ → ℕ) (theirs : ℕ → ℕ) → IsStored LAYERS (a ∷ b ∷ c ∷ (d ∷ []) ∷ []) → q < 4096 → length b ≤ q → ((p : ℕ) → p < 262144 → length a ≤ p → merged 0 (theirs p) ≡ 0)
+no_room : (a b c : List ℕ) (d q : ℕ) (merged : ℕ → ℕ → ℕ) (theirs : ℕ → ℕ) → IsStored LAYERS (a ∷ b ∷ c ∷ (d ∷ []) ∷ []) → q < 64 ^ (LAYERS - 2) → length b ≤ q → ((p : ℕ) → p < 64 ^ (LAYERS - 1) → length a ≤ p → merged 0 (theirs p) ≡ 0)
     → MergedUnder merged theirs (λ p. get_or a p 0) (λ p. get_or a p 0) 64 q
 no_room a b c d q merged theirs stored range past fits = record {
   inside = λ p e.
@@ -64,6 +65,7 @@ no_room a b c d q merged theirs stored range past fits = record {
 }
 
 pub returns-then-len-place-clause-words : goal.returns-then-len-place-clause-words
+unfolding word_of
 returns-then-len-place-clause-words g c =
     let self = c.args.self.now in
     no_room self.layer0.items self.layer1.items self.layer2.items self.layer3 c.args.place (g.O.Operator.merged) (g.B.BitSetLike.word c.args.other.now 0) self.stored c.requires.range (omega arith) c.requires.fits
@@ -98,6 +100,7 @@ invariant_of-self g c =
     }
 
 pub returns-clause-words : goal.returns-clause-words
+unfolding word_of
 returns-clause-words g c =
     let self = c.args.self.now in
     let visit = c.visit-visited.ensures in

@@ -1,17 +1,19 @@
 use Rattle.std.proofs.Common.{◌≡◌, ◌/◌, ◌%◌, ◌==◌, get_or, refl, ap, sym, ◌∙◌, arith, inl, inr}
 use Rattle.std.specs.Int.{bit_at}
 use Rattle.hibitset_base.specs.Deciding.{same_or_not, eq_same, eq_other}
-use Rattle.hibitset.specs.BitSet.{word_of}
+use Rattle.hibitset.specs.BitSet.{word_of, has}
 use Rattle.hibitset_base.proofs.Holding.{bit_test, holds_put, turned}
 use Rattle.hibitset_base.proofs.Shapes.{get_or_any}
 use Rattle.hibitset.proofs.set.BitSet.put.Goals as goal
 
 pub put_word-requires-clause-before : goal.put_word-requires-clause-before
+unfolding word_of
 put_word-requires-clause-before c =
     let self = c.args.self.now in
     c.index-before.ensures ∙ get_or_any self.layer0.items (c.args.id / 64) c.index-before.result.now 0 c.requires
 
 pub returns-then-word-before-clause-was : goal.returns-then-word-before-clause-was
+unfolding has word_of
 returns-then-word-before-clause-was c =
     let self = c.args.self.now in
     let before : c.index-before.result.now ≡ get_or self.layer0.items (c.args.id / 64) 0 = c.index-before.ensures ∙ get_or_any self.layer0.items (c.args.id / 64) c.index-before.result.now 0 c.requires in
@@ -24,6 +26,7 @@ returns-then-word-before-clause-put c = λ i. elim (same_or_not i c.args.id) [
 ]
 
 pub returns-clause-was : goal.returns-clause-was
+unfolding has word_of
 returns-clause-was c =
     let self = c.args.self.now in
     let before : c.index-before.result.now ≡ get_or self.layer0.items (c.args.id / 64) 0 = c.index-before.ensures ∙ get_or_any self.layer0.items (c.args.id / 64) c.index-before.result.now 0 c.requires in
@@ -31,6 +34,7 @@ returns-clause-was c =
     ∙ ap (λ v. bit_at v (c.args.id % 64) == 1) before
 
 pub returns-clause-put : goal.returns-clause-put
+unfolding word_of has
 returns-clause-put c =
     let self = c.args.self.now in
     let word : c.index-before.result.now ≡ get_or self.layer0.items (c.args.id / 64) 0 = c.index-before.ensures ∙ get_or_any self.layer0.items (c.args.id / 64) c.index-before.result.now 0 c.requires in

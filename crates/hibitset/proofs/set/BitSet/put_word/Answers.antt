@@ -1,4 +1,4 @@
-use Rattle.std.proofs.Common.{rules, ◌≡◌, ◌≢◌, ℕ, zero, suc, ◌/◌, ◌%◌, ◌^◌, ◌<◌, ◌==◌, not, List, [], ◌∷◌, get_or, length, refl, ◌∙◌, ap, arith, lit<}
+use Rattle.std.proofs.Common.{rules, ◌≡◌, ◌≢◌, ℕ, ◌-◌, zero, suc, ◌/◌, ◌%◌, ◌^◌, ◌<◌, ◌==◌, not, List, [], ◌∷◌, get_or, length, refl, ◌∙◌, ap, arith, lit<}
 use Rattle.std.specs.Int.{bit_at}
 use Rattle.hibitset_base.specs.Sets.{bit_of}
 use Rattle.hibitset_base.specs.declared.util.TheConstants.{LAYERS}
@@ -22,7 +22,7 @@ top_others d e zero other = absurd (other refl)
 top_others d e (suc p) other = refl
 
 module _ (a b c : List ℕ) (d q : ℕ) (stored : IsStored LAYERS (a ∷ b ∷ c ∷ (d ∷ []) ∷ [])) (room : q < length a) where
-  short : q < 262144
+  short : q < 64 ^ (LAYERS - 1)
   short = let h = stored.shaped.short 0 (lit< tt) in omega arith
 
   room1 : q / 64 < length b
@@ -77,7 +77,7 @@ replace-requires-3-clause-before c =
 pub with_bit-self-requires : goal.with_bit-self-requires
 with_bit-self-requires c =
     let self = c.args.self.now in
-    let low : c.args.place < 262144 = short self.layer0.items self.layer1.items self.layer2.items self.layer3 c.args.place self.stored c.requires.place in
+    let low : c.args.place < 64 ^ (LAYERS - 1) = short self.layer0.items self.layer1.items self.layer2.items self.layer3 c.args.place self.stored c.requires.place in
     omega (arith, low)
 
 pub invariant_of-self : goal.invariant_of-self

@@ -2,8 +2,8 @@ use Rattle.std.proofs.Common.{arith, ◌≡◌, ℕ, ◌==◌, ◌-◌, true}
 use Rattle.std.proofs.lemmas.Bool.Decides.{nat_tests}
 use Rattle.hibitset_base.specs.declared.util.TheConstants.{LAYERS}
 use Rattle.hibitset_base.proofs.Bounds.{top_tells_empty}
-use Rattle.hibitset.specs.BitSet.{has, word_of}
-use Rattle.hibitset_base.specs.Stored.{stored_lawful, stored_exact}
+use Rattle.hibitset.specs.BitSet.{has, word_of, has_is_lawful}
+use Rattle.hibitset_base.specs.Stored.{stored_exact}
 use Rattle.hibitset.proofs.set.BitSetBitSetLike.is_empty.Goals as goal
 
 zero_test : (x : ℕ) → (x == 0) ≡ true → x ≡ 0
@@ -13,7 +13,8 @@ test_zero : (x : ℕ) → x ≡ 0 → (x == 0) ≡ true
 test_zero x h = grind (arith, nat_tests)
 
 pub returns : goal.returns
+unfolding word_of
 returns c =
     let self = c.args.self.now in
-    let top = top_tells_empty (LAYERS - 1) (has self) (word_of self) (stored_lawful LAYERS self.stored) (stored_exact LAYERS self.stored) self.stored.shaped.words in
+    let top = top_tells_empty (LAYERS - 1) (has self) (word_of self) (has_is_lawful self) (stored_exact LAYERS self.stored) self.stored.shaped.words in
     (λ h. top.0 (zero_test self.layer3 h), λ h. test_zero self.layer3 (top.1 h))

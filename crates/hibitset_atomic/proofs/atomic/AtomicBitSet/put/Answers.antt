@@ -3,9 +3,11 @@ use Rattle.std.specs.Int.{bit_at}
 use Rattle.hibitset_base.specs.Deciding.{same_or_not, eq_same, eq_other}
 use Rattle.hibitset_atomic.specs.Layers.{layer_word}
 use Rattle.hibitset_base.proofs.Holding.{bit_test, holds_put, turned}
+use Rattle.hibitset_atomic.specs.AtomicBitSet.{has, word_of}
 use Rattle.hibitset_atomic.proofs.atomic.AtomicBitSet.put.Goals as goal
 
 pub returns-then-word-before-clause-was : goal.returns-then-word-before-clause-was
+unfolding has word_of
 returns-then-word-before-clause-was c =
     sym (bit_test c.args.stands) ∙ ap (λ x. x == 1) (sym c.with_bit-word.ensures.here ∙ ap (λ v. bit_at v (c.args.id % 64)) (c.if-word-before.true ∙ c.layer0-before.ensures))
 
@@ -16,11 +18,13 @@ returns-then-word-before-clause-put c = λ i. elim (same_or_not i c.args.id) [
 ]
 
 pub returns-clause-was : goal.returns-clause-was
+unfolding has word_of
 returns-clause-was c =
     turned c.layer0-before.result c.with_bit-word.result (c.args.id % 64) c.args.stands (omega arith) (omega arith) c.if-word-before.false c.with_bit-word.ensures.same c.with_bit-word.ensures.here
     ∙ ap (λ v. bit_at v (c.args.id % 64) == 1) c.layer0-before.ensures
 
 pub returns-clause-put : goal.returns-clause-put
+unfolding has word_of
 returns-clause-put c =
     let put = c.put_word.ensures in
     holds_put (layer_word c.args.self.now.layers) (layer_word c.put_word.new.self) c.args.id c.args.stands

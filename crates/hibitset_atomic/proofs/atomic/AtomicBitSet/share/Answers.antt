@@ -1,5 +1,5 @@
 use Rattle.std.proofs.Common.{◌≡◌, ℕ, ◌<◌, ap, arith, sym, ◌∙◌, slice_index}
-use Rattle.hibitset_atomic.specs.AtomicBitSet.{word_of}
+use Rattle.hibitset_atomic.specs.AtomicBitSet.{word_of, has}
 use Rattle.hibitset_atomic.specs.Seats.{Came, Known, IsOld, weight_of, reports_of}
 use Rattle.hibitset_atomic.proofs.Keeps.{opens_}
 use Rattle.hibitset_atomic.proofs.Layered.{layers_fit, held_below}
@@ -7,7 +7,7 @@ use Rattle.hibitset_atomic.proofs.Rows.{row_rooted, row_summed, lit_held, held_l
 use Rattle.hibitset_atomic.proofs.atomic.AtomicBitSet.share.Goals as goal
 
 pub of_words-requires : goal.of_words-requires
-unfolding Came Known IsOld weight_of reports_of
+unfolding Came Known IsOld weight_of reports_of word_of
 of_words-requires c =
     let set = c.args.self in
     let row = c.in-Ok.row.items in
@@ -16,7 +16,7 @@ of_words-requires c =
     (row_rooted (word_of set) row set.summed (layers_fit set.layers) e.long e.words) (row_summed (word_of set) row set.summed (layers_fit set.layers) e.long e.words)
 
 pub returns-clause-old : goal.returns-clause-old
-unfolding Came Known IsOld weight_of reports_of
+unfolding Came Known IsOld weight_of reports_of has word_of
 returns-clause-old c = λ i.
     let set = c.args.self in
     let row = c.in-Ok.row.items in

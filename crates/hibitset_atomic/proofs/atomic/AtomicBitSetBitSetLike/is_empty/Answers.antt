@@ -14,6 +14,7 @@ test_zero : (x : ℕ) → x ≡ 0 → (x == 0) ≡ true
 test_zero x h = grind (arith, nat_tests)
 
 pub returns : goal.returns
+unfolding has word_of
 returns c =
     let self = c.args.self.now in
     let top = top_tells_empty (LAYERS - 1) (has self) (word_of self) (summed_lawful LAYERS self.summed) (summed_exact LAYERS self.summed) (layers_fit self.layers) in

@@ -2,6 +2,7 @@ use Rattle.std.proofs.Common.{◌≡◌, ◌≢◌, ℕ, ◌==◌, ◌&&◌, not
 use Rattle.std.proofs.Math.Bool.{and-true}
 use Rattle.std.proofs.lemmas.Bool.Decides.{nat_tests}
 use Rattle.hibitset_base.specs.Cursor.{left}
+use Rattle.hibitset_base.specs.Drain.{items_to_drain}
 use Rattle.hibitset_base.specs.declared.util.TheConstants.{LAYERS}
 use Rattle.hibitset_base.proofs.Draining.{items_without, later_than}
 use Rattle.hibitset_base.proofs.drain.DrainBitIterIterator.next.Goals as goal
@@ -13,6 +14,7 @@ kept : (b c d : Bool) → d ≡ (b && not c) → c ≡ false → b ≡ d
 kept b c d e f = sym (e ∙ (ap (λ x. b && not x) f ∙ and-true b))
 
 pub returns-clause-steps : goal.returns-clause-steps
+unfolding items_to_drain
 returns-clause-steps g c =
     let i : ℕ = c.in_ok-index.index in
     let cursor = c.step.new.cursor in

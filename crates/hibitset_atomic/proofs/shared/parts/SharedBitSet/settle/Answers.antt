@@ -1,6 +1,6 @@
 use Rattle.std.proofs.Common.{◌∙◌, sym, refl}
 use Rattle.std.specs.Slots.{slots_items}
-use Rattle.hibitset_atomic.specs.AtomicBitSet.{word_of}
+use Rattle.hibitset_atomic.specs.AtomicBitSet.{word_of, has}
 use Rattle.hibitset_atomic.specs.Seats.{Came, Known, IsOld, weight_of, reports_of}
 use Rattle.hibitset_atomic.proofs.Keeps.{front_whole}
 use Rattle.hibitset_atomic.proofs.Layered.{held_below}
@@ -8,7 +8,7 @@ use Rattle.hibitset_atomic.proofs.Rows.{held_lit}
 use Rattle.hibitset_atomic.proofs.shared.parts.SharedBitSet.settle.Goals as goal
 
 pub returns-clause-whole : goal.returns-clause-whole
-unfolding Came Known IsOld weight_of reports_of
+unfolding Came Known IsOld weight_of reports_of has word_of
 returns-clause-whole c = λ all i held.
     let f = c.close_with-closed.ensures.values.2 in
     let small = held_below c.fill.new.set.layers i held in
