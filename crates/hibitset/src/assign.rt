@@ -1,5 +1,6 @@
 //! Assignments: a set put together with any other, whole words at a time.
 #![tactic(auto, unfolding(crate::specs::BitSet::has, crate::specs::BitSet::word_of))]
+
 ghost use Rattle.std.specs.Prelude.{◌≡◌, ◌≢◌, ℕ, ◌+◌, ◌-◌, ◌*◌, ◌/◌, ◌^◌, ◌<◌, ◌≤◌, ◌||◌, ◌&&◌, ◌↔◌, false, get_or, length, OnOk, OnErr, IsOk};
 ghost use Rattle.std.specs.Int.{bit_at};
 ghost use Rattle.hibitset_base.specs.Sets.{bit_of};

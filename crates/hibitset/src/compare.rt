@@ -1,5 +1,6 @@
 //! Comparisons of two sets, whole words at a time.
 #![tactic(auto, unfolding(crate::specs::BitSet::has, crate::specs::BitSet::word_of))]
+
 ghost use Rattle.std.specs.Prelude.{◌≡◌, ℕ, ◌+◌, ◌-◌, ◌*◌, ◌/◌, ◌%◌, ◌^◌, ◌<◌, ◌≤◌, ◌==◌, ◌↔◌, Bool, true, false, not, IsTrue, refl};
 ghost use Rattle.std.specs.Int.{bit_at};
 ghost use Rattle.std.specs.Ordering.{on};

@@ -1,7 +1,7 @@
 //! What callers know of walks and assignments, from the public contracts alone.
-ghost use Rattle.std.specs.Prelude.{◌≡◌, ℕ, ◌+◌, ◌≤◌, length, IfOk, OnOk, OnErr};
+ghost use Rattle.std.specs.Prelude.{◌≡◌, ℕ, ◌+◌, ◌-◌, ◌≤◌, ◌&&◌, length, IfOk, OnOk, OnErr};
 ghost use Rattle.hibitset_base.specs.Connectives.{IsIntersection, IsUnion, IsExclusive};
-ghost use Rattle.hibitset_base.specs.Members.{members_below};
+ghost use Rattle.hibitset_base.specs.Members.{members, members_below};
 ghost use Rattle.hibitset_base.specs.Walk.{IsDrawn, words_read, words_ahead, items_left};
 ghost use Rattle.hibitset_base.specs.declared.util.TheConstants.{MAX_EID};
 ghost use Rattle.hibitset.specs.BitSet.{has, word_of};
@@ -29,6 +29,27 @@ fn counted(set: &BitSet) -> usize
     ensures { result ≡ length (members_below MAX_EID (has set.now)) }
 {
     set.iter().count()
+}
+
+// The members, by the list of a walk.
+fn collected(alloc: Global, set: &BitSet) -> Result<Vec<Index>, AllocError>
+    ensures { IfOk result (λ list. list.items ≡ members_below MAX_EID (has set.now)) }
+{
+    set.iter().collect(alloc)
+}
+
+// The members of both, by the list of a walk.
+fn shared_by(alloc: Global, a: &BitSet, b: &BitSet) -> Result<Vec<Index>, AllocError>
+    ensures { IfOk result (λ list. list.items ≡ members_below MAX_EID (λ i. has a.now i && has b.now i)) }
+{
+    (a & b).iter().collect(alloc)
+}
+
+// The members from an index on, by the list of a walk.
+fn collected_from(alloc: Global, set: &BitSet, start: Index) -> Result<Vec<Index>, AllocError>
+    ensures { IfOk result (λ list. list.items ≡ members (has set.now) start (MAX_EID - start)) }
+{
+    set.iter_from(start).collect(alloc)
 }
 
 // The members, which are taken out.
@@ -95,6 +116,25 @@ fn walks_of_callers(rt: HostRuntime) -> Result<(), Fail> {
         [3, 70, 700].as_slice()
     );
     assert!(rt; a.is_empty());
+    Ok(())
+}
+
+#[test]
+fn lists_of_callers(rt: HostRuntime) -> Result<(), Fail> {
+    let a = set_of(rt.alloc(), &[3, 70, 700])?;
+    let b = set_of(rt.alloc(), &[70, 71, 700])?;
+    assert_eq!(rt;
+        collected(rt.alloc(), &a)?.as_slice(),
+        [3, 70, 700].as_slice()
+    );
+    assert_eq!(rt;
+        shared_by(rt.alloc(), &a, &b)?.as_slice(),
+        [70, 700].as_slice()
+    );
+    assert_eq!(rt;
+        collected_from(rt.alloc(), &a, 4)?.as_slice(),
+        [70, 700].as_slice()
+    );
     Ok(())
 }
 
