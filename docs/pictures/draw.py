@@ -1,0 +1,146 @@
+#!/usr/bin/env python3
+"""draw.py: draws layers.svg and ratios.svg into its own folder; ratios.svg is read off the results in bench/README.md.
+
+layers.svg: the words of a set of four members, and the order in which a walk reads them.
+ratios.svg: the time of each row of the results, as part of the original's, a dot each.
+"""
+import pathlib
+import re
+
+HERE = pathlib.Path(__file__).resolve().parent
+RESULTS = HERE.parent.parent / "bench" / "README.md"
+
+BITS = 64
+LAYERS = 4
+MEMBERS = [3, 70, 5000, 300000]
+
+INK, FAINT, GREEN, BLUE, RED = "#222", "#bbb", "#2a7f4f", "#2b5fa8", "#b03a2e"
+
+
+class Drawing:
+    def __init__(self, width, height, title):
+        self.size = (width, height)
+        self.parts = [f"<title>{title}</title>", f'<rect width="{width}" height="{height}" fill="white"/>']
+
+    def rect(self, x, y, width, height, fill, stroke="none"):
+        self.parts.append(f'<rect x="{x:g}" y="{y:g}" width="{width:g}" height="{height:g}" fill="{fill}" stroke="{stroke}"/>')
+
+    def line(self, x, y, to_x, to_y, stroke, dashes=""):
+        dashed = f' stroke-dasharray="{dashes}"' if dashes else ""
+        self.parts.append(f'<line x1="{x:g}" y1="{y:g}" x2="{to_x:g}" y2="{to_y:g}" stroke="{stroke}"{dashed}/>')
+
+    def dot(self, x, y, radius, fill, opacity=1):
+        self.parts.append(f'<circle cx="{x:g}" cy="{y:g}" r="{radius:g}" fill="{fill}" fill-opacity="{opacity:g}"/>')
+
+    def text(self, x, y, words, size=12, anchor="start", fill=INK, bold=False):
+        weight = ' font-weight="bold"' if bold else ""
+        words = words.replace("&", "&amp;").replace("<", "&lt;")
+        self.parts.append(f'<text x="{x:g}" y="{y:g}" font-size="{size}" text-anchor="{anchor}" fill="{fill}"{weight}>{words}</text>')
+
+    def write(self, path):
+        width, height = self.size
+        head = f'<svg xmlns="http://www.w3.org/2000/svg" width="{width}" height="{height}" viewBox="0 0 {width} {height}" font-family="sans-serif">'
+        path.write_text("\n".join([head, *self.parts, "</svg>"]) + "\n")
+
+
+def words_of(members):
+    """The words of each layer that are not 0, from the lowest layer up: position and bits."""
+    layers, positions = [], members
+    for _ in range(LAYERS):
+        words = {}
+        for position in positions:
+            words.setdefault(position // BITS, []).append(position % BITS)
+        layers.append(words)
+        positions = sorted(words)
+    return layers
+
+
+def read_order(layers, layer=LAYERS - 1, position=0):
+    """The words in the order in which a walk reads them, the top one first."""
+    yield layer, position
+    if layer > 0:
+        for bit in layers[layer][position]:
+            yield from read_order(layers, layer - 1, position * BITS + bit)
+
+
+def draw_layers():
+    width, tick, word_height, row_height, top = 760, 2, 20, 92, 64
+    word_width = BITS * tick
+    layers = words_of(MEMBERS)
+    drawing = Drawing(width, top + (LAYERS - 1) * row_height + word_height + 50, "The layers of a set and the way of a walk")
+    drawing.text(16, 24, "The set {" + ", ".join(map(str, MEMBERS)) + "}, and the order in which a walk reads its words", 14, bold=True)
+    drawing.text(16, 42, "Each box is a word of 64 bits that is not 0. A bit above stands for a word below; no other word is read.", 12)
+    left, places = 90, {}
+    for layer in range(LAYERS):
+        words = sorted(layers[layer])
+        space = (width - left - 16) / len(words)
+        for at, position in enumerate(words):
+            x = left + space * at + (space - word_width) / 2
+            places[layer, position] = (x, top + (LAYERS - 1 - layer) * row_height)
+    for (layer, position), (x, y) in places.items():
+        for bit in layers[layer][position]:
+            middle = x + (bit + 0.5) * tick
+            if layer > 0:
+                below_x, below_y = places[layer - 1, position * BITS + bit]
+                drawing.line(middle, y + word_height, below_x + word_width / 2, below_y, FAINT)
+            else:
+                drawing.text(middle, y + word_height + 18, str(position * BITS + bit), 13, "middle", GREEN, True)
+    for (layer, position), (x, y) in places.items():
+        drawing.rect(x, y, word_width, word_height, "#f4f4f4", INK)
+        for bit in layers[layer][position]:
+            drawing.rect(x + bit * tick - 0.5, y + 1, tick + 1, word_height - 2, GREEN)
+        drawing.text(x + word_width, y - 4, f"word {position}", 11, "end", "#555")
+    for number, (layer, position) in enumerate(read_order(layers), 1):
+        x, y = places[layer, position]
+        drawing.dot(x + 8, y - 9, 8, BLUE)
+        drawing.text(x + 8, y - 5, str(number), 11, "middle", "white", True)
+    for layer in range(LAYERS):
+        drawing.text(16, top + (LAYERS - 1 - layer) * row_height + 15, f"layer {layer}", 13, bold=True)
+    drawing.text(16, drawing.size[1] - 12, "members", 13, fill=GREEN, bold=True)
+    drawing.write(HERE / "layers.svg")
+
+
+def results():
+    """The parts of the table, each with the ratios of its rows."""
+    parts, held = [], False
+    for line in RESULTS.read_text().splitlines():
+        held = (held or line == "<!-- results -->") and line != "<!-- end of results -->"
+        cells = [cell.strip() for cell in re.split(r"(?<!\\)\|", line)[1:-1]]
+        if not held or len(cells) < 5:
+            continue
+        heading = re.fullmatch(r"\*\*(.*?) \(.*\)\*\*", cells[0])
+        ratio = re.fullmatch(r"(-?[\d.]+)( \*)?", cells[3])
+        if heading:
+            parts.append((heading[1], []))
+        elif ratio and parts:
+            parts[-1][1].append(float(ratio[1]))
+    return [part for part in parts if part[1]]
+
+
+def draw_ratios():
+    parts = results()
+    width, left, right, top, row = 760, 330, 24, 70, 24
+    drawing = Drawing(width, top + row * len(parts) + 40, "Time beside the original")
+    drawing.text(16, 24, "Time as part of the original's, a dot for each row of the benchmark", 14, bold=True)
+    drawing.text(16, 42, "Left of the line at 1 this library is faster. The bar is the median of its rows.", 12)
+    bottom, most = top + row * len(parts), 1.25
+
+    def across(ratio):
+        return left + (width - left - right) * min(max(ratio, 0), most) / most
+
+    for mark in (0, 0.25, 0.5, 0.75, 1):
+        drawing.line(across(mark), top - 6, across(mark), bottom, RED if mark == 1 else "#ddd", "" if mark == 1 else "3 3")
+        drawing.text(across(mark), bottom + 16, f"{mark:g}", 11, "middle", RED if mark == 1 else "#555")
+    for at, (name, ratios) in enumerate(parts):
+        y = top + row * at + row / 2
+        drawing.text(left - 12, y + 4, name, 12, "end")
+        for ratio in ratios:
+            drawing.dot(across(ratio), y, 4, BLUE, 0.45)
+        median = across(sorted(ratios)[len(ratios) // 2])
+        drawing.rect(median - 1.5, y - 9, 3, 18, GREEN)
+    drawing.write(HERE / "ratios.svg")
+
+
+if __name__ == "__main__":
+    draw_layers()
+    draw_ratios()
