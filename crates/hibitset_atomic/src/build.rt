@@ -1,5 +1,6 @@
 //! Atomic sets made of the items of an iterator, or extended by them.
 #![tactic(auto, unfolding(crate::specs::AtomicBitSet::has, crate::specs::AtomicBitSet::word_of))]
+
 ghost use Rattle.std.specs.Prelude.{◌≡◌, ◌≢◌, ℕ, ◌/◌, ◌<◌, ◌≤◌, ◌⊎◌, ◌||◌, Bool, false, OnOk, OnErr, IfOk, IfErr};
 ghost use Rattle.std.specs.Iterator.{IsFiniteIterable};
 ghost use Rattle.hibitset_base.specs.declared.build.BuildError.TheVariants.{Memory};

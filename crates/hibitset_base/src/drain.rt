@@ -1,5 +1,6 @@
 //! Walks that take out of their set what they give.
 #![tactic(auto, unfolding(crate::specs::Drain::items_to_drain))]
+
 ghost use Rattle.std.specs.Prelude.{◌≡◌, ℕ, ◌≤◌, length, Bool};
 ghost use Rattle.std.specs.Iterator.{item_count};
 ghost use Rattle.std.specs.Iterator.Runs.{YieldsInOrder};

@@ -1,5 +1,6 @@
 //! A walk as parts, which threads can go through side by side.
 #![tactic(auto, unfolding(crate::specs::Walk::items_left, crate::specs::Walk::set_of))]
+
 ghost use Rattle.std.specs.Prelude.{◌≡◌, ℕ, ◌+◌, ◌-◌, ◌<◌, ◌≤◌, ◌++◌, max, length, MatchOption, IfSome, Some, None, ⊤};
 ghost use Rattle.hibitset_base.specs.Sets.{IsExact};
 ghost use Rattle.hibitset_base.specs.Cursor.{IsAlone, IsOneBelow};
