@@ -1,6 +1,8 @@
 //! Callers of `hibitset`, each with a contract of its own that is proved from the public contracts alone.
 #![tactic(auto)]
 
+pub mod ids;
+pub mod ready;
 #[cfg(test)]
 mod tests;
 pub mod walks;

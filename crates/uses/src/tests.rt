@@ -1,4 +1,4 @@
-//! Walks of seats that add in turn.
+//! Walks of seats that add in turn; what else is called, in modules of its own.
 ghost use Rattle.std.specs.Prelude.{◌≡◌, ◌<◌};
 ghost use Rattle.hibitset_atomic.specs.declared.atomic.TheConstants.{ATOMIC_MAX_EID};
 ghost use Rattle.hibitset_atomic.specs.Seats.{Came};
@@ -6,6 +6,8 @@ ghost use Rattle.hibitset_atomic.specs.Seats.{Came};
 use crate::walks::{first, indices};
 use hibitset::{AtomicBitSet, Index, Seat, SharedBitSet};
 use std::test::Fail;
+
+mod held;
 
 // Adds the indices below a count, and counts the answers false.
 fn add_below(set: &SharedBitSet, seat: &mut Seat, count: u32) -> u32

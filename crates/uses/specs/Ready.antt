@@ -1,0 +1,12 @@
+-- What a contract sees of ready tasks.
+use Rattle.std.specs.Prelude.{ℕ, Bool}
+use Rattle.hibitset.specs.BitSet.{has}
+use Rattle.uses.specs.declared.ready.Ready.{Ready}
+
+-- the task is ready to run
+abbrev pub is_ready : Ready → ℕ → Bool
+is_ready ready = has ready.tasks
+
+-- there is room at all times for the tasks below
+abbrev pub limit_of : Ready → ℕ
+limit_of ready = ready.limit

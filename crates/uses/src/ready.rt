@@ -1,0 +1,57 @@
+//! Tasks that are ready to run, the lowest first.
+ghost use Rattle.std.specs.Prelude.{◌≡◌, ℕ, ◌/◌, ◌<◌, ◌≤◌, ◌==◌, ◌||◌, ◌&&◌, not, false, OnErr, IfOk, IsOk, OnOk, MatchOption};
+ghost use Rattle.hibitset_base.specs.First.{IsFirst, HasNone};
+ghost use Rattle.hibitset_base.specs.declared.util.TheConstants.{MAX_EID};
+ghost use Rattle.hibitset.specs.BitSet.{slice_len};
+
+use hibitset::{BitSet, BitSetLike, Index, MAX_EID};
+use std::alloc::{AllocError, Global};
+
+/// The tasks that are ready, with room at all times for those below a limit.
+#[derive(Debug, Drop)]
+pub struct Ready {
+    tasks: BitSet,
+    limit: Index,
+    ghost room: { (i : ℕ) → i < limit → i / 64 < slice_len tasks 0 },
+}
+
+impl Ready {
+    ghost use Rattle.uses.specs.Ready.{is_ready, limit_of};
+
+    /// No task is ready, and there is room for those below `limit`.
+    pub fn new(alloc: Global, limit: Index) -> Result<Ready, AllocError>
+        requires { limit ≤ MAX_EID }
+        ensures empty { IfOk result (λ ready. (i : ℕ) → is_ready ready i ≡ false) }
+        ensures limit { IfOk result (λ ready. limit_of ready ≡ limit) }
+    {
+        Ok(Ready {
+            tasks: BitSet::with_capacity(alloc, limit)?,
+            limit,
+        })
+    }
+
+    /// Makes a task ready, and tells whether it was. Below the limit it can't be refused memory, at any time; where it is refused nothing changes.
+    pub fn wake(&mut self, task: Index) -> Result<bool, AllocError>
+        requires { task < MAX_EID }
+        ensures was { IfOk result (λ was. was ≡ is_ready self.old task) }
+        ensures woken { OnOk result ((i : ℕ) → is_ready self.new i ≡ (is_ready self.old i || i == task)) }
+        ensures refused { OnErr result ((i : ℕ) → is_ready self.new i ≡ is_ready self.old i) }
+        ensures room { task < limit_of self.old → IsOk result }
+        ensures limit { limit_of self.new ≡ limit_of self.old }
+    {
+        self.tasks.add(task)
+    }
+
+    /// Takes the first task that is ready, or none where none is.
+    pub fn next_ready(&mut self) -> Option<Index>
+        ensures first { MatchOption result (HasNone MAX_EID (is_ready self.old)) (IsFirst MAX_EID (is_ready self.old)) }
+        ensures taken { MatchOption result
+            ((i : ℕ) → is_ready self.new i ≡ is_ready self.old i)
+            (λ task. (i : ℕ) → is_ready self.new i ≡ (is_ready self.old i && not (i == task))) }
+        ensures limit { limit_of self.new ≡ limit_of self.old }
+    {
+        let task = self.tasks.first()?;
+        self.tasks.remove(task);
+        Some(task)
+    }
+}
