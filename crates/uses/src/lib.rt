@@ -2,6 +2,7 @@
 #![tactic(auto)]
 
 pub mod ids;
+pub mod pages;
 pub mod ready;
 #[cfg(test)]
 mod tests;

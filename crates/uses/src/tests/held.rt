@@ -1,5 +1,6 @@
 //! Each module over sets that one thread holds, with values worked by hand.
 use crate::ids::Ids;
+use crate::pages::Pages;
 use crate::ready::Ready;
 use std::test::Fail;
 
@@ -17,6 +18,25 @@ fn identifiers_come_back(rt: HostRuntime) -> Result<(), Fail> {
     assert_eq!(rt; ids.alloc()?, Some(64));
     assert_eq!(rt; ids.alloc()?, Some(70));
     assert!(rt; ids.is_used(70) && !ids.is_used(71));
+    Ok(())
+}
+
+#[test]
+fn pages_are_flushed_in_order(rt: HostRuntime) -> Result<(), Fail> {
+    let mut pages = Pages::new(rt.alloc());
+    assert!(rt; !pages.mark(70_000)?);
+    assert!(rt; !pages.mark(5)?);
+    assert!(rt; !pages.mark(16_777_215)?);
+    assert!(rt; pages.mark(5)?);
+    assert!(rt; pages.is_dirty(5) && !pages.is_dirty(6));
+    let mut out = Vec::new(rt.alloc());
+    out.push(9)?;
+    pages.flush(&mut out)?;
+    assert_eq!(rt; out.as_slice(), [9, 5, 70_000, 16_777_215].as_slice());
+    assert!(rt; !pages.is_dirty(5));
+    pages.mark(6)?;
+    pages.flush(&mut out)?;
+    assert_eq!(rt; out.as_slice(), [9, 5, 70_000, 16_777_215, 6].as_slice());
     Ok(())
 }
 
