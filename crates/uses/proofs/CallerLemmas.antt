@@ -1,9 +1,12 @@
 -- For callers: what the list of a set's members says of the set.
-use Rattle.std.proofs.Common.{◌≡◌, ℕ, ◌+◌, ◌<◌, ◌≤◌, Bool, true, false, not, ◌==◌, ◌&&◌, List, [], ◌∷◌, refl, arith}
+use Rattle.std.proofs.Common.{◌≡◌, ◌⊎◌, ◌↔◌, inl, inr, ℕ, zero, suc, ◌+◌, ◌<◌, ◌≤◌, Bool, true, false, not, ◌==◌, ◌&&◌, List, [], ◌∷◌, Contains, slice_index, refl, sym, subst, arith}
+use Rattle.std.specs.List.Sorted.{IsStrictlyIncreasing}
+use Rattle.std.proofs.Math.Nat.{eq-or-lt_of_le}
 use Rattle.std.proofs.lemmas.Bool.{false_from_ne_true}
 use Rattle.std.proofs.lemmas.Bool.Decides.{nat_tests}
-use Rattle.hibitset_base.specs.Members.{members_below}
-use Rattle.hibitset_base.proofs.Members.{members-first}
+use Rattle.std.proofs.lemmas.List.Elements.{Contains-append_right, Contains-get_or}
+use Rattle.hibitset_base.specs.Members.{members, members_below}
+use Rattle.hibitset_base.proofs.Members.{members-first, true_or_false}
 use Rattle.hibitset_base.proofs.Firsts.{first_below, none_below}
 
 head_gone : (b c : Bool) (x : ℕ) → c ≡ (b && not (x == x)) → c ≡ false
@@ -28,3 +31,58 @@ after_first p q bound x rest e without =
 -- A set with no number from the bound on, as `laws` says of every set by `within`, has none at all where no member is left.
 pub none_at_all : (p : ℕ → Bool) (bound : ℕ) → ((i : ℕ) → p i ≡ true → i < bound) → members_below bound p ≡ [] → (i : ℕ) → p i ≡ false
 none_at_all p bound within e i = false_from_ne_true (p i) (λ here. let no = none_below bound p e i (within i here) in cc)
+
+contains_more : (y i : ℕ) (xs : List ℕ) → Contains xs i → Contains (y ∷ xs) i
+contains_more y i xs h = Contains-append_right (y ∷ []) xs i h
+
+contains_cases : (y i : ℕ) (xs : List ℕ) → Contains (y ∷ xs) i → (y ≡ i) ⊎ Contains xs i
+contains_cases y i xs (zero, below, e) = inl e
+contains_cases y i xs (suc k, below, e) = inr (k, omega arith, e)
+
+member_in : (p : ℕ → Bool) (a n i : ℕ) → Contains (members p a n) i → (a ≤ i) × (i < a + n) × (p i ≡ true)
+unfolding members
+member_in p a zero i (k, below, e) = absurd (omega arith)
+member_in p a (suc n) i h = elim (true_or_false (p a)) [
+  | inl stands ↦ elim (contains_cases a i (members p (suc a) n) (rw stands at h)) [
+    | inl same ↦ (omega arith, omega arith, subst (λ k. p k ≡ true) same stands)
+    | inr later ↦ let m = member_in p (suc a) n i later in (omega (arith, m.0), omega (arith, m.1), m.2)
+  ]
+  | inr clear ↦ let m = member_in p (suc a) n i (rw clear at h) in (omega (arith, m.0), omega (arith, m.1), m.2)
+]
+
+in_members : (p : ℕ → Bool) (a n i : ℕ) → a ≤ i → i < a + n → p i ≡ true → Contains (members p a n) i
+unfolding members
+in_members p a zero i from below here = absurd (omega arith)
+in_members p a (suc n) i from below here = elim (eq-or-lt_of_le from) [
+  | inl same ↦ let stands : p a ≡ true = subst (λ k. p k ≡ true) (sym same) here in rw stands (0, omega arith, same)
+  | inr later ↦
+      let rest = in_members p (suc a) n i later (omega arith) here in
+      elim (true_or_false (p a)) [
+        | inl stands ↦ rw stands (contains_more a i (members p (suc a) n) rest)
+        | inr clear ↦ rw clear rest
+      ]
+]
+
+-- a list ascends that begins below all that follows
+ascending_more : (a : ℕ) (xs : List ℕ) → ((i : ℕ) → Contains xs i → a < i) → IsStrictlyIncreasing xs → IsStrictlyIncreasing (a ∷ xs)
+ascending_more a xs above up zero within = above (slice_index xs 0) (Contains-get_or xs 0 0 (omega arith))
+ascending_more a xs above up (suc k) within = let next : suc k + 1 ≡ suc (k + 1) = omega arith in rw next (up k (omega arith))
+
+ascending : (p : ℕ → Bool) (a n : ℕ) → IsStrictlyIncreasing (members p a n)
+unfolding members
+ascending p a zero = λ k within. absurd (omega arith)
+ascending p a (suc n) = elim (true_or_false (p a)) [
+  | inl stands ↦ rw stands (ascending_more a (members p (suc a) n) (λ i h. (member_in p (suc a) n i h).0) (ascending p (suc a) n))
+  | inr clear ↦ rw clear (ascending p (suc a) n)
+]
+
+-- The list of the members ascends.
+pub members_ascend : (bound : ℕ) (p : ℕ → Bool) → IsStrictlyIncreasing (members_below bound p)
+members_ascend bound p = ascending p 0 bound
+
+-- It has exactly the members.
+pub members_contain : (bound : ℕ) (p : ℕ → Bool) (i : ℕ) → Contains (members_below bound p) i ↔ ((i < bound) × (p i ≡ true))
+members_contain bound p i = (
+  (λ h. let m = member_in p 0 bound i h in (omega (arith, m.1), m.2)),
+  (λ h. let below = h.0 in in_members p 0 bound i (omega arith) (omega arith) h.1),
+)

@@ -1,3 +1,4 @@
+pub mod Filter
 pub mod Ids
 pub mod Pages
 pub mod Ready

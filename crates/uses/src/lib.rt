@@ -1,6 +1,7 @@
 //! Callers of `hibitset`, each with a contract of its own that is proved from the public contracts alone.
 #![tactic(auto)]
 
+pub mod filter;
 pub mod ids;
 pub mod pages;
 pub mod ready;

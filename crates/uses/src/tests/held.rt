@@ -1,7 +1,13 @@
 //! Each module over sets that one thread holds, with values worked by hand.
+ghost use Rattle.std.specs.Prelude.{◌≡◌, IfOk};
+ghost use Rattle.uses.specs.Filter.{tags_of};
+
+use crate::filter::Tagged;
 use crate::ids::Ids;
 use crate::pages::Pages;
 use crate::ready::Ready;
+use hibitset::{BitSet, BitSetLike};
+use std::alloc::{AllocError, Global};
 use std::test::Fail;
 
 #[test]
@@ -37,6 +43,59 @@ fn pages_are_flushed_in_order(rt: HostRuntime) -> Result<(), Fail> {
     pages.mark(6)?;
     pages.flush(&mut out)?;
     assert_eq!(rt; out.as_slice(), [9, 5, 70_000, 16_777_215, 6].as_slice());
+    Ok(())
+}
+
+// Tags 0 and 1 and 2, which these records have.
+fn tagged(alloc: Global) -> Result<Tagged, AllocError>
+    ensures { IfOk result (λ tagged. tags_of tagged ≡ 3) }
+{
+    let mut tagged = Tagged::new(alloc);
+    tagged.new_tag()?;
+    tagged.new_tag()?;
+    tagged.new_tag()?;
+    tagged.tag(1, 0)?;
+    tagged.tag(2, 0)?;
+    tagged.tag(3, 0)?;
+    tagged.tag(70_000, 0)?;
+    tagged.tag(2, 1)?;
+    tagged.tag(3, 1)?;
+    tagged.tag(70_000, 1)?;
+    tagged.tag(3, 2)?;
+    Ok(tagged)
+}
+
+#[test]
+fn records_are_found(rt: HostRuntime) -> Result<(), Fail> {
+    let mut records = tagged(rt.alloc())?;
+    assert!(rt; records.tag(3, 2)?);
+    assert_eq!(rt;
+        records.find(rt.alloc(), 0, 1, 2)?.as_slice(),
+        [2, 70_000].as_slice()
+    );
+    assert_eq!(rt; records.count(0, 1, 2), 2);
+    assert_eq!(rt; records.count(0, 1, 0), 0);
+    assert_eq!(rt; records.records(1).len(), 3);
+    Ok(())
+}
+
+#[test]
+fn tags_are_given_and_taken_by_sets(rt: HostRuntime) -> Result<(), Fail> {
+    let mut records = tagged(rt.alloc())?;
+    let mut set = BitSet::new(rt.alloc());
+    set.add(2)?;
+    set.add(5)?;
+    records.widen(2, &set)?;
+    assert_eq!(rt;
+        records.records(2).to_vec(rt.alloc())?.as_slice(),
+        [2, 3, 5].as_slice()
+    );
+    records.narrow(0, &set);
+    assert_eq!(rt;
+        records.records(0).to_vec(rt.alloc())?.as_slice(),
+        [2].as_slice()
+    );
+    assert_eq!(rt; records.count(0, 1, 2), 0);
     Ok(())
 }
 
