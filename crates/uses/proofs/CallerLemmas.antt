@@ -1,10 +1,11 @@
 -- For callers: what the list of a set's members says of the set.
-use Rattle.std.proofs.Common.{◌≡◌, ◌⊎◌, ◌↔◌, inl, inr, ℕ, zero, suc, ◌+◌, ◌<◌, ◌≤◌, Bool, true, false, not, ◌==◌, ◌&&◌, List, [], ◌∷◌, Contains, slice_index, refl, sym, subst, arith}
+use Rattle.std.proofs.Common.{◌≡◌, ◌⊎◌, ◌↔◌, inl, inr, ℕ, zero, suc, ◌+◌, ◌<◌, ◌≤◌, Bool, true, false, not, ◌==◌, ◌&&◌, List, [], ◌∷◌, Contains, slice_index, Option, Some, None, MatchOption, refl, sym, subst, arith}
+use Rattle.std.specs.List.{All}
 use Rattle.std.specs.List.Sorted.{IsStrictlyIncreasing}
 use Rattle.std.proofs.Math.Nat.{eq-or-lt_of_le}
 use Rattle.std.proofs.lemmas.Bool.{false_from_ne_true}
 use Rattle.std.proofs.lemmas.Bool.Decides.{nat_tests}
-use Rattle.std.proofs.lemmas.List.Elements.{Contains-append_right, Contains-get_or}
+use Rattle.std.proofs.lemmas.List.Elements.{All-nil, All-rest, All-weaker, All-contains_itself, Contains-append_right, Contains-get_or}
 use Rattle.hibitset_base.specs.Members.{members, members_below}
 use Rattle.hibitset_base.proofs.Members.{members-first, true_or_false}
 use Rattle.hibitset_base.proofs.Firsts.{first_below, none_below}
@@ -86,3 +87,12 @@ members_contain bound p i = (
   (λ h. let m = member_in p 0 bound i h in (omega (arith, m.1), m.2)),
   (λ h. let below = h.0 in in_members p 0 bound i (omega arith) (omega arith) h.1),
 )
+
+-- All of the list are members.
+pub all_members : (bound : ℕ) (p : ℕ → Bool) → All (λ i. p i ≡ true) (members_below bound p)
+all_members bound p = let list = members_below bound p in All-weaker (Contains list) (λ i. p i ≡ true) (λ i h. ((members_contain bound p i).0 h).1) list (All-contains_itself list)
+
+-- What is so of all that is left is so of all that is left after a step.
+pub all_after : {X : Type 0} (P : X → Type 0) (xs ys : List X) (item : Option X) → All P xs → MatchOption item ((xs ≡ []) × (ys ≡ [])) (λ x. xs ≡ x ∷ ys) → All P ys
+all_after P xs ys None all (ended, none) = rw none (All-nil P)
+all_after P xs ys (Some x) all gave = All-rest P x ys xs gave all
