@@ -5,6 +5,7 @@ pub mod filter;
 pub mod ids;
 pub mod pages;
 pub mod ready;
+pub mod shared_ids;
 pub mod store;
 #[cfg(test)]
 mod tests;

@@ -8,6 +8,7 @@ use hibitset::{AtomicBitSet, Index, Seat, SharedBitSet};
 use std::test::Fail;
 
 mod held;
+mod shared;
 
 // Adds the indices below a count, and counts the answers false.
 fn add_below(set: &SharedBitSet, seat: &mut Seat, count: u32) -> u32
