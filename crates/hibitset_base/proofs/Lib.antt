@@ -28,3 +28,4 @@ pub mod Mending
 pub mod Shapes
 pub mod Holding
 pub mod Building
+pub mod CallerLemmas

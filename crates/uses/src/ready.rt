@@ -16,7 +16,7 @@ pub struct Ready {
 }
 
 impl Ready {
-    ghost use Rattle.uses.specs.Ready.{is_ready, limit_of};
+    ghost use Rattle.uses.specs.Ready.{is_ready, is_ready_from, limit_of};
 
     /// No task is ready, and there is room for those below `limit`.
     pub fn new(alloc: Global, limit: Index) -> Result<Ready, AllocError>
@@ -51,6 +51,19 @@ impl Ready {
         ensures limit { limit_of self.new ≡ limit_of self.old }
     {
         let task = self.tasks.first()?;
+        self.tasks.remove(task);
+        Some(task)
+    }
+
+    /// Takes the first ready task from `start` on, or none where none is ready there. A caller that goes on after the task that it was given, and from 0 where it was given none, gives each task its turn.
+    pub fn next_from(&mut self, start: Index) -> Option<Index>
+        ensures first { MatchOption result (HasNone MAX_EID (is_ready_from start self.old)) (IsFirst MAX_EID (is_ready_from start self.old)) }
+        ensures taken { MatchOption result
+            ((i : ℕ) → is_ready self.new i ≡ is_ready self.old i)
+            (λ task. (i : ℕ) → is_ready self.new i ≡ (is_ready self.old i && not (i == task))) }
+        ensures limit { limit_of self.new ≡ limit_of self.old }
+    {
+        let task = (&self.tasks).iter_from(start).next()?;
         self.tasks.remove(task);
         Some(task)
     }

@@ -140,3 +140,17 @@ fn tasks_run_in_order(rt: HostRuntime) -> Result<(), Fail> {
     assert_eq!(rt; ready.next_ready(), None);
     Ok(())
 }
+
+#[test]
+fn each_task_has_its_turn(rt: HostRuntime) -> Result<(), Fail> {
+    let mut ready = Ready::new(rt.alloc(), 100)?;
+    ready.wake(7)?;
+    ready.wake(40)?;
+    assert_eq!(rt; ready.next_from(0), Some(7));
+    ready.wake(7)?;
+    assert_eq!(rt; ready.next_from(8), Some(40));
+    assert_eq!(rt; ready.next_from(41), None);
+    assert_eq!(rt; ready.next_from(7), Some(7));
+    assert_eq!(rt; ready.next_ready(), None);
+    Ok(())
+}

@@ -3,7 +3,7 @@ use Rattle.std.proofs.lemmas.Grind.{common_steps}
 use Rattle.hibitset.specs.BitSet.{has}
 use Rattle.hibitset_base.specs.Drain.{drained}
 use Rattle.hibitset_base.specs.declared.util.TheConstants.{MAX_EID}
-use Rattle.uses.proofs.CallerLemmas.{after_first, none_at_all}
+use Rattle.hibitset_base.proofs.CallerLemmas.{after_first, none_at_all}
 use Rattle.uses.proofs.pages.Pages.flush.Goals as goal
 
 pub loop-page-preserved : goal.loop-page-preserved

@@ -1,12 +1,11 @@
 use Rattle.std.proofs.Common.{◌≡◌, ◌&&◌, List, Option, refl, ◌∙◌}
 use Rattle.hibitset_base.specs.Members.{members_below}
-use Rattle.hibitset_base.specs.Walk.{items_left}
 use Rattle.hibitset_base.specs.declared.util.TheConstants.{MAX_EID}
 use Rattle.hibitset_base.proofs.Members.{members-same}
 use Rattle.hibitset.specs.BitSet.{has}
 use Rattle.hibitset.specs.declared.set.BitSet.{BitSet}
-use Rattle.uses.specs.Slots.{Covers, are_full, both}
-use Rattle.uses.proofs.CallerLemmas.{all_members}
+use Rattle.uses.specs.Slots.{Covers, are_full}
+use Rattle.hibitset_base.proofs.CallerLemmas.{all_members}
 use Rattle.uses.proofs.store.Column.join.Goals as goal
 
 -- the places that both sets have are those that neither list has empty

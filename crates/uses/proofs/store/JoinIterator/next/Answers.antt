@@ -1,7 +1,7 @@
 use Rattle.std.proofs.Common.{◌≡◌, true}
 use Rattle.hibitset_base.specs.Walk.{items_left}
 use Rattle.uses.specs.Slots.{are_full, both}
-use Rattle.uses.proofs.CallerLemmas.{all_after}
+use Rattle.hibitset_base.proofs.CallerLemmas.{all_after}
 use Rattle.uses.proofs.store.JoinIterator.next.Goals as goal
 
 pub invariant_of-self : goal.invariant_of-self

@@ -1,14 +1,37 @@
--- For callers: what the list of a set's members says of the set.
-use Rattle.std.proofs.Common.{◌≡◌, ◌⊎◌, ◌↔◌, inl, inr, ℕ, zero, suc, ◌+◌, ◌<◌, ◌≤◌, Bool, true, false, not, ◌==◌, ◌&&◌, List, [], ◌∷◌, Contains, slice_index, Option, Some, None, MatchOption, refl, sym, subst, arith}
+-- For callers: what the list of a set's members says of the set, and what is left of it after a step.
+use Rattle.std.proofs.Common.{◌≡◌, ◌⊎◌, ◌↔◌, inl, inr, ℕ, zero, suc, ◌+◌, ◌-◌, ◌<◌, ◌≤◌, Bool, true, false, not, ◌==◌, ◌&&◌, List, [], ◌∷◌, Contains, slice_index, Option, Some, None, MatchOption, refl, sym, subst, arith}
+use Rattle.std.specs.Prelude.{nat_le}
 use Rattle.std.specs.List.{All}
 use Rattle.std.specs.List.Sorted.{IsStrictlyIncreasing}
 use Rattle.std.proofs.Math.Nat.{eq-or-lt_of_le}
 use Rattle.std.proofs.lemmas.Bool.{false_from_ne_true}
 use Rattle.std.proofs.lemmas.Bool.Decides.{nat_tests}
 use Rattle.std.proofs.lemmas.List.Elements.{All-nil, All-rest, All-weaker, All-contains_itself, Contains-append_right, Contains-get_or}
+use Rattle.hibitset_base.specs.First.{IsFirst, HasNone}
 use Rattle.hibitset_base.specs.Members.{members, members_below}
 use Rattle.hibitset_base.proofs.Members.{members-first, true_or_false}
-use Rattle.hibitset_base.proofs.Firsts.{first_below, none_below}
+use Rattle.hibitset_base.proofs.Firsts.{first_in, none_in, first_below, none_below}
+
+-- ---- the first member, and the others
+
+not_before : (start i : ℕ) (b : Bool) → (start ≤ i → b ≡ false) → (nat_le start i && b) ≡ false
+not_before start i b clear = grind (arith, nat_tests)
+
+-- The first item of a walk that begins at `start` is the least member from there on.
+pub first_from : (bound start : ℕ) (p : ℕ → Bool) (x : ℕ) (rest : List ℕ) → members p start (bound - start) ≡ x ∷ rest → IsFirst bound (λ i. nat_le start i && p i) x
+first_from bound start p x rest e =
+    let first = first_in p start (bound - start) x rest e in
+    let from = first.from in
+    let stands = first.stands in
+    record {
+      within = omega (arith, first.within);
+      stands = grind (arith, nat_tests);
+      none_before = λ i before. not_before start i (p i) (λ at. first.none_before i at before);
+    }
+
+-- Where it has no item, there is no member from there on.
+pub none_from : (bound start : ℕ) (p : ℕ → Bool) → members p start (bound - start) ≡ [] → HasNone bound (λ i. nat_le start i && p i)
+none_from bound start p e i below = not_before start i (p i) (λ at. none_in p start (bound - start) e i at (omega arith))
 
 head_gone : (b c : Bool) (x : ℕ) → c ≡ (b && not (x == x)) → c ≡ false
 head_gone b c x e = grind (arith, nat_tests)
@@ -32,6 +55,8 @@ after_first p q bound x rest e without =
 -- A set with no number from the bound on, as `laws` says of every set by `within`, has none at all where no member is left.
 pub none_at_all : (p : ℕ → Bool) (bound : ℕ) → ((i : ℕ) → p i ≡ true → i < bound) → members_below bound p ≡ [] → (i : ℕ) → p i ≡ false
 none_at_all p bound within e i = false_from_ne_true (p i) (λ here. let no = none_below bound p e i (within i here) in cc)
+
+-- ---- the list
 
 contains_more : (y i : ℕ) (xs : List ℕ) → Contains xs i → Contains (y ∷ xs) i
 contains_more y i xs h = Contains-append_right (y ∷ []) xs i h
