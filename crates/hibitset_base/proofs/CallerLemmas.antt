@@ -12,8 +12,6 @@ use Rattle.hibitset_base.specs.Members.{members, members_below}
 use Rattle.hibitset_base.proofs.Members.{members-first, true_or_false}
 use Rattle.hibitset_base.proofs.Firsts.{first_in, none_in, first_below, none_below}
 
--- ---- the first member, and the others
-
 not_before : (start i : ℕ) (b : Bool) → (start ≤ i → b ≡ false) → (nat_le start i && b) ≡ false
 not_before start i b clear = grind (arith, nat_tests)
 
@@ -40,8 +38,8 @@ others_stay : (b c : Bool) (i x : ℕ) → x < i → c ≡ (b && not (i == x)) �
 others_stay b c i x after e = grind (arith, nat_tests)
 
 -- What is left after the first member are the members of the set without it.
-pub after_first : (p q : ℕ → Bool) (bound x : ℕ) (rest : List ℕ) → members_below bound p ≡ x ∷ rest → ((i : ℕ) → q i ≡ (p i && not (i == x))) → rest ≡ members_below bound q
-after_first p q bound x rest e without =
+pub after_first : (bound : ℕ) (p q : ℕ → Bool) (x : ℕ) (rest : List ℕ) → members_below bound p ≡ x ∷ rest → ((i : ℕ) → q i ≡ (p i && not (i == x))) → rest ≡ members_below bound q
+after_first bound p q x rest e without =
     let first = first_below bound p x rest e in
     let within : x < 0 + bound = omega (arith, first.within) in
     let whole : members_below bound p ≡ x ∷ members_below bound q = members-first p q x 0 bound (omega arith) within
@@ -53,10 +51,8 @@ after_first p q bound x rest e without =
     cc
 
 -- A set with no number from the bound on, as `laws` says of every set by `within`, has none at all where no member is left.
-pub none_at_all : (p : ℕ → Bool) (bound : ℕ) → ((i : ℕ) → p i ≡ true → i < bound) → members_below bound p ≡ [] → (i : ℕ) → p i ≡ false
-none_at_all p bound within e i = false_from_ne_true (p i) (λ here. let no = none_below bound p e i (within i here) in cc)
-
--- ---- the list
+pub none_at_all : (bound : ℕ) (p : ℕ → Bool) → ((i : ℕ) → p i ≡ true → i < bound) → members_below bound p ≡ [] → (i : ℕ) → p i ≡ false
+none_at_all bound p within e i = false_from_ne_true (p i) (λ here. let no = none_below bound p e i (within i here) in cc)
 
 contains_more : (y i : ℕ) (xs : List ℕ) → Contains xs i → Contains (y ∷ xs) i
 contains_more y i xs h = Contains-append_right (y ∷ []) xs i h
@@ -102,7 +98,7 @@ ascending p a (suc n) = elim (true_or_false (p a)) [
   | inr clear ↦ rw clear (ascending p (suc a) n)
 ]
 
--- The list of the members ascends.
+-- The list of the members ascends strictly.
 pub members_ascend : (bound : ℕ) (p : ℕ → Bool) → IsStrictlyIncreasing (members_below bound p)
 members_ascend bound p = ascending p 0 bound
 

@@ -12,13 +12,13 @@ loop-page-preserved c =
     record {
       lent = steps.1 ∙ c.loop-page.invariant.lent;
       moved = grind (arith, common_steps, append_assoc);
-      left = after_first _ _ MAX_EID c.in-Some.page _ (sym c.loop-page.invariant.left ∙ steps.0) steps.2;
+      left = after_first MAX_EID _ _ c.in-Some.page _ (sym c.loop-page.invariant.left ∙ steps.0) steps.2;
       room = grind (arith, common_steps, length-append);
     }
 
 pub returns-clause-clean : goal.returns-clause-clean
 returns-clause-clean c = λ i.
     let set = drained c.loop-page.page-iterator in
-    let none = none_at_all (has set) MAX_EID (c.laws.ensures.within set) (sym c.loop-page.invariant.left ∙ c.in-None.ensures.steps.0.0) i in
+    let none = none_at_all MAX_EID (has set) (c.laws.ensures.within set) (sym c.loop-page.invariant.left ∙ c.in-None.ensures.steps.0.0) i in
     let same = c.in-None.ensures.steps.2 in
     search (rules, none, same)
