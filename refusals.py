@@ -1,8 +1,12 @@
 #!/usr/bin/env python3
-"""Refuses each request for memory of small scripts in turn, and compares what the program prints and how it ends.
+"""Refuses each request for memory of each call in turn, and sees what stands afterwards and that the call passes then.
 
-With N = 1, 2 and so on the Nth request of the program is refused (rt try --fail-alloc N), until nothing is refused any
-more. It fails where a script ends otherwise than it may, and where an output that is to come does not.
+Each test that CALLS names makes one call, between two requests of its own, and prints of the first request, of the call
+and of the last request whether it was refused. With N = 1, 2 and so on the Nth request of the test is refused
+(rt try --test --fail-alloc N), until the last one was: so the numbers between those of the two are the requests of the
+call. It fails where one of them was refused and the call passed, where a call makes no request, where a call of ROOM
+makes one, where a public call of the library that can be refused is not in CALLS, and where a test fails, which compares
+what stands and makes the call again. SCRIPTS are run by the program, and what it prints is compared.
 """
 import os
 import re
@@ -15,6 +19,59 @@ from pathlib import Path
 CRATES = Path(__file__).resolve().parent / "crates"
 TOGETHER = 4  # runs side by side
 MOST = 64  # requests
+
+# The public calls of each crate that can be refused, and the tests that make them.
+CALLS = {
+    "hibitset_base": {
+        "BitParIter::collect": "parts::collect",
+        "BitParIter::count": "parts::count",
+        "BitParIter::fold": "parts::fold",
+        "BitParIter::for_each": "parts::for_each",
+        "BitSetLike::to_vec": "sets::to_vec",
+        "BitIter::clone": "copies::walk",
+        "BitSetAll::clone": "room::virtual_sets",
+        "BitSetAnd::clone": "copies::intersection",
+        "BitSetNot::clone": "copies::complement",
+        "BitSetOr::clone": "copies::union",
+        "BitSetXor::clone": "copies::symmetric_difference",
+        "Extendable::add_index": "sets::extend_indices atomic::extend_indices",
+        "extend_index_refs": "sets::extend_index_refs atomic::extend_index_refs",
+        "extend_indices": "sets::extend_indices atomic::extend_indices",
+        "from_index_refs": "sets::from_index_refs atomic::from_index_refs",
+        "from_indices": "sets::from_indices atomic::from_indices",
+    },
+    "hibitset_atomic": {
+        "AtomicBitSet::add": "atomic::add",
+        "AtomicBitSet::add_index": "atomic::extend_indices",
+        "AtomicBitSet::extend_index_refs": "atomic::extend_index_refs",
+        "AtomicBitSet::extend_indices": "atomic::extend_indices",
+        "AtomicBitSet::from_index_refs": "atomic::from_index_refs",
+        "AtomicBitSet::from_indices": "atomic::from_indices",
+        "AtomicBitSet::new": "atomic::new",
+        "AtomicBitSet::share": "atomic::share",
+        "SharedBitSet::settle": "atomic::settle",
+        "World::apply": "worlds::begin worlds::step worlds::open worlds::read",
+    },
+    "hibitset": {
+        "BitSet::add": "sets::add sets::add_past_the_room_made_before",
+        "BitSet::add_index": "sets::extend_indices",
+        "BitSet::bitor_assign": "sets::bitor_assign",
+        "BitSet::bitxor_assign": "sets::bitxor_assign",
+        "BitSet::clone": "sets::clone",
+        "BitSet::extend_index_refs": "sets::extend_index_refs",
+        "BitSet::extend_indices": "sets::extend_indices",
+        "BitSet::from_index_refs": "sets::from_index_refs",
+        "BitSet::from_indices": "sets::from_indices",
+        "BitSet::with_capacity": "sets::with_capacity",
+    },
+    "hibitset_run": {
+        "run": "script::tests::refused_and_again",
+        "run_text": "",  # by SCRIPTS
+    },
+}
+
+# The tests of calls that make no request.
+ROOM = "sets sets_with_room virtual_sets atomic_sets shared_sets worlds parts"
 
 # What the program may print where one request is refused: each of these is to come, the last one where none is refused.
 # It may also end with status 3 before it has printed anything.
@@ -38,15 +95,45 @@ SCRIPTS = {
 }
 
 
+def fail(why):
+    print(f"refusals: FAILED: {why}", flush=True)
+    sys.exit(1)
+
+
+def public_calls(crate):
+    """The public functions of a crate that answer a Result, or how a script ended."""
+    found = set()
+    for path in sorted((CRATES / crate / "src").rglob("*.rt")):
+        if "tests" in path.parts or path.name == "tests.rt":
+            continue
+        owner, every = "", False
+        lines = path.read_text().splitlines()
+        for place, line in enumerate(lines):
+            if start := re.match(r"(?:pub )?(impl|trait)\b(.*)", line):
+                kind, rest = start.groups()
+                while (flat := re.sub(r"<[^<>]*>", "", rest)) != rest:
+                    rest = flat
+                every = kind == "trait" or " for " in rest
+                owner = re.search(r"\w+", rest.split(" for ")[-1])[0] + "::"
+            elif line == "}":
+                owner, every = "", False
+            elif (call := re.match(r" *(pub )?(?:final )?fn (\w+)", line)) and (call[1] or every):
+                rest = "\n".join(lines[place:])
+                head = re.split(r"\b(?:where|requires|ensures)\b|[{;]$", rest, maxsplit=1, flags=re.M)[0]
+                if re.search(r"-> .*\b(?:Result<|Ended)", head):
+                    found.add(owner + call[2])
+    return found
+
+
 def run(words, number):
     """What the kit prints on standard output and on standard error where the request of this number is refused."""
-    words = ["rt", "try", *words, "--fail-alloc", str(number)]
+    words = ["rt", "try", "--fail-alloc", str(number), *words]
     ran = subprocess.run(words, capture_output=True, text=True, stdin=subprocess.DEVNULL)
     return ran.stdout, ran.stderr
 
 
 def in_turn(crate, words, judge):
-    """Judges the runs with one request refused after the other, until a whole row of them passed."""
+    """Judges the runs with one request refused after the other, until a whole row of them is past the last request."""
     os.chdir(CRATES / crate)
     with ThreadPoolExecutor(TOGETHER) as pool:
         for first in range(1, MOST, TOGETHER):
@@ -57,9 +144,67 @@ def in_turn(crate, words, judge):
     fail(f"{crate}: {MOST} requests refused, and there are more")
 
 
-def fail(why):
-    print(f"refusals: FAILED: {why}", flush=True)
-    sys.exit(1)
+class Test:
+    """The numbers of the requests of one test: its own first, those of the call, and its own last."""
+
+    def __init__(self, name):
+        self.name = name
+        self.has_room = name in {f"tests::room::{room}" for room in ROOM.split()}
+        self.before, self.call, self.after = [], [], []
+
+    def judge(self, number, verdict, said):
+        """Whether the request of this number is past the last one of the test."""
+        if verdict == "FAILED" and said[:1] == ["error: AllocError"]:
+            return False  # before the first
+        wanted = 2 if self.has_room else 3
+        if verdict != "ok" or len(said) != wanted or not set(said) <= {"passed", "refused"} or said.count("refused") > 1:
+            fail(f"request {number}: {self.name}: {verdict}: {said}")
+        if "refused" not in said:
+            if not self.after:
+                fail(f"request {number}: {self.name}: was not refused")
+            return True
+        place = said.index("refused")
+        (self.before if place == 0 else self.after if place == wanted - 1 else self.call).append(number)
+        return False
+
+    def close(self):
+        if len(self.before) != 1 or len(self.after) != 1:
+            fail(f"{self.name}: its own requests have the numbers {self.before} and {self.after}")
+        if self.call != list(range(self.before[0] + 1, self.after[0])):
+            fail(f"{self.name}: between {self.before} and {self.after} only {self.call} were refused")
+        if self.has_room == bool(self.call):
+            fail(f"{self.name}: {len(self.call)} requests")
+        print(f"{self.name}: {len(self.call)} refused in turn: ok", flush=True)
+
+
+def tests(crate, names, words):
+    """Refuses the requests of these tests of a crate in turn."""
+    found = {name: Test(name) for name in names}
+
+    def judge(number, output, errors):
+        seen = re.findall(r"^test (\S+) \.\.\. (\w+)\n((?:    .*\n)*)", output + errors, re.M)
+        if {name for name, _, _ in seen} != set(found):
+            lone = sorted({name for name, _, _ in seen} ^ set(found))
+            fail(f"request {number}: not both a test of {crate} and in the list: {lone}\n{output}{errors}")
+        return all(
+            [found[name].judge(number, verdict, [line.strip() for line in said.splitlines()]) for name, verdict, said in seen]
+        )
+
+    in_turn(crate, ["--test", *words], judge)
+    for _, test in sorted(found.items()):
+        test.close()
+
+
+def calls():
+    for crate, named in CALLS.items():
+        lone = sorted(public_calls(crate) ^ set(named))
+        if lone:
+            fail(f"{crate}: not both a public call that can be refused and in the list: {lone}")
+    library = " ".join(names for crate, named in CALLS.items() if crate != "hibitset_run" for names in named.values())
+    rooms = [f"room::{room}" for room in ROOM.split()]
+    tests("refusals", {f"tests::{name}" for name in [*library.split(), *rooms]}, [])
+    scripted = CALLS["hibitset_run"]["run"]
+    tests("hibitset_run", {scripted}, ["--", scripted])
 
 
 def scripts():
@@ -96,4 +241,5 @@ def scripts():
         print(f"{script!r}: status 3 {ends[script]} times, {len(outputs) - 1} other outputs: ok")
 
 
+calls()
 scripts()

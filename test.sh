@@ -1,9 +1,8 @@
 #!/usr/bin/env bash
-# Proves every crate from nothing, tries the wrong bodies, runs the tests and the program; then refuses memory in the middle of tests, tries the wrong bodies that tests alone see, and replays the oracle's scripts.
+# Proves every crate from nothing, tries the wrong bodies, runs the tests and the program; then refuses each request for memory in turn, tries the wrong bodies that tests alone see, and replays the oracle's scripts.
 set -euo pipefail
 cd "$(dirname "$0")"
 rt ci
-./refusals.sh
 ./refusals.py
 ./caught.sh
 sh diff/replay.sh

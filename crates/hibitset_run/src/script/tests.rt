@@ -285,3 +285,57 @@ fn splits_to_the_end(rt: HostRuntime) -> Result<(), Fail> {
     assert_eq!(rt; replies.as_slice(), wanted.as_slice());
     Ok(())
 }
+
+// Prints whether a run was refused, in whole or in part.
+fn say(rt: &HostRuntime, refused: bool) -> Result<(), Fail> {
+    println!(rt; "{}", if refused { "refused" } else { "passed" })?;
+    Ok(())
+}
+
+// Makes one request, and prints whether it was refused.
+fn ask(rt: &HostRuntime) -> Result<(), Fail> {
+    let made: Result<Vec<u8>, AllocError> = Vec::with_capacity(rt.alloc(), 1);
+    say(rt, made.is_err())
+}
+
+// What became of adding an index, listing the set and asking for it: each of the two that take memory may have been refused.
+fn is_run(replies: &[Reply]) -> bool {
+    match replies {
+        [Reply::Bool(false), Reply::List(list), Reply::Bool(true)] => {
+            list.as_slice() == [70_000].as_slice()
+        }
+        [Reply::NoMemory, Reply::List(list), Reply::Bool(false)] => list.is_empty(),
+        [Reply::Bool(false), Reply::NoMemory, Reply::Bool(true)] => true,
+        _ => false,
+    }
+}
+
+// The run is made between two requests of the test's own; `refusals.py` refuses the requests one after the other. Where the room for the replies is refused no set has changed, and where a command is refused the run goes on. Then the run is made again.
+#[test]
+fn refused_and_again(rt: HostRuntime) -> Result<(), Fail> {
+    let alloc = rt.alloc();
+    let mut sets = array::from_fn(|_| BitSet::new(alloc));
+    let set = Slot::A;
+    let id = 70_000;
+    let commands = [
+        Command::Add { set, id },
+        Command::List { set },
+        Command::Has { set, id },
+    ];
+    ask(&rt)?;
+    let replies = run(alloc, &mut sets, &commands);
+    let refused = match &replies {
+        Ok(replies) => replies.contains(&Reply::NoMemory),
+        Err(AllocError) => true,
+    };
+    say(&rt, refused)?;
+    ask(&rt)?;
+    match &replies {
+        Ok(replies) => assert!(rt; is_run(replies.as_slice())),
+        Err(AllocError) => assert!(rt; sets.iter().all(|set| set.is_empty())),
+    }
+    sets[0].clear();
+    let again = run(alloc, &mut sets, &commands)?;
+    assert!(rt; is_run(again.as_slice()) && !again.contains(&Reply::NoMemory));
+    Ok(())
+}

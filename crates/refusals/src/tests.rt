@@ -1,0 +1,69 @@
+//! Each call that asks for memory is made between two requests of the test's own. Where a request of the call is refused it is seen what stands, and the call is made again. A test prints whether the first request, the call and the last request were refused; `refusals.py` refuses the requests one after the other. The tests of `room` make calls that need no memory as things stand, and print nothing between the two requests.
+mod atomic;
+mod copies;
+mod parts;
+mod room;
+mod sets;
+mod worlds;
+
+use hibitset::atomic::ATOMIC_MAX_EID;
+use hibitset::util::MAX_EID;
+use hibitset::{AtomicBitSet, BitSet, BitSetLike, Index};
+use std::alloc::{AllocError, Global};
+use std::test::Fail;
+
+// Prints whether a call was refused.
+fn say(rt: &HostRuntime, refused: bool) -> Result<(), Fail> {
+    println!(rt; "{}", if refused { "refused" } else { "passed" })?;
+    Ok(())
+}
+
+// Makes one request, and prints whether it was refused.
+fn ask(rt: &HostRuntime) -> Result<(), Fail> {
+    let made: Result<Vec<u8>, AllocError> = Vec::with_capacity(rt.alloc(), 1);
+    say(rt, made.is_err())
+}
+
+// The set of these indices.
+fn set_of(alloc: Global, ids: &[Index]) -> Result<BitSet, AllocError> {
+    let mut set = BitSet::new(alloc);
+    for id in ids {
+        if (*id as usize) < MAX_EID {
+            set.add(*id)?;
+        }
+    }
+    Ok(set)
+}
+
+// The atomic set of these indices.
+fn atomic_of(alloc: Global, ids: &[Index]) -> Result<AtomicBitSet, AllocError> {
+    let mut set = AtomicBitSet::new(alloc)?;
+    for id in ids {
+        if (*id as usize) < ATOMIC_MAX_EID {
+            set.add(*id)?;
+        }
+    }
+    Ok(set)
+}
+
+// Tells whether a set has exactly these members.
+fn has_exactly<T: BitSetLike>(set: &T, ids: &[Index]) -> bool {
+    let mut walk = set.iter();
+    for id in ids {
+        if walk.next() != Some(*id) {
+            return false;
+        }
+    }
+    walk.next().is_none()
+}
+
+// The words on the way to an index, from the top on.
+fn way<T: BitSetLike>(set: &T, id: Index) -> [usize; 4] {
+    let id = id as usize;
+    [
+        set.layer3(),
+        set.layer2(id >> 18),
+        set.layer1(id >> 12),
+        set.layer0(id >> 6),
+    ]
+}

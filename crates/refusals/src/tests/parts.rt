@@ -1,0 +1,102 @@
+//! Walks in parts, over a set that is large enough for threads.
+use crate::tests::{ask, say};
+use hibitset::{BitSet, BitSetLike, Index};
+use std::alloc::{AllocError, Global};
+use std::sync::atomic::{AtomicUsize, Ordering};
+use std::test::Fail;
+
+const MEMBERS: u32 = 450_000;
+
+// The indices below `MEMBERS`.
+fn many(alloc: Global) -> Result<BitSet, AllocError> {
+    let mut set = BitSet::with_capacity(alloc, MEMBERS)?;
+    for id in 0..MEMBERS {
+        set.add(id)?;
+    }
+    Ok(set)
+}
+
+// Tells whether a set has exactly the indices below `MEMBERS`.
+fn is_many(set: &BitSet) -> bool {
+    let mut next = 0u32;
+    for index in set {
+        if index != next {
+            return false;
+        }
+        next = next.wrapping_add(1);
+    }
+    next == MEMBERS
+}
+
+#[test]
+fn count(rt: HostRuntime) -> Result<(), Fail> {
+    let set = many(rt.alloc())?;
+    ask(&rt)?;
+    let counted = (&set).par_iter().count(&rt, rt.alloc());
+    say(&rt, counted.is_err())?;
+    ask(&rt)?;
+    let count = match counted {
+        Ok(count) => count,
+        Err(_) => (&set).par_iter().count(&rt, rt.alloc())?,
+    };
+    assert_eq!(rt; count, 450_000);
+    assert!(rt; is_many(&set));
+    Ok(())
+}
+
+#[test]
+fn collect(rt: HostRuntime) -> Result<(), Fail> {
+    let set = many(rt.alloc())?;
+    ask(&rt)?;
+    let collected = (&set).par_iter().collect(&rt, rt.alloc());
+    say(&rt, collected.is_err())?;
+    ask(&rt)?;
+    let all = match collected {
+        Ok(all) => all,
+        Err(_) => (&set).par_iter().collect(&rt, rt.alloc())?,
+    };
+    assert_eq!(rt; all.len(), 450_000);
+    assert!(rt; is_many(&set));
+    Ok(())
+}
+
+#[test]
+fn fold(rt: HostRuntime) -> Result<(), Fail> {
+    let set = many(rt.alloc())?;
+    let init = || 0u64;
+    let step = |sum: u64, index: Index| sum.wrapping_add(u64::from(index));
+    let combine = |sum: u64, other: u64| sum.wrapping_add(other);
+    ask(&rt)?;
+    let folded = (&set).par_iter().fold(&rt, rt.alloc(), init, step, combine);
+    say(&rt, folded.is_err())?;
+    ask(&rt)?;
+    let sum = match folded {
+        Ok(sum) => sum,
+        Err(_) => (&set)
+            .par_iter()
+            .fold(&rt, rt.alloc(), init, step, combine)?,
+    };
+    assert_eq!(rt; sum, 101_249_775_000);
+    assert!(rt; is_many(&set));
+    Ok(())
+}
+
+#[test]
+fn for_each(rt: HostRuntime) -> Result<(), Fail> {
+    let set = many(rt.alloc())?;
+    let visited = AtomicUsize::new(0);
+    let visit = |_index: Index| {
+        visited.fetch_add(1, Ordering::SeqCst);
+    };
+    ask(&rt)?;
+    let gone = (&set).par_iter().for_each(&rt, rt.alloc(), visit);
+    say(&rt, gone.is_err())?;
+    ask(&rt)?;
+    if gone.is_err() {
+        visited.store(0, Ordering::SeqCst);
+        (&set).par_iter().for_each(&rt, rt.alloc(), visit)?;
+    }
+    assert_eq!(rt; visited.load(Ordering::SeqCst), 450_000);
+    assert!(rt; is_many(&set));
+    Ok(())
+}

@@ -1,0 +1,118 @@
+//! Calls that take no memory, or none as things stand, between two requests of the test's own.
+use crate::tests::{ask, atomic_of, has_exactly, set_of};
+use hibitset::{
+    BitParIter, BitProducer, BitSet, BitSetAll, BitSetLike, DrainableBitSet, Event, Index, Reply,
+    World,
+};
+use std::alloc::AllocError;
+use std::test::Fail;
+
+#[test]
+fn sets_with_room(rt: HostRuntime) -> Result<(), Fail> {
+    let mut set = BitSet::with_capacity(rt.alloc(), 1000)?;
+    let other = set_of(rt.alloc(), &[5, 999])?;
+    ask(&rt)?;
+    assert!(rt; set.add(999) == Ok(false) && set.add(999) == Ok(true));
+    assert!(rt; set.extend_indices(7..10) == Ok(()));
+    assert!(rt; set.extend_index_refs(&[7, 70]) == Ok(()));
+    assert!(rt; set.bitor_assign(&other).is_ok() && set.contains(5));
+    assert!(rt; set.bitxor_assign(&other).is_ok() && !set.contains(5));
+    assert!(rt; has_exactly(&set, &[7, 8, 9, 70]));
+    assert!(rt; BitSet::with_capacity(rt.alloc(), 0).is_ok());
+    assert!(rt; BitSet::from_indices(rt.alloc(), 0..0).is_ok());
+    assert!(rt; BitSet::from_index_refs(rt.alloc(), &[]).is_ok());
+    ask(&rt)
+}
+
+#[test]
+fn sets(rt: HostRuntime) -> Result<(), Fail> {
+    let mut set = set_of(rt.alloc(), &[5, 70, 300_000])?;
+    let other = set_of(rt.alloc(), &[70, 300_000])?;
+    ask(&rt)?;
+    assert!(rt; set.remove(5) && !set.remove(5) && !set.remove(4_294_967_295));
+    assert!(rt; set == other && set.contains_set(&other) && set.contains(70));
+    assert!(rt;
+        set.layer0_as_slice().len() + set.layer1_as_slice().len() + set.layer2_as_slice().len() > 0
+    );
+    assert!(rt; set.len() == 2 && set.first() == Some(70) && !set.is_empty());
+    assert!(rt; (&set).iter_from(71).next() == Some(300_000));
+    set &= &other;
+    assert!(rt; has_exactly(&set, &[70, 300_000]));
+    assert!(rt; set.drain().next() == Some(70));
+    set.clear();
+    assert!(rt; has_exactly(&set, &[]) && BitSet::new(rt.alloc()).is_empty());
+    ask(&rt)
+}
+
+#[test]
+fn virtual_sets(rt: HostRuntime) -> Result<(), Fail> {
+    let a = set_of(rt.alloc(), &[1, 2])?;
+    let b = set_of(rt.alloc(), &[2, 3])?;
+    ask(&rt)?;
+    assert!(rt; has_exactly(&(&a & &b), &[2]) && has_exactly(&(&a | &b), &[1, 2, 3]));
+    assert!(rt; has_exactly(&(&a ^ &b), &[1, 3]) && (!&a).contains(3));
+    assert!(rt; (&a & &b).clone().is_ok() && (&a | &b).clone().is_ok());
+    assert!(rt; (&a ^ &b).clone().is_ok() && (!&a).clone().is_ok());
+    assert!(rt; BitSetAll.clone().is_ok() && (&a).iter().clone().is_ok());
+    ask(&rt)
+}
+
+#[test]
+fn atomic_sets(rt: HostRuntime) -> Result<(), Fail> {
+    let mut set = atomic_of(rt.alloc(), &[5, 70, 300_000])?;
+    ask(&rt)?;
+    assert!(rt; set.add(4095) == Ok(false) && set.add(70) == Ok(true));
+    assert!(rt; set.extend_indices(7..10) == Ok(()));
+    assert!(rt; set.extend_index_refs(&[7, 300_001]) == Ok(()));
+    assert!(rt; set.remove(300_001) && !set.remove(300_001) && set.contains(300_000));
+    assert!(rt; has_exactly(&set, &[5, 7, 8, 9, 70, 4095, 300_000]));
+    assert!(rt; set.drain().next() == Some(5));
+    set.clear();
+    assert!(rt; set.is_empty());
+    ask(&rt)
+}
+
+#[test]
+fn shared_sets(rt: HostRuntime) -> Result<(), Fail> {
+    let Ok((set, mut seat)) = atomic_of(rt.alloc(), &[7])?.share() else {
+        return Err(AllocError.into());
+    };
+    ask(&rt)?;
+    assert!(rt; !set.add_atomic(&mut seat, 70_000) && set.add_atomic(&mut seat, 7));
+    assert!(rt; set.contains(&mut seat, 70_000) && seat.weight() == 65_536);
+    let (mut seat, other) = set.divide(seat);
+    assert!(rt; !seat.is_whole() && set.walk(&mut seat).next() == Some(7));
+    if let Some(other) = other {
+        assert!(rt; set.join(seat, other).is_whole());
+    }
+    ask(&rt)
+}
+
+#[test]
+fn worlds(rt: HostRuntime) -> Result<(), Fail> {
+    let mut world = World::new(atomic_of(rt.alloc(), &[7])?);
+    let opened = world.apply(Event::Open { walk: 1 });
+    if opened.is_err() {
+        return Err(AllocError.into());
+    }
+    ask(&rt)?;
+    assert!(rt; opened == Ok(Reply::Opened) && world.items(1) == Some(&[]) && world.stands(7));
+    if world.is_at_rest() {
+        assert!(rt; has_exactly(&world.settle(), &[7]));
+    }
+    ask(&rt)
+}
+
+#[test]
+fn parts(rt: HostRuntime) -> Result<(), Fail> {
+    let set = set_of(rt.alloc(), &[1, 70, 300_000])?;
+    ask(&rt)?;
+    let _walk = BitParIter::new(&set).layers_split(2);
+    let (first, second) = BitProducer((&set).iter(), 3).split();
+    let add = |sum: u64, index: Index| sum.wrapping_add(u64::from(index));
+    assert!(rt; first.fold_with(0u64, add) == 71);
+    if let Some(second) = second {
+        assert!(rt; second.fold_with(0u64, add) == 300_000);
+    }
+    ask(&rt)
+}
