@@ -4,19 +4,21 @@
 Each test that CALLS names makes one call, between two requests of its own, and prints of the first request, of the call
 and of the last request whether it was refused. With N = 1, 2 and so on the Nth request of the test is refused
 (rt try --test --fail-alloc N), until the last one was: so the numbers between those of the two are the requests of the
-call. It fails where one of them was refused and the call passed, where a call makes no request, where a call of ROOM
-makes one, where a public call of the library that can be refused is not in CALLS, and where a test fails, which compares
+call. It fails where one of them was refused and the call passed (but see GO_ON), where a call makes no request, where a
+call of ROOM makes one, where a public call that can be refused is not in CALLS, and where a test fails, which compares
 what stands and makes the call again. SCRIPTS are run by the program, and what it prints is compared.
 """
-import os
 import re
 import subprocess
 import sys
 import tempfile
+from collections import deque
 from concurrent.futures import ThreadPoolExecutor
+from itertools import islice
 from pathlib import Path
 
 CRATES = Path(__file__).resolve().parent / "crates"
+PROGRAM = "hibitset_run"
 TOGETHER = 4  # runs side by side
 MOST = 64  # requests
 
@@ -64,7 +66,7 @@ CALLS = {
         "BitSet::from_indices": "sets::from_indices",
         "BitSet::with_capacity": "sets::with_capacity",
     },
-    "hibitset_run": {
+    PROGRAM: {
         "run": "script::tests::refused_and_again",
         "run_text": "",  # by SCRIPTS
     },
@@ -72,6 +74,9 @@ CALLS = {
 
 # The tests of calls that make no request.
 ROOM = "sets sets_with_room virtual_sets atomic_sets shared_sets worlds parts"
+
+# Where rayon is refused the memory for a second part it goes on with one, so that its calls may pass.
+GO_ON = "tests::parts::"
 
 # What the program may print where one request is refused: each of these is to come, the last one where none is refused.
 # It may also end with status 3 before it has printed anything.
@@ -95,9 +100,12 @@ SCRIPTS = {
 }
 
 
+class Failed(Exception):
+    """What is not as it should be."""
+
+
 def fail(why):
-    print(f"refusals: FAILED: {why}", flush=True)
-    sys.exit(1)
+    raise Failed(why)
 
 
 def public_calls(crate):
@@ -125,22 +133,25 @@ def public_calls(crate):
     return found
 
 
-def run(words, number):
+def run(crate, words, number):
     """What the kit prints on standard output and on standard error where the request of this number is refused."""
     words = ["rt", "try", "--fail-alloc", str(number), *words]
-    ran = subprocess.run(words, capture_output=True, text=True, stdin=subprocess.DEVNULL)
+    ran = subprocess.run(words, cwd=CRATES / crate, capture_output=True, text=True, stdin=subprocess.DEVNULL)
     return ran.stdout, ran.stderr
 
 
-def in_turn(crate, words, judge):
-    """Judges the runs with one request refused after the other, until a whole row of them is past the last request."""
-    os.chdir(CRATES / crate)
-    with ThreadPoolExecutor(TOGETHER) as pool:
-        for first in range(1, MOST, TOGETHER):
-            numbers = range(first, first + TOGETHER)
-            outputs = list(pool.map(lambda number: run(words, number), numbers))
-            if all([judge(number, *output) for number, output in zip(numbers, outputs)]):
-                return
+def in_turn(pool, crate, words, judge):
+    """Judges the runs with one request refused after the other, until one is past the last request."""
+    numbers = iter(range(1, MOST + 1))
+    running = deque((number, pool.submit(run, crate, words, number)) for number in islice(numbers, TOGETHER))
+    while running:
+        number, ran = running.popleft()
+        if judge(number, *ran.result()):
+            for _, other in running:
+                other.cancel()
+            return
+        for number in islice(numbers, 1):
+            running.append((number, pool.submit(run, crate, words, number)))
     fail(f"{crate}: {MOST} requests refused, and there are more")
 
 
@@ -150,35 +161,35 @@ class Test:
     def __init__(self, name):
         self.name = name
         self.has_room = name in {f"tests::room::{room}" for room in ROOM.split()}
-        self.before, self.call, self.after = [], [], []
+        self.before, self.call, self.went_on, self.after = [], [], [], []
 
     def judge(self, number, verdict, said):
-        """Whether the request of this number is past the last one of the test."""
         if verdict == "FAILED" and said[:1] == ["error: AllocError"]:
-            return False  # before the first
+            return  # before the first
         wanted = 2 if self.has_room else 3
         if verdict != "ok" or len(said) != wanted or not set(said) <= {"passed", "refused"} or said.count("refused") > 1:
             fail(f"request {number}: {self.name}: {verdict}: {said}")
-        if "refused" not in said:
-            if not self.after:
-                fail(f"request {number}: {self.name}: was not refused")
-            return True
-        place = said.index("refused")
-        (self.before if place == 0 else self.after if place == wanted - 1 else self.call).append(number)
-        return False
+        if "refused" in said:
+            place = said.index("refused")
+            (self.before if place == 0 else self.after if place == wanted - 1 else self.call).append(number)
+        elif not self.after and self.name.startswith(GO_ON):
+            self.went_on.append(number)
+        elif not self.after:
+            fail(f"request {number}: {self.name}: was not refused")
 
     def close(self):
         if len(self.before) != 1 or len(self.after) != 1:
             fail(f"{self.name}: its own requests have the numbers {self.before} and {self.after}")
-        if self.call != list(range(self.before[0] + 1, self.after[0])):
+        if sorted(self.call + self.went_on) != list(range(self.before[0] + 1, self.after[0])):
             fail(f"{self.name}: between {self.before} and {self.after} only {self.call} were refused")
         if self.has_room == bool(self.call):
             fail(f"{self.name}: {len(self.call)} requests")
-        print(f"{self.name}: {len(self.call)} refused in turn: ok", flush=True)
+        went_on = f", {len(self.went_on)} gone on without" if self.went_on else ""
+        print(f"{self.name}: {len(self.call)} refused in turn{went_on}: ok", flush=True)
 
 
-def tests(crate, names, words):
-    """Refuses the requests of these tests of a crate in turn."""
+def tests(pool, crate, names, words):
+    """Refuses the requests of these tests of a crate in turn, up to the last one of each."""
     found = {name: Test(name) for name in names}
 
     def judge(number, output, errors):
@@ -186,28 +197,34 @@ def tests(crate, names, words):
         if {name for name, _, _ in seen} != set(found):
             lone = sorted({name for name, _, _ in seen} ^ set(found))
             fail(f"request {number}: not both a test of {crate} and in the list: {lone}\n{output}{errors}")
-        return all(
-            [found[name].judge(number, verdict, [line.strip() for line in said.splitlines()]) for name, verdict, said in seen]
-        )
+        for name, verdict, said in seen:
+            found[name].judge(number, verdict, [line.strip() for line in said.splitlines()])
+        return all(test.after for test in found.values())
 
-    in_turn(crate, ["--test", *words], judge)
+    in_turn(pool, crate, ["--test", *words], judge)
     for _, test in sorted(found.items()):
         test.close()
 
 
-def calls():
+def compare_lists():
     for crate, named in CALLS.items():
         lone = sorted(public_calls(crate) ^ set(named))
         if lone:
             fail(f"{crate}: not both a public call that can be refused and in the list: {lone}")
-    library = " ".join(names for crate, named in CALLS.items() if crate != "hibitset_run" for names in named.values())
+
+
+def library(pool):
+    names = " ".join(names for crate, named in CALLS.items() if crate != PROGRAM for names in named.values())
     rooms = [f"room::{room}" for room in ROOM.split()]
-    tests("refusals", {f"tests::{name}" for name in [*library.split(), *rooms]}, [])
-    scripted = CALLS["hibitset_run"]["run"]
-    tests("hibitset_run", {scripted}, ["--", scripted])
+    tests(pool, "refusals", {f"tests::{name}" for name in [*names.split(), *rooms]}, [])
 
 
-def scripts():
+def script_run(pool):
+    name = CALLS[PROGRAM]["run"]
+    tests(pool, PROGRAM, {name}, ["--", name])
+
+
+def scripts(pool):
     seen = {script: set() for script in SCRIPTS}
     ends = {script: 0 for script in SCRIPTS}
 
@@ -232,7 +249,7 @@ def scripts():
     with tempfile.TemporaryDirectory() as folder:
         for place, script in enumerate(SCRIPTS):
             (Path(folder) / f"script-{place}").write_text(script)
-        in_turn("hibitset_run", ["--cases", folder], judge)
+        in_turn(pool, PROGRAM, ["--cases", folder], judge)
     for script, outputs in SCRIPTS.items():
         if not ends[script]:
             fail(f"{script!r} never ended for want of memory")
@@ -241,5 +258,16 @@ def scripts():
         print(f"{script!r}: status 3 {ends[script]} times, {len(outputs) - 1} other outputs: ok")
 
 
-calls()
-scripts()
+def main():
+    compare_lists()
+    # The threads of the second pool only wait for runs of the first.
+    with ThreadPoolExecutor(TOGETHER) as pool, ThreadPoolExecutor() as turns:
+        for turn in [turns.submit(part, pool) for part in (library, scripts, script_run)]:
+            turn.result()
+
+
+try:
+    main()
+except Failed as why:
+    print(f"refusals: FAILED: {why}", flush=True)
+    sys.exit(1)

@@ -32,12 +32,12 @@ fn is_many(set: &BitSet) -> bool {
 fn count(rt: HostRuntime) -> Result<(), Fail> {
     let set = many(rt.alloc())?;
     ask(&rt)?;
-    let counted = (&set).par_iter().count(&rt, rt.alloc());
+    let counted = (&set).par_iter().layers_split(1).count(&rt, rt.alloc());
     say(&rt, counted.is_err())?;
     ask(&rt)?;
     let count = match counted {
         Ok(count) => count,
-        Err(_) => (&set).par_iter().count(&rt, rt.alloc())?,
+        Err(_) => (&set).par_iter().layers_split(1).count(&rt, rt.alloc())?,
     };
     assert_eq!(rt; count, 450_000);
     assert!(rt; is_many(&set));
@@ -48,12 +48,12 @@ fn count(rt: HostRuntime) -> Result<(), Fail> {
 fn collect(rt: HostRuntime) -> Result<(), Fail> {
     let set = many(rt.alloc())?;
     ask(&rt)?;
-    let collected = (&set).par_iter().collect(&rt, rt.alloc());
+    let collected = (&set).par_iter().layers_split(1).collect(&rt, rt.alloc());
     say(&rt, collected.is_err())?;
     ask(&rt)?;
     let all = match collected {
         Ok(all) => all,
-        Err(_) => (&set).par_iter().collect(&rt, rt.alloc())?,
+        Err(_) => (&set).par_iter().layers_split(1).collect(&rt, rt.alloc())?,
     };
     assert_eq!(rt; all.len(), 450_000);
     assert!(rt; is_many(&set));
@@ -67,13 +67,17 @@ fn fold(rt: HostRuntime) -> Result<(), Fail> {
     let step = |sum: u64, index: Index| sum.wrapping_add(u64::from(index));
     let combine = |sum: u64, other: u64| sum.wrapping_add(other);
     ask(&rt)?;
-    let folded = (&set).par_iter().fold(&rt, rt.alloc(), init, step, combine);
+    let folded = (&set)
+        .par_iter()
+        .layers_split(1)
+        .fold(&rt, rt.alloc(), init, step, combine);
     say(&rt, folded.is_err())?;
     ask(&rt)?;
     let sum = match folded {
         Ok(sum) => sum,
         Err(_) => (&set)
             .par_iter()
+            .layers_split(1)
             .fold(&rt, rt.alloc(), init, step, combine)?,
     };
     assert_eq!(rt; sum, 101_249_775_000);
@@ -89,12 +93,18 @@ fn for_each(rt: HostRuntime) -> Result<(), Fail> {
         visited.fetch_add(1, Ordering::SeqCst);
     };
     ask(&rt)?;
-    let gone = (&set).par_iter().for_each(&rt, rt.alloc(), visit);
+    let gone = (&set)
+        .par_iter()
+        .layers_split(1)
+        .for_each(&rt, rt.alloc(), visit);
     say(&rt, gone.is_err())?;
     ask(&rt)?;
     if gone.is_err() {
         visited.store(0, Ordering::SeqCst);
-        (&set).par_iter().for_each(&rt, rt.alloc(), visit)?;
+        (&set)
+            .par_iter()
+            .layers_split(1)
+            .for_each(&rt, rt.alloc(), visit)?;
     }
     assert_eq!(rt; visited.load(Ordering::SeqCst), 450_000);
     assert!(rt; is_many(&set));
