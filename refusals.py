@@ -52,7 +52,7 @@ CALLS = {
         "AtomicBitSet::new": "atomic::new",
         "AtomicBitSet::share": "atomic::share",
         "SharedBitSet::settle": "atomic::settle",
-        "World::apply": "worlds::begin worlds::step worlds::open worlds::read",
+        "World::apply": "worlds::begin worlds::step worlds::open worlds::read worlds::run",
     },
     "hibitset": {
         "BitSet::add": "sets::add sets::add_past_the_room_made_before",

@@ -1,5 +1,5 @@
 //! Worlds of calls and walks that take turns.
-use crate::tests::{ask, atomic_of, say};
+use crate::tests::{ask, atomic_of, has_exactly, say};
 use hibitset::{Event, Reply, StepError, World};
 use std::alloc::AllocError;
 use std::test::Fail;
@@ -90,5 +90,43 @@ fn read(rt: HostRuntime) -> Result<(), Fail> {
         assert!(rt; world.apply(event) == Ok(word));
     }
     assert!(rt; is_as(&world, Some(&[7]), true));
+    Ok(())
+}
+
+// A whole run, in which an event that is refused is made again.
+#[test]
+fn run(rt: HostRuntime) -> Result<(), Fail> {
+    let mut world = world_after(&rt, &[])?;
+    let word = Reply::Word {
+        word: 1,
+        ended: false,
+    };
+    let events = [
+        (Event::Begin { call: 1, id: 5000 }, Reply::Begun),
+        (Event::Open { walk: 1 }, Reply::Opened),
+        (Event::Step { call: 1 }, Reply::First { there: false }),
+        (Event::Read { walk: 1 }, word),
+        (Event::Step { call: 1 }, Reply::Path { left: 2 }),
+        (Event::Step { call: 1 }, Reply::Path { left: 1 }),
+        (Event::Step { call: 1 }, Reply::Path { left: 0 }),
+    ];
+    let mut refused = false;
+    ask(&rt)?;
+    for (event, reply) in events {
+        let rests = world.is_at_rest();
+        let applied = world.apply(event);
+        if applied == Err(StepError::Memory) {
+            refused = true;
+            assert!(rt; world.is_at_rest() == rests && world.apply(event) == Ok(reply));
+        } else {
+            assert!(rt; applied == Ok(reply));
+        }
+    }
+    say(&rt, refused)?;
+    ask(&rt)?;
+    assert!(rt; is_as(&world, Some(&[]), true));
+    if world.is_at_rest() {
+        assert!(rt; has_exactly(&world.settle(), &[7, 5000]));
+    }
     Ok(())
 }
