@@ -87,30 +87,6 @@ fn a_drain(rt: HostRuntime) -> Result<(), Fail> {
     Ok(())
 }
 
-// One request that is refused, whichever it is, leaves the members.
-#[test]
-fn refused(rt: HostRuntime) -> Result<(), Fail> {
-    let mut set = match AtomicBitSet::new(rt.alloc()) {
-        Ok(set) => set,
-        Err(_) => AtomicBitSet::new(rt.alloc())?,
-    };
-    if set.add(5).is_err() {
-        assert!(rt; set.is_empty());
-        assert!(rt; !set.add(5)?);
-    }
-    assert!(rt; !set.add(4095)?);
-    if set.add(4096).is_err() {
-        assert_eq!(rt; list(rt.alloc(), &set)?.as_slice(), [5, 4095].as_slice());
-        assert!(rt; !set.contains(4096));
-        assert!(rt; !set.add(4096)?);
-    }
-    assert_eq!(rt;
-        list(rt.alloc(), &set)?.as_slice(),
-        [5, 4095, 4096].as_slice()
-    );
-    Ok(())
-}
-
 // One block has lost its members, and the others were never made.
 #[test]
 fn blocks_without_bits_print(rt: HostRuntime) -> Result<(), Fail> {

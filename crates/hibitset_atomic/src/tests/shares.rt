@@ -100,34 +100,3 @@ fn a_seat_that_is_dropped(rt: HostRuntime) -> Result<(), Fail> {
     assert_eq!(rt; list(rt.alloc(), &set)?.as_slice(), [5, 7, 9].as_slice());
     Ok(())
 }
-
-// One request that is refused, whichever it is, leaves what was handed over, and the call can be made again.
-#[test]
-fn refused_and_again(rt: HostRuntime) -> Result<(), Fail> {
-    let mut set = AtomicBitSet::new(rt.alloc())?;
-    set.add(70000)?;
-    let shared = match set.share() {
-        Ok(both) => Ok(both),
-        Err(set) => {
-            assert!(rt; set.contains(70000));
-            set.share()
-        }
-    };
-    let Ok((set, mut seat)) = shared else {
-        panic!(rt; "no memory")
-    };
-    assert!(rt; !set.add_atomic(&mut seat, 16777215));
-    let settled = match set.settle(seat) {
-        Ok(set) => Ok(set),
-        Err((set, seat)) => set.settle(seat),
-    };
-    let Ok(set) = settled else {
-        panic!(rt; "no memory")
-    };
-    assert_eq!(rt;
-        list(rt.alloc(), &set)?.as_slice(),
-        [70000, 16777215].as_slice()
-    );
-    assert_eq!(rt; (set.layer3(), set.layer0(262143)), (1 << 63 | 1, 1 << 63));
-    Ok(())
-}

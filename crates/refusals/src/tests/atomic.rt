@@ -164,5 +164,6 @@ fn settle(rt: HostRuntime) -> Result<(), Fail> {
         panic!(rt; "refused twice")
     };
     assert!(rt; has_exactly(&set, &[70000, 16777215]));
+    assert!(rt; way(&set, 16777215) == [1 << 63 | 1, 1 << 63, 1 << 63, 1 << 63]);
     Ok(())
 }
