@@ -68,23 +68,6 @@ fn extending_past_the_range(rt: HostRuntime) -> Result<(), Fail> {
     Ok(())
 }
 
-// Where memory is refused, the items before that place are in. A run under failing allocations takes the other branch.
-#[test]
-fn extending_with_little_memory(rt: HostRuntime) -> Result<(), Fail> {
-    let mut set = set_of(rt.alloc(), &[5])?;
-    match set.extend_indices([6u32, 5000000, 7].iter().copied()) {
-        Ok(()) => assert_eq!(rt;
-            list(rt.alloc(), &set)?.as_slice(),
-            [5, 6, 7, 5000000].as_slice()
-        ),
-        Err(error) => {
-            assert_eq!(rt; error, BuildError::Memory { place: 1 });
-            assert_eq!(rt; list(rt.alloc(), &set)?.as_slice(), [5, 6].as_slice());
-        }
-    }
-    Ok(())
-}
-
 #[test]
 fn errors_are_told(rt: HostRuntime) -> Result<(), Fail> {
     let out = BuildError::OutOfRange {
@@ -131,57 +114,4 @@ fn no_item_is_drawn_after_one_out_of_range(rt: HostRuntime) -> Result<(), Fail> 
     );
     assert_eq!(rt; left.next(), Some(&4));
     Ok(())
-}
-
-// The same where memory is refused. A run under failing allocations takes the other branch.
-#[test]
-fn extending_draws_no_more(rt: HostRuntime) -> Result<(), Fail> {
-    let mut left = [6u32, 5000000, 7].iter().copied();
-    let mut set = BitSet::new(rt.alloc());
-    match set.extend_indices(&mut left) {
-        Ok(()) => assert_eq!(rt; left.next(), None),
-        Err(error) => {
-            assert_eq!(rt; error, BuildError::Memory { place: 1 });
-            assert_eq!(rt; left.next(), Some(7));
-        }
-    }
-    Ok(())
-}
-
-#[test]
-fn extending_by_refs_draws_no_more(rt: HostRuntime) -> Result<(), Fail> {
-    let mut left = [6u32, 5000000, 7].iter();
-    let mut set = BitSet::new(rt.alloc());
-    match set.extend_index_refs(&mut left) {
-        Ok(()) => assert_eq!(rt; left.next(), None),
-        Err(error) => {
-            assert_eq!(rt; error, BuildError::Memory { place: 1 });
-            assert_eq!(rt; left.next(), Some(&7));
-        }
-    }
-    Ok(())
-}
-
-#[test]
-fn building_draws_no_more(rt: HostRuntime) {
-    let mut left = [6u32, 5000000, 7].iter().copied();
-    match BitSet::from_indices(rt.alloc(), &mut left) {
-        Ok(_) => assert_eq!(rt; left.next(), None),
-        Err(error) => {
-            assert_eq!(rt; error, BuildError::Memory { place: 1 });
-            assert_eq!(rt; left.next(), Some(7));
-        }
-    }
-}
-
-#[test]
-fn building_of_refs_draws_no_more(rt: HostRuntime) {
-    let mut left = [6u32, 5000000, 7].iter();
-    match BitSet::from_index_refs(rt.alloc(), &mut left) {
-        Ok(_) => assert_eq!(rt; left.next(), None),
-        Err(error) => {
-            assert_eq!(rt; error, BuildError::Memory { place: 1 });
-            assert_eq!(rt; left.next(), Some(&7));
-        }
-    }
 }

@@ -197,19 +197,6 @@ fn one_word_a_layer(rt: HostRuntime) -> Result<(), Fail> {
     Ok(())
 }
 
-// A list that finds no memory leaves the set as it is, and the next one is whole. A run under failing allocations takes the other branch.
-#[test]
-fn listing_with_little_memory(rt: HostRuntime) -> Result<(), Fail> {
-    let set = set_of(rt.alloc(), &[5, 6, 7])?;
-    if let Ok(listed) = set.to_vec(rt.alloc()) {
-        assert_eq!(rt; listed.as_slice(), [5, 6, 7].as_slice());
-    }
-    assert_eq!(rt; set.len(), 3);
-    let again = set.to_vec(rt.alloc())?;
-    assert_eq!(rt; again.as_slice(), [5, 6, 7].as_slice());
-    Ok(())
-}
-
 // A walk over an intersection from an index on: its words lie over members of the first set, and are at most three for each.
 fn walk_both_from<'a>(
     a: &'a BitSet,
