@@ -196,7 +196,7 @@ impl BitSet {
         self.put(id, false)
     }
 
-    /// Takes all members out, and gives up the words: the three slices have length 0 then.
+    /// Takes all members out, and gives up the words: the three slices have length 0 then. The vectors keep their memory for words to come, but no contract says that it is enough, so an addition may be refused memory again.
     pub fn clear(&mut self)
         ensures empty { (i : ℕ) → has self.new i ≡ false }
         ensures lengths { (l : ℕ) → l < LAYERS - 1 → slice_len self.new l ≡ 0 }

@@ -17,7 +17,7 @@ pub enum Ended {
     Done,
     /// This line, counted from 1, is the first that is no command. Nothing was run.
     BadLine(usize),
-    /// Memory was refused, but not to a command, which replies that by itself.
+    /// Memory was refused, but not to a command, which replies that by itself. Commands may have been run, and a part of the replies may be written.
     NoMemory,
     /// A read failed. Nothing was run.
     InputFailed,
