@@ -176,6 +176,10 @@ fn firsts(bench: &mut Bench, all: &[&Sample], asked: &[u32]) {
         peer!(row, roaring, "CRoaring", || timed(|| k.roaring.first()));
         bench.run(row.peer("BTreeSet", || timed(first)));
         bench.run(Row::new(format!("iter().next(), {}", sample.name), 1, 1.0, both!(walk_next, ids)).peer("BTreeSet", || timed(first)));
+        // From past the last member on the original, which asks for each index in turn, would go on to the end of the range.
+        let last = ids.last().copied().unwrap_or(0);
+        let asked: Vec<u32> = asked.iter().copied().filter(|start| *start <= last).take(10_000).collect();
+        let asked = &asked[..];
         let from = |start: &u32| k.tree.range(*start..).next().map_or(0, |index| *index as u64);
         let mut row = Row::new(format!("iter_from(i).next(), {}", sample.name), asked.len(), 0.5, both!(walk_from, ids, asked));
         peer!(row, roaring, "CRoaring", || timed(|| k.roaring.first_from(asked)));
