@@ -76,15 +76,13 @@ impl Meeting {
 }
 
 impl BitSetLike for Meeting {
-    ghost use Rattle.hibitset.specs.BitSet.{has, word_of};
-    ghost use Rattle.hibitset_base.specs.Stored.{stored_lawful};
-    ghost use Rattle.hibitset_base.specs.declared.util.TheConstants.{LAYERS};
+    ghost use Rattle.hibitset.specs.BitSet.{has, has_is_lawful, word_of};
 
     ghost holds = { λ s. has s.set };
 
     ghost word = { λ s. word_of s.set };
 
-    ghost lawful = { λ s. stored_lawful LAYERS s.set.stored };
+    ghost lawful = { λ s. has_is_lawful s.set };
 
     fn layer3(&self) -> usize {
         self.set.layer3()
