@@ -122,7 +122,7 @@ def draw_ratios():
     width, left, right, top, row = 760, 330, 24, 70, 24
     drawing = Drawing(width, top + row * len(parts) + 40, "Time beside the original")
     drawing.text(16, 24, "Time as part of the original's, a dot for each row of the benchmark", 14, bold=True)
-    drawing.text(16, 42, "Left of the line at 1 this library is faster. The bar is the median of its rows.", 12)
+    drawing.text(16, 42, "Left of the line at 1 this library is faster. The bar is the median of a line's rows; a row past the edge has its number.", 12)
     bottom, most = top + row * len(parts), 1.25
 
     def across(ratio):
@@ -136,6 +136,8 @@ def draw_ratios():
         drawing.text(left - 12, y + 4, name, 12, "end")
         for ratio in ratios:
             drawing.dot(across(ratio), y, 4, BLUE, 0.45)
+            if ratio > most:
+                drawing.text(across(ratio) - 8, y + 4, f"{ratio:.1f}", 11, "end", BLUE)
         median = across(sorted(ratios)[len(ratios) // 2])
         drawing.rect(median - 1.5, y - 9, 3, 18, GREEN)
     drawing.write(HERE / "ratios.svg")
