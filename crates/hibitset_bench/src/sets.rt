@@ -32,6 +32,22 @@ pub(crate) fn sum_of<T: BitSetLike>(set: T) -> u64 {
     sum
 }
 
+// Where the indices of the bench's sets end, however far a complement goes on.
+const END: Index = 1 << 24;
+
+// The sum of the members below that end.
+#[inline]
+pub(crate) fn sum_below_end<T: BitSetLike>(set: T) -> u64 {
+    let mut sum = 0u64;
+    for index in set.iter() {
+        if index >= END {
+            break;
+        }
+        sum = sum.wrapping_add(u64::from(index));
+    }
+    sum
+}
+
 // An index to ask for, so that no call is left out as having no use.
 #[inline]
 pub(crate) fn first_of(ids: &[Index]) -> Index {

@@ -1,5 +1,5 @@
 //! Walks.
-use crate::sets::{set_of, sum_of};
+use crate::sets::{set_of, sum_below_end, sum_of};
 use hibitset::{BitSetLike, Index};
 use std::alloc::{AllocError, Global};
 
@@ -101,7 +101,7 @@ pub(crate) fn not(alloc: Global, ids: &[Index], times: usize) -> Result<u64, All
     let set = set_of(alloc, ids)?;
     let mut sum = 0u64;
     for _ in 0..times {
-        sum = sum.wrapping_add(sum_of(!&set));
+        sum = sum.wrapping_add(sum_below_end(!&set));
     }
     Ok(sum)
 }
