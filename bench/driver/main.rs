@@ -347,8 +347,8 @@ fn main() {
 
     adds(&mut bench, &random, &members, &absent, &ascending);
     walks(&mut bench, &[(&dense, 0.4), (&half, 0.6), (&ten, 0.6), (&one, 0.6), (&few, 0.6), (&clusters, 0.4)]);
-    walks_by_method(&mut bench, &[(&dense, 0.4), (&half, 0.6), (&ten, 0.6), (&one, 0.6)]);
-    sizes_and_lists(&mut bench, &[(&dense, 0.02, 0.2), (&half, 0.02, 0.2), (&ten, 0.04, 0.33), (&one, 0.3, 0.6)]);
+    walks_by_method(&mut bench, &[(&dense, 0.4), (&half, 0.6), (&ten, 0.6), (&one, 0.6), (&few, 0.6)]);
+    sizes_and_lists(&mut bench, &[(&dense, 0.02, 0.2), (&half, 0.02, 0.2), (&ten, 0.04, 0.33), (&one, 0.3, 0.6), (&few, 0.6, 0.6)]);
     firsts(&mut bench, &[&dense, &ten, &one], &random);
     bench.part("walks of two sets (ns per member of both)");
     for (a, b, aim) in [(&half, &other_half, 0.6), (&ten, &other_ten, 0.6), (&one, &other_one, 0.6), (&few, &ten, 0.6), (&clusters, &one, 0.6)] {
