@@ -1,5 +1,5 @@
 -- Lengths of layer 0, by the numbers whose words lie past it.
-use Rattle.std.proofs.Common.{◌≡◌, ℕ, ◌*◌, ◌/◌, ◌<◌, ◌≤◌, Bool, Result, Ok, Err, IfOk, arith}
+use Rattle.std.proofs.Common.{ℕ, ◌*◌, ◌/◌, ◌<◌, ◌≤◌, Bool, Result, Ok, Err, IfOk, arith}
 use Rattle.hibitset_base.specs.Building.{LiesApart}
 use Rattle.hibitset.specs.Building.{MembersEndBy}
 

@@ -20,7 +20,6 @@ pub mod Draining
 pub mod Bounds
 pub mod Passing
 pub mod Running
-pub mod Copying
 pub mod Splitting
 pub mod Folding
 pub mod Given

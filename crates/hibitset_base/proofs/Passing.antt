@@ -1,5 +1,5 @@
 -- On the way to an index a walk passes the words that begin at it or before, and those that begin after it are ahead.
-use Rattle.std.proofs.Common.{◌≡◌, ℕ, zero, suc, ◌+◌, ◌-◌, ◌*◌, ◌/◌, ◌%◌, ◌^◌, ◌<◌, ◌≤◌, Bool, true, false, cond, ◌==◌, List, [], ◌∷◌, ◌++◌, All, length, get_or, bit_and, refl, sym, ◌∙◌, ap, subst, arith, inl, inr, length-append, append_assoc, lit<}
+use Rattle.std.proofs.Common.{◌≡◌, ℕ, zero, suc, ◌+◌, ◌-◌, ◌*◌, ◌/◌, ◌%◌, ◌^◌, ◌<◌, ◌≤◌, Bool, true, false, cond, ◌==◌, List, [], ◌∷◌, ◌++◌, All, length, get_or, bit_and, refl, sym, ◌∙◌, ap, subst, arith, inl, inr, length-append, append_assoc}
 use Rattle.std.specs.Int.{bit_at}
 use Rattle.std.specs.List.{flat_map}
 use Rattle.std.proofs.Math.ListN.{set}

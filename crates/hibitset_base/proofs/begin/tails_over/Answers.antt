@@ -1,8 +1,7 @@
-use Rattle.std.proofs.Common.{◌≡◌, ℕ, ◌+◌, ◌-◌, ◌^◌, ◌<◌, ◌∙◌, arith, refl, get_or, replicate}
-use Rattle.std.proofs.lemmas.List.{length-replicate}
+use Rattle.std.proofs.Common.{◌≡◌, ℕ, ◌+◌, ◌-◌, arith, refl, replicate}
 use Rattle.hibitset_base.specs.declared.util.TheConstants.{LAYERS}
 use Rattle.hibitset_base.proofs.Starting.{none_left}
-use Rattle.hibitset_base.proofs.Passing.{Reaches, reaches_none, reaches_more, stops_at, ends_at}
+use Rattle.hibitset_base.proofs.Passing.{reaches_none, reaches_more, stops_at, ends_at}
 use Rattle.hibitset_base.proofs.begin.tails_over.Goals as goal
 
 pub layers-init : goal.layers-init

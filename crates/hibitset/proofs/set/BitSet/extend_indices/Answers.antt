@@ -1,4 +1,4 @@
-use Rattle.std.proofs.Common.{◌≤◌, arith}
+use Rattle.std.proofs.Common.{arith}
 use Rattle.hibitset.specs.BitSet.{has, slice_len}
 use Rattle.hibitset.proofs.Lengths.{length_kept, length_most}
 use Rattle.hibitset.proofs.set.BitSet.extend_indices.Goals as goal

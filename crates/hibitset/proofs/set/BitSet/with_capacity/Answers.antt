@@ -1,4 +1,4 @@
-use Rattle.std.proofs.Common.{◌≡◌, ◌-◌, ◌+◌, ◌/◌, ◌∙◌, ap, arith}
+use Rattle.std.proofs.Common.{◌≡◌, ◌∙◌, ap, arith}
 use Rattle.hibitset.specs.BitSet.{has, word_of, slice_len}
 use Rattle.hibitset_base.proofs.Holding.{holds_same}
 use Rattle.hibitset.proofs.set.BitSet.with_capacity.Goals.{then-max-gt0+in_ok-extend, else-max-gt0}
