@@ -29,7 +29,7 @@ CALLS = {
         "BitParIter::count": "parts::count",
         "BitParIter::fold": "parts::fold",
         "BitParIter::for_each": "parts::for_each",
-        "BitSetLike::to_vec": "sets::to_vec",
+        "BitSetLike::to_vec": "sets::to_vec sets::to_vec_of_a_member_a_word sets::to_vec_of_full_words",
         "BitIter::clone": "copies::walk",
         "BitSetAll::clone": "room::virtual_sets",
         "BitSetAnd::clone": "copies::intersection",

@@ -1,11 +1,9 @@
 -- `BitSet`s that take the items of an iterator.
-use Rattle.std.specs.Prelude.{◌≡◌, ℕ, ◌/◌, ◌%◌, ◌<◌, ◌≤◌, ◌==◌, Bool, true, false, Option, get_or}
-use Rattle.std.specs.Int.{bit_at}
-use Rattle.std.proofs.Common.{arith, ap, sym, ◌∙◌, inl, inr}
+use Rattle.std.specs.Prelude.{◌≡◌, ℕ, ◌/◌, ◌%◌, ◌<◌, ◌≤◌, Bool, true, Option, get_or}
+use Rattle.std.proofs.Common.{arith, inl, inr}
 use Rattle.std.proofs.lemmas.Bool.{cases_lt}
 use Rattle.std.proofs.lemmas.List.{get_or_past}
-use Rattle.std.proofs.lemmas.Nat.Bits.{bit_at-zero}
-use Rattle.hibitset_base.specs.Sets.{bit_of}
+use Rattle.hibitset_base.specs.Deciding.{no_bit}
 use Rattle.hibitset.specs.BitSet.{has, word_of, slice_len}
 use Rattle.hibitset.specs.declared.set.BitSet.{BitSet}
 use Rattle.hibitset_base.specs.Building.{RefusesBelow, TakesAllBelow, StopsAtRefusedBelow}
@@ -15,9 +13,6 @@ use Rattle.hibitset_base.specs.declared.util.TheConstants.{MAX_EID}
 -- the words of all members lie before this position
 abbrev pub MembersEndBy : (ℕ → Bool) → ℕ → Type 0
 MembersEndBy holds end = (i : ℕ) → holds i ≡ true → i / 64 < end
-
-no_bit : (x b : ℕ) → x ≡ 0 → (bit_at x b == 1) ≡ true → bit_of true ≡ bit_of false
-no_bit x b none on = ap bit_of (sym on ∙ ap (λ y. y == 1) (ap (λ z. bit_at z b) none ∙ bit_at-zero b))
 
 -- the word of a member lies before that of a number whose word the set lacks
 pub member_apart : (set : BitSet) (i j : ℕ) → has set i ≡ true → slice_len set 0 ≤ j / 64 → i / 64 < j / 64

@@ -1,9 +1,8 @@
 -- What a contract sees of an `AtomicBitSet`.
-use Rattle.std.specs.Prelude.{◌≡◌, ◌≢◌, ℕ, ◌-◌, ◌/◌, ◌%◌, ◌*◌, ◌+◌, ◌==◌, Bool, true, false, List, get_or}
-use Rattle.std.specs.Int.{bit_at}
-use Rattle.std.proofs.Common.{arith, ap, sym, ◌∙◌}
-use Rattle.std.proofs.lemmas.Nat.Bits.{bit_at-zero}
-use Rattle.hibitset_base.specs.Sets.{bit_of, IsLawful}
+use Rattle.std.specs.Prelude.{◌≡◌, ◌≢◌, ℕ, ◌-◌, ◌/◌, ◌%◌, ◌*◌, ◌+◌, Bool, true, List, get_or}
+use Rattle.std.proofs.Common.{arith}
+use Rattle.hibitset_base.specs.Deciding.{no_bit}
+use Rattle.hibitset_base.specs.Sets.{IsLawful}
 use Rattle.hibitset_base.specs.Stored.{summed_lawful}
 use Rattle.hibitset_atomic.specs.Blocks.{block_word, IsUnmade}
 use Rattle.hibitset_base.specs.Members.{members_below}
@@ -46,9 +45,6 @@ HasNoNear set i = (j : ℕ) → has set j ≡ true → j / 4096 ≢ i / 4096
 -- The block of 4,096 indices that has the number is not made, so that an addition there needs memory. Where some member is near, it is made.
 unfoldable pub LacksBlock : AtomicBitSet → ℕ → Type 0
 LacksBlock set i = IsUnmade set.layers.layer0 (i / 4096)
-
-no_bit : (x b : ℕ) → x ≡ 0 → (bit_at x b == 1) ≡ true → bit_of true ≡ bit_of false
-no_bit x b none on = ap bit_of (sym on ∙ ap (λ y. y == 1) (ap (λ z. bit_at z b) none ∙ bit_at-zero b))
 
 pub block_apart : (set : AtomicBitSet) (i j : ℕ) → has set i ≡ true → LacksBlock set j → i / 4096 ≢ j / 4096
 unfolding has word_of LacksBlock

@@ -154,6 +154,9 @@ const SAMPLE: usize = 32;
 // To go over words twice gains nothing where most have fewer bits than this.
 const FEW: usize = 4;
 
+// To go by whole words gains nothing where so few items are left, or where hardly a word of the sample has more than one.
+const SINGLE: usize = 36;
+
 // Room for the items that are left: as many, or, where the first words have few each, as many as these have.
 #[inline]
 fn room_for<T: BitSetLike>(set: &T, cursor: &mut Cursor<LAYERS>) -> usize {
@@ -170,10 +173,28 @@ fn room_for<T: BitSetLike>(set: &T, cursor: &mut Cursor<LAYERS>) -> usize {
     room
 }
 
-// The items that a walk has left, with room for all of them taken at once, but for sparse sets.
-pub(crate) fn list_walk<T: BitSetLike>(
+// The items that a walk has left, one after another, with so much room taken for them.
+#[inline]
+fn list_items<T: BitSetLike>(
     walk: BitIter<T>,
     alloc: Global,
+    room: usize,
+) -> Result<Vec<Index>, AllocError>
+    ensures { IfOk result (λ v. v.items ≡ items_left T.holds walk) }
+{
+    let mut list = Vec::with_capacity(alloc, room)?;
+    'items: for item in walk {
+        list.push(item)?;
+    }
+    Ok(list)
+}
+
+// The items that a walk has left, by whole words, with so much room taken for them.
+#[inline]
+fn list_words<T: BitSetLike>(
+    walk: BitIter<T>,
+    alloc: Global,
+    room: usize,
 ) -> Result<Vec<Index>, AllocError>
     ensures { IfOk result (λ v. v.items ≡ items_left T.holds walk) }
 {
@@ -182,8 +203,33 @@ pub(crate) fn list_walk<T: BitSetLike>(
         mut cursor,
         mut reads,
     } = walk;
-    let room = room_for(&set, &mut cursor.copied());
-    listed(&set, &mut cursor, &mut reads, alloc, room)
+    let mut list = Vec::with_capacity(alloc, room)?;
+    let mut buffer = [0; BUFFER];
+    list_left(&set, &mut cursor, &mut reads, &mut buffer, &mut list)?;
+    Ok(list)
+}
+
+// The items that a walk has left, with room for all of them taken at once, but for sparse sets.
+pub(crate) fn list_walk<T: BitSetLike>(
+    walk: BitIter<T>,
+    alloc: Global,
+) -> Result<Vec<Index>, AllocError>
+    ensures { IfOk result (λ v. v.items ≡ items_left T.holds walk) }
+{
+    let room = room_for(&walk.set, &mut walk.cursor.copied());
+    if room < SINGLE {
+        list_items(walk, alloc, room)
+    } else {
+        list_words(walk, alloc, room)
+    }
+}
+
+// The members of a set.
+#[inline]
+pub(crate) fn list_members<T: BitSetLike>(set: &T, alloc: Global) -> Result<Vec<Index>, AllocError>
+    ensures { IfOk result (λ v. v.items ≡ members_below MAX_EID (T.holds set.now)) }
+{
+    list_walk(BitIter::from_top(set), alloc)
 }
 
 // How many items a walk has left.
@@ -197,32 +243,4 @@ pub(crate) fn count_walk<T: BitSetLike>(walk: BitIter<T>) -> usize
         mut reads,
     } = walk;
     count_left(&set, &mut cursor, &mut reads)
-}
-
-// The items that are left, with so much room taken for them.
-#[inline]
-fn listed<T: BitSetLike>(
-    set: &T,
-    cursor: &mut Cursor<LAYERS>,
-    reads: &mut Reads,
-    alloc: Global,
-    room: usize,
-) -> Result<Vec<Index>, AllocError>
-    ensures { IfOk result (λ v. v.items ≡ items_of (T.holds set.now) (left cursor.old)) }
-{
-    let mut list = Vec::with_capacity(alloc, room)?;
-    let mut buffer = [0; BUFFER];
-    list_left(set, cursor, reads, &mut buffer, &mut list)?;
-    Ok(list)
-}
-
-// The members of a set.
-#[inline]
-pub(crate) fn list_members<T: BitSetLike>(set: &T, alloc: Global) -> Result<Vec<Index>, AllocError>
-    ensures { IfOk result (λ v. v.items ≡ members_below MAX_EID (T.holds set.now)) }
-{
-    let mut reads = Reads::none();
-    let mut cursor = start(set, &mut reads);
-    let room = room_for(set, &mut cursor.copied());
-    listed(set, &mut cursor, &mut reads, alloc, room)
 }

@@ -198,3 +198,41 @@ fn to_vec(rt: HostRuntime) -> Result<(), Fail> {
     assert!(rt; has_exactly(&set, &[5, 6, 5_000_000]));
     Ok(())
 }
+
+#[test]
+fn to_vec_of_a_member_a_word(rt: HostRuntime) -> Result<(), Fail> {
+    let mut set = BitSet::with_capacity(rt.alloc(), 4_000)?;
+    for word in 0..40u32 {
+        set.add(100 * word)?;
+    }
+    ask(&rt)?;
+    let listed = set.to_vec(rt.alloc());
+    say(&rt, listed.is_err())?;
+    ask(&rt)?;
+    let list = match listed {
+        Ok(list) => list,
+        Err(_) => set.to_vec(rt.alloc())?,
+    };
+    assert!(rt; list.len() == 40 && list.first() == Some(&0) && list.last() == Some(&3_900));
+    assert!(rt; set.len() == 40);
+    Ok(())
+}
+
+#[test]
+fn to_vec_of_full_words(rt: HostRuntime) -> Result<(), Fail> {
+    let mut set = BitSet::with_capacity(rt.alloc(), 1_000)?;
+    for id in 0..1_000u32 {
+        set.add(id)?;
+    }
+    ask(&rt)?;
+    let listed = set.to_vec(rt.alloc());
+    say(&rt, listed.is_err())?;
+    ask(&rt)?;
+    let list = match listed {
+        Ok(list) => list,
+        Err(_) => set.to_vec(rt.alloc())?,
+    };
+    assert!(rt; list.len() == 1_000 && list.first() == Some(&0) && list.last() == Some(&999));
+    assert!(rt; set.len() == 1_000);
+    Ok(())
+}

@@ -1,0 +1,93 @@
+-- One layer after another gets another list of words, over one list of the layers.
+use Rattle.std.proofs.Common.{◌≡◌, ◌≢◌, ℕ, zero, suc, ◌+◌, ◌-◌, ◌/◌, ◌%◌, ◌^◌, ◌<◌, ◌≤◌, ◌==◌, not, max, List, [], ◌∷◌, get_or, length, refl, ◌∙◌, ap, arith}
+use Rattle.std.specs.Int.{bit_at}
+use Rattle.std.proofs.Math.ListN.{set}
+use Rattle.std.proofs.lemmas.List.{length-set, get_or-set_same, get_or-set_other}
+use Rattle.hibitset_base.specs.Sets.{bit_of}
+use Rattle.hibitset_base.specs.Words.{IsSummed, IsShaped, IsStored, word_at}
+use Rattle.hibitset_base.proofs.Mending.{way_up}
+use Rattle.hibitset_base.proofs.Shapes.{get_or_any, stored_longer, PutUpTo, put_next}
+use Rattle.hibitset.proofs.Merging.{place_within}
+use Rattle.hibitset.proofs.Blocks.{BlockPutUpTo, block_next}
+
+-- words that are 0 put behind a layer's, as far as a place
+pub record Lengthens (xs ys : List ℕ) (place : ℕ) : Type 0 where
+  pub same : (p : ℕ) → get_or ys p 0 ≡ get_or xs p 0
+  pub keeps : length xs ≤ length ys
+  pub most : length ys ≤ max (length xs) (place + 1)
+
+pub lengthens : {xs ys : List ℕ} {place : ℕ} → ((p : ℕ) → get_or ys p 0 ≡ get_or xs p 0) → length xs ≤ length ys → length ys ≤ max (length xs) (place + 1) → Lengthens xs ys place
+lengthens same keeps most = record { same = same; keeps = keeps; most = most }
+
+-- a layer below the top gets the word over an index, where the layer above has its word over it
+pub stored_lengthened : {n i place : ℕ} {layers : List (List ℕ)} {xs : List ℕ} (k : ℕ) → IsStored n layers → k < length layers → k + 1 < n → i < 64 ^ n → Lengthens (get_or layers k []) xs place → i / 64 ^ (k + 1) ≡ place
+    → (k + 2 < n → i / 64 ^ (k + 2) < length (get_or layers (k + 1) [])) → IsStored n (set layers k xs)
+stored_lengthened {n} {i} {place} {layers} {xs} k stored there below within long place-is covers = stored_longer n k layers xs stored there long.same long.keeps
+    (λ _.
+        let short = stored.shaped.short k (omega arith) in
+        let here : i / 64 ^ (k + 1) < 64 ^ (n + 1 - 1 - (k + 1)) = place_within (n + 1) (k + 1) i (omega arith) (let e : n + 1 - 1 ≡ n = omega arith in rw e within) in
+        let size : n + 1 - 1 - (k + 1) ≡ n - 1 - k = omega arith in
+        let small = rw size at here in
+        let most = long.most in
+        omega (arith, short, small, most, place-is))
+    (λ more.
+        let covered = stored.shaped.covered k more in
+        let two : k + 1 + 1 ≡ k + 2 = omega arith in
+        let up = rw two at (way_up i (k + 1)) in
+        let over = covers more in
+        let most = long.most in
+        omega (arith, covered, up, over, most, place-is))
+
+-- a word put into a layer, whose other words stay
+pub record Puts (xs ys : List ℕ) (place x : ℕ) : Type 0 where
+  pub long : length ys ≡ length xs
+  pub here : get_or ys place 0 ≡ x
+  pub others : (p : ℕ) → p ≢ place → get_or ys p 0 ≡ get_or xs p 0
+
+pub puts : {xs ys : List ℕ} {place x : ℕ} → length ys ≡ length xs → get_or ys place 0 ≡ x → ((p : ℕ) → p ≢ place → get_or ys p 0 ≡ get_or xs p 0) → Puts xs ys place x
+puts long here others = record { long = long; here = here; others = others }
+
+pub puts_set : (xs : List ℕ) (place x : ℕ) → place < length xs → Puts xs (set xs place x) place x
+puts_set xs place x within = puts (length-set xs place x) (get_or-set_same xs place x 0 within) (λ p other. get_or-set_other xs place p x 0 other)
+
+-- the top layer has one word
+pub puts_top : (x y : ℕ) → Puts (x ∷ []) (y ∷ []) 0 y
+puts_top x y = puts refl refl others where
+  others : (p : ℕ) → p ≢ 0 → get_or (y ∷ []) p 0 ≡ get_or (x ∷ []) p 0
+  others zero other = absurd (other refl)
+  others (suc p) other = refl
+
+-- the word of a layer with the bit that tells whether the word below is 0
+pub record SetsBit (before x bit below : ℕ) : Type 0 where
+  pub same : (b : ℕ) → b < 64 → b ≢ bit → bit_at x b ≡ bit_at before b
+  pub here : bit_at x bit ≡ bit_of (not (below == 0))
+
+pub sets_bit : {before x bit below : ℕ} → ((b : ℕ) → b < 64 → b ≢ bit → bit_at x b ≡ bit_at before b) → bit_at x bit ≡ bit_of (not (below == 0)) → SetsBit before x bit below
+sets_bit same here = record { same = same; here = here }
+
+-- where layer 0 has a word, each layer below the top has the word over it
+pub way_has_room : (n k q : ℕ) (layers : List (List ℕ)) → IsShaped n layers → k + 1 < n → q < length (get_or layers 0 []) → q / 64 ^ k < length (get_or layers k [])
+way_has_room n zero q layers shaped below room = let one : q / 1 ≡ q = omega arith in rw one room
+way_has_room n (suc k) q layers shaped below room =
+    let s : suc k ≡ k + 1 = omega arith in
+    let up : q / 64 ^ (k + 1) ≡ q / 64 ^ k / 64 = way_up q k in
+    let lower : q / 64 ^ k < length (get_or layers k []) = way_has_room n k q layers shaped (omega arith) room in
+    let covered = shaped.covered k (omega arith) in
+    rw (s, up) (omega (arith, lower, covered))
+
+-- The word of a layer is put in, with the bit that tells whether the word below is 0, one layer over what was put in so far: over one word of layer 0, or over the words under one word of layer 1.
+module _ {n q : ℕ} {old now : List (List ℕ)} {xs : List ℕ} {place x before bit below : ℕ} (k : ℕ) where
+  pub put_up : PutUpTo n k old now q → k + 1 < length now → Puts (get_or now (k + 1) []) xs place x → x < 2 ^ 64 → place < length (get_or now (k + 1) []) → before ≡ get_or (get_or now (k + 1) []) place before
+      → SetsBit before x bit below → q / 64 ^ (k + 1) ≡ place → q / 64 ^ k % 64 ≡ bit → word_at now k (q / 64 ^ k) ≡ below → PutUpTo n (k + 1) old (set now (k + 1) xs) q
+  put_up up there puts fits room read sets place-is bit-is below-is =
+      let was : before ≡ word_at now (k + 1) place = read ∙ get_or_any (get_or now (k + 1) []) place before 0 room in
+      put_next n k old now xs q x up there puts.long (rw place-is puts.here) fits (rw place-is puts.others)
+      (rw (place-is, bit-is) (λ b small other. sets.same b small other ∙ ap (λ v. bit_at v b) was)) (rw (bit-is, below-is) sets.here)
+
+  pub block_up : IsSummed n (word_at old) → BlockPutUpTo n k old now q → k + 2 < n → k + 2 < length now → Puts (get_or now (k + 2) []) xs place x → x < 2 ^ 64 → place < length (get_or now (k + 2) [])
+      → before ≡ get_or (get_or now (k + 2) []) place before → SetsBit before x bit below → q / 64 ^ (k + 1) ≡ place → q / 64 ^ k % 64 ≡ bit → word_at now (k + 1) (q / 64 ^ k) ≡ below
+      → BlockPutUpTo n (k + 1) old (set now (k + 2) xs) q
+  block_up summed up more there puts fits room read sets place-is bit-is below-is =
+      let was : before ≡ word_at now (k + 2) place = read ∙ get_or_any (get_or now (k + 2) []) place before 0 room in
+      block_next n k old now xs q x more summed up there puts.long (rw place-is puts.here) fits (rw place-is puts.others)
+      (rw (place-is, bit-is) (λ b small other. sets.same b small other ∙ ap (λ v. bit_at v b) was)) (rw (bit-is, below-is) sets.here)
