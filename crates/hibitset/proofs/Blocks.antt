@@ -8,7 +8,8 @@ use Rattle.hibitset_base.specs.Sets.{bit_of}
 use Rattle.hibitset_base.specs.Words.{IsSummed, IsShaped, IsStored, word_at}
 use Rattle.hibitset.specs.Merging.{Summarizes}
 use Rattle.hibitset_base.proofs.Mending.{way_up, other_layer}
-use Rattle.hibitset_base.proofs.Shapes.{shaped_put, fits_put}
+use Rattle.hibitset_base.proofs.Shapes.{get_or_any, shaped_put, fits_put}
+use Rattle.hibitset_base.proofs.LayerByLayer.{Puts, SetsBit}
 
 -- Words v and w are the same but under word q of layer 1 and on the way up from it, no higher than k layers over that word, and the bits on the way up to there tell which words below them are 0.
 pub record ChangedUpTo (k : ℕ) (w v : ℕ → ℕ → ℕ) (q : ℕ) : Type 0 where
@@ -124,3 +125,12 @@ block_next n k old now xs q x more summed put there same here fits others bits b
 
 pub block_last : (n k : ℕ) (old now : List (List ℕ)) (q : ℕ) → n ≤ k + 2 → BlockPutUpTo n k old now q → IsSummed n (word_at old) → IsStored n now
 block_last n k old now q all put summed = record { shaped = put.shaped; summed = changed_last n k (word_at old) (word_at now) q all put.changed summed }
+
+-- one layer more, over the words under one word of layer 1
+pub block_up : {n q : ℕ} {old now : List (List ℕ)} {xs : List ℕ} {place x before bit below : ℕ} (k : ℕ) → IsSummed n (word_at old) → BlockPutUpTo n k old now q → k + 2 < n → k + 2 < length now → Puts (get_or now (k + 2) []) xs place x → x < 2 ^ 64
+    → place < length (get_or now (k + 2) []) → before ≡ get_or (get_or now (k + 2) []) place before → SetsBit before x bit below → q / 64 ^ (k + 1) ≡ place → q / 64 ^ k % 64 ≡ bit → word_at now (k + 1) (q / 64 ^ k) ≡ below
+    → BlockPutUpTo n (k + 1) old (set now (k + 2) xs) q
+block_up {n} {q} {old} {now} {xs} {place} {x} {before} k summed up more there puts fits room read sets place-is bit-is below-is =
+    let was : before ≡ word_at now (k + 2) place = read ∙ get_or_any (get_or now (k + 2) []) place before 0 room in
+    block_next n k old now xs q x more summed up there puts.long (rw place-is puts.here) fits (rw place-is puts.others)
+    (rw (place-is, bit-is) (λ b small other. sets.same b small other ∙ ap (λ v. bit_at v b) was)) (rw (bit-is, below-is) sets.here)

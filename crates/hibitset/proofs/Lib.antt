@@ -2,7 +2,6 @@ pub mod CallerLemmas
 pub mod Within
 pub mod Merging
 pub mod Blocks
-pub mod LayerByLayer
 pub mod Comparing
 pub mod Equality
 pub mod Ending

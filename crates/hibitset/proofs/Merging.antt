@@ -12,6 +12,7 @@ use Rattle.hibitset_base.specs.declared.util.TheConstants.{LAYERS}
 use Rattle.hibitset_base.specs.Words.{IsSummed, holds_at}
 use Rattle.hibitset.specs.Merging.{MergedUnder, MergedAt, Summarizes, Covers}
 use Rattle.hibitset_base.proofs.Holding.{bit_test}
+use Rattle.hibitset_base.proofs.LayerByLayer.{place_within}
 
 -- The state of a loop over the bits of `visited`, of which those of `left` are still to do.
 pub record MergedPast (merged : ℕ → ℕ → ℕ) (theirs old new : ℕ → ℕ) (size q visited left : ℕ) : Type 0 where
@@ -143,14 +144,6 @@ under_after merged theirs old new size whole q visited left whole-is none past s
       ];
       outside = λ p other. past.outside p (λ e. other (sym (up p) ∙ e));
     }
-
--- places above a place lie in their layers
-pub place_within : (n l p : ℕ) → l < n → p < 64 ^ (n - 1) → p / 64 ^ l < 64 ^ (n - 1 - l)
-place_within n l p below within =
-    let sum : n - 1 - l + l ≡ n - 1 = omega arith in
-    let e : 64 ^ (n - 1) ≡ 64 ^ (n - 1 - l) * 64 ^ l = ap (λ x. 64 ^ x) (sym sum) ∙ pow-add 64 (n - 1 - l) l in
-    let some : 0 < 64 ^ l = one-le-pow l 64 (lit< tt) in
-    (div-lt_iff_lt-mul some).1 (rw e at within)
 
 pub some_word : (x b : ℕ) → bit_at x b ≡ 1 → 0 < x
 some_word zero b h = absurd (let z = bit_at-zero b in omega arith)

@@ -1,12 +1,17 @@
 -- The words of an atomic set.
-use Rattle.std.proofs.Common.{◌≡◌, ℕ, zero, suc, ◌+◌, ◌*◌, ◌/◌, ◌%◌, ◌^◌, ◌<◌, ◌≤◌, true, List, get_or, arith, inl, inr, ap, ◌∙◌}
+use Rattle.std.proofs.Common.{◌≡◌, ◌≢◌, ℕ, zero, suc, ◌+◌, ◌*◌, ◌/◌, ◌%◌, ◌^◌, ◌<◌, ◌≤◌, true, List, [], get_or, length, arith, inl, inr, refl, sym, ap, ◌∙◌}
+use Rattle.std.specs.Int.{bit_at}
+use Rattle.std.proofs.Math.ListN.{set}
 use Rattle.std.proofs.lemmas.Bool.{cases_lt}
-use Rattle.std.proofs.lemmas.List.{get_or_past}
+use Rattle.std.proofs.lemmas.List.{get_or_past, get_or-set_same}
 use Rattle.hibitset_base.specs.Words.{holds_at}
 use Rattle.hibitset_atomic.specs.Placed.{IsPlaced, placed_word}
-use Rattle.hibitset_atomic.specs.Layers.{layer_word}
+use Rattle.hibitset_atomic.specs.Layers.{layer_word, word_over}
 use Rattle.hibitset_atomic.specs.declared.layers.Layers.{Layers}
 use Rattle.hibitset_base.proofs.Holding.{some_word}
+use Rattle.hibitset_base.proofs.LayerByLayer.{Puts, SetsBit}
+use Rattle.hibitset_base.proofs.Mending.{MendedUpTo, mended_first, mended_next, other_layer}
+use Rattle.hibitset_base.proofs.Shapes.{get_or_any}
 
 pub layers_fit : (layers : Layers) (l p : ℕ) → layer_word layers l p < 2 ^ 64
 layers_fit layers zero p = layers.layer0.placed.fits (64 * get_or layers.layer0.places.items (p / 64) 0 + p % 64)
@@ -32,3 +37,33 @@ held_below layers i holds = elim (cases_lt i 16777216) [
       let none = placed_past 4096 layers.layer0.places.items layers.layer0.words.items (i / 64) layers.layer0.placed (omega arith) in
       omega (arith, some, none))
 ]
+
+-- the words of layer 0 are put in
+pub over_first : (bottom bottom' : ℕ → ℕ) (upper : List (List ℕ)) (q : ℕ) → ((p : ℕ) → p ≢ q → bottom' p ≡ bottom p) → MendedUpTo 0 (word_over bottom upper) (word_over bottom' upper) q
+over_first bottom bottom' upper q others = mended_first (word_over bottom upper) (word_over bottom' upper) q above others where
+  above : (l p : ℕ) → l ≢ 0 → word_over bottom' upper l p ≡ word_over bottom upper l p
+  above zero p other = absurd (other refl)
+  above (suc l) p other = refl
+
+-- the words of an upper layer are put in
+module _ (bottom : ℕ → ℕ) (upper : List (List ℕ)) (k : ℕ) (xs : List ℕ) where
+  over_same : (l p : ℕ) → l ≢ k + 1 → word_over bottom (set upper k xs) l p ≡ word_over bottom upper l p
+  over_same zero p other = refl
+  over_same (suc l) p other = other_layer upper k xs l p (λ e. other (omega arith))
+
+  over_here : k < length upper → (p : ℕ) → word_over bottom (set upper k xs) (k + 1) p ≡ get_or xs p 0
+  over_here there p = let s : k + 1 ≡ suc k = omega arith in rw s (ap (λ ys. get_or ys p 0) (get_or-set_same upper k xs [] there))
+
+-- the word of an upper layer is put in, with the bit that tells whether the word below is 0, one layer over what was put in so far
+pub over_up : {q : ℕ} {old : ℕ → ℕ → ℕ} {xs : List ℕ} {place x before bit below : ℕ} (k : ℕ) (bottom : ℕ → ℕ) (upper : List (List ℕ)) → MendedUpTo k old (word_over bottom upper) q → k < length upper → Puts (get_or upper k []) xs place x
+    → place < length (get_or upper k []) → before ≡ get_or (get_or upper k []) place before → SetsBit before x bit below → q / 64 ^ (k + 1) ≡ place → q / 64 ^ k % 64 ≡ bit → word_over bottom upper k (q / 64 ^ k) ≡ below
+    → MendedUpTo (k + 1) old (word_over bottom (set upper k xs)) q
+over_up {q} {old} {xs} {place} {x} {before} {bit} k bottom upper up there puts room read sets place-is bit-is below-is =
+    let s : k + 1 ≡ suc k = omega arith in
+    let was : (p : ℕ) → word_over bottom upper (k + 1) p ≡ get_or (get_or upper k []) p 0 = (λ p. rw s refl) in
+    let before-is : before ≡ word_over bottom upper (k + 1) place = read ∙ (get_or_any (get_or upper k []) place before 0 room ∙ sym (was place)) in
+    let word : word_over bottom (set upper k xs) (k + 1) place ≡ x = over_here bottom upper k xs there place ∙ puts.here in
+    mended_next k old (word_over bottom upper) (word_over bottom (set upper k xs)) q up (over_same bottom upper k xs)
+    (rw place-is (λ p other. over_here bottom upper k xs there p ∙ (puts.others p other ∙ sym (was p))))
+    (rw (place-is, bit-is) (λ b small other. ap (λ v. bit_at v b) word ∙ (sets.same b small other ∙ ap (λ v. bit_at v b) before-is)))
+    (rw (place-is, bit-is, below-is) (ap (λ v. bit_at v bit) word ∙ sets.here))

@@ -25,6 +25,7 @@ pub mod Folding
 pub mod Given
 pub mod Mending
 pub mod Shapes
+pub mod LayerByLayer
 pub mod Holding
 pub mod Building
 pub mod CallerLemmas

@@ -1,5 +1,5 @@
 use Rattle.std.proofs.Common.{arith, lit<, sym}
-use Rattle.hibitset.proofs.LayerByLayer.{lengthens, stored_lengthened}
+use Rattle.hibitset_base.proofs.LayerByLayer.{lengthens, stored_lengthened}
 use Rattle.hibitset.proofs.set.BitSet.grow.Goals as goal
 
 pub invariant_of-self : goal.invariant_of-self

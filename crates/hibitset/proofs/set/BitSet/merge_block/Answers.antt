@@ -7,8 +7,8 @@ use Rattle.hibitset.specs.Merging.{Summarizes, MergedUnder}
 use Rattle.hibitset.specs.declared.set.BitSet.{BitSet}
 use Rattle.hibitset_base.proofs.Shapes.{get_or_any}
 use Rattle.hibitset.proofs.Merging.{block_merged}
-use Rattle.hibitset.proofs.Blocks.{block_first, block_last}
-use Rattle.hibitset.proofs.LayerByLayer.{block_up, puts_set, puts_top, sets_bit}
+use Rattle.hibitset_base.proofs.LayerByLayer.{puts_set, puts_top, sets_bit}
+use Rattle.hibitset.proofs.Blocks.{block_first, block_up, block_last}
 use Rattle.hibitset.proofs.set.BitSet.merge_block.Goals as goal
 
 -- our summary word of a block

@@ -2,7 +2,7 @@ use Rattle.std.proofs.Common.{rules, ◌≡◌, ◌/◌, ◌<◌, length, refl, 
 use Rattle.hibitset_base.specs.declared.util.TheConstants.{LAYERS}
 use Rattle.hibitset_base.proofs.Shapes.{get_or_any, put_first, put_last}
 use Rattle.hibitset.specs.BitSet.{layers}
-use Rattle.hibitset.proofs.LayerByLayer.{way_has_room, put_up, puts, puts_top, sets_bit}
+use Rattle.hibitset_base.proofs.LayerByLayer.{way_has_room, put_up, puts, puts_top, sets_bit}
 use Rattle.hibitset.proofs.set.BitSet.put_word.Goals as goal
 
 pub index-before2-requires : goal.index-before2-requires

@@ -1,14 +1,22 @@
 -- One layer after another gets another list of words, over one list of the layers.
-use Rattle.std.proofs.Common.{◌≡◌, ◌≢◌, ℕ, zero, suc, ◌+◌, ◌-◌, ◌/◌, ◌%◌, ◌^◌, ◌<◌, ◌≤◌, ◌==◌, not, max, List, [], ◌∷◌, get_or, length, refl, ◌∙◌, ap, arith}
+use Rattle.std.proofs.Common.{◌≡◌, ◌≢◌, ℕ, zero, suc, ◌+◌, ◌-◌, ◌*◌, ◌/◌, ◌%◌, ◌^◌, ◌<◌, ◌≤◌, ◌==◌, not, max, List, [], ◌∷◌, get_or, length, refl, sym, ◌∙◌, ap, arith, lit<}
 use Rattle.std.specs.Int.{bit_at}
 use Rattle.std.proofs.Math.ListN.{set}
+use Rattle.std.proofs.Math.Nat.{div-lt_iff_lt-mul, one-le-pow}
+use Rattle.std.proofs.lemmas.Nat.{pow-add}
 use Rattle.std.proofs.lemmas.List.{length-set, get_or-set_same, get_or-set_other}
 use Rattle.hibitset_base.specs.Sets.{bit_of}
-use Rattle.hibitset_base.specs.Words.{IsSummed, IsShaped, IsStored, word_at}
+use Rattle.hibitset_base.specs.Words.{IsShaped, IsStored, word_at}
 use Rattle.hibitset_base.proofs.Mending.{way_up}
 use Rattle.hibitset_base.proofs.Shapes.{get_or_any, stored_longer, PutUpTo, put_next}
-use Rattle.hibitset.proofs.Merging.{place_within}
-use Rattle.hibitset.proofs.Blocks.{BlockPutUpTo, block_next}
+
+-- places above a place lie in their layers
+pub place_within : (n l p : ℕ) → l < n → p < 64 ^ (n - 1) → p / 64 ^ l < 64 ^ (n - 1 - l)
+place_within n l p below within =
+    let sum : n - 1 - l + l ≡ n - 1 = omega arith in
+    let e : 64 ^ (n - 1) ≡ 64 ^ (n - 1 - l) * 64 ^ l = ap (λ x. 64 ^ x) (sym sum) ∙ pow-add 64 (n - 1 - l) l in
+    let some : 0 < 64 ^ l = one-le-pow l 64 (lit< tt) in
+    (div-lt_iff_lt-mul some).1 (rw e at within)
 
 -- words that are 0 put behind a layer's, as far as a place
 pub record Lengthens (xs ys : List ℕ) (place : ℕ) : Type 0 where
@@ -75,19 +83,11 @@ way_has_room n (suc k) q layers shaped below room =
     let covered = shaped.covered k (omega arith) in
     rw (s, up) (omega (arith, lower, covered))
 
--- The word of a layer is put in, with the bit that tells whether the word below is 0, one layer over what was put in so far: over one word of layer 0, or over the words under one word of layer 1.
-module _ {n q : ℕ} {old now : List (List ℕ)} {xs : List ℕ} {place x before bit below : ℕ} (k : ℕ) where
-  pub put_up : PutUpTo n k old now q → k + 1 < length now → Puts (get_or now (k + 1) []) xs place x → x < 2 ^ 64 → place < length (get_or now (k + 1) []) → before ≡ get_or (get_or now (k + 1) []) place before
-      → SetsBit before x bit below → q / 64 ^ (k + 1) ≡ place → q / 64 ^ k % 64 ≡ bit → word_at now k (q / 64 ^ k) ≡ below → PutUpTo n (k + 1) old (set now (k + 1) xs) q
-  put_up up there puts fits room read sets place-is bit-is below-is =
-      let was : before ≡ word_at now (k + 1) place = read ∙ get_or_any (get_or now (k + 1) []) place before 0 room in
-      put_next n k old now xs q x up there puts.long (rw place-is puts.here) fits (rw place-is puts.others)
-      (rw (place-is, bit-is) (λ b small other. sets.same b small other ∙ ap (λ v. bit_at v b) was)) (rw (bit-is, below-is) sets.here)
-
-  pub block_up : IsSummed n (word_at old) → BlockPutUpTo n k old now q → k + 2 < n → k + 2 < length now → Puts (get_or now (k + 2) []) xs place x → x < 2 ^ 64 → place < length (get_or now (k + 2) [])
-      → before ≡ get_or (get_or now (k + 2) []) place before → SetsBit before x bit below → q / 64 ^ (k + 1) ≡ place → q / 64 ^ k % 64 ≡ bit → word_at now (k + 1) (q / 64 ^ k) ≡ below
-      → BlockPutUpTo n (k + 1) old (set now (k + 2) xs) q
-  block_up summed up more there puts fits room read sets place-is bit-is below-is =
-      let was : before ≡ word_at now (k + 2) place = read ∙ get_or_any (get_or now (k + 2) []) place before 0 room in
-      block_next n k old now xs q x more summed up there puts.long (rw place-is puts.here) fits (rw place-is puts.others)
-      (rw (place-is, bit-is) (λ b small other. sets.same b small other ∙ ap (λ v. bit_at v b) was)) (rw (bit-is, below-is) sets.here)
+-- The word of a layer is put in, with the bit that tells whether the word below is 0, one layer over what was put in so far.
+pub put_up : {n q : ℕ} {old now : List (List ℕ)} {xs : List ℕ} {place x before bit below : ℕ} (k : ℕ) → PutUpTo n k old now q → k + 1 < length now → Puts (get_or now (k + 1) []) xs place x → x < 2 ^ 64
+    → place < length (get_or now (k + 1) []) → before ≡ get_or (get_or now (k + 1) []) place before → SetsBit before x bit below → q / 64 ^ (k + 1) ≡ place → q / 64 ^ k % 64 ≡ bit → word_at now k (q / 64 ^ k) ≡ below
+    → PutUpTo n (k + 1) old (set now (k + 1) xs) q
+put_up {n} {q} {old} {now} {xs} {place} {x} {before} k up there puts fits room read sets place-is bit-is below-is =
+    let was : before ≡ word_at now (k + 1) place = read ∙ get_or_any (get_or now (k + 1) []) place before 0 room in
+    put_next n k old now xs q x up there puts.long (rw place-is puts.here) fits (rw place-is puts.others)
+    (rw (place-is, bit-is) (λ b small other. sets.same b small other ∙ ap (λ v. bit_at v b) was)) (rw (bit-is, below-is) sets.here)
