@@ -21,6 +21,8 @@ fn an_empty_set(rt: HostRuntime) -> Result<(), Fail> {
     assert_eq!(rt; set.layer1_as_slice().len(), 0);
     assert_eq!(rt; set.layer2_as_slice().len(), 0);
     assert_eq!(rt; list(rt.alloc(), &set)?.len(), 0);
+    assert_eq!(rt; set.to_vec(rt.alloc())?.len(), 0);
+    assert!(rt; set.clone()?.is_empty());
     Ok(())
 }
 

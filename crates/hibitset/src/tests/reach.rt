@@ -197,6 +197,21 @@ fn one_word_a_layer(rt: HostRuntime) -> Result<(), Fail> {
     Ok(())
 }
 
+#[test]
+fn each_word_once(rt: HostRuntime) -> Result<(), Fail> {
+    let counting = Counting {
+        set: set_of(rt.alloc(), &[64, 70, 16_777_215])?,
+        reads: Cell::new(0),
+    };
+    assert_eq!(rt; counting.len(), 3);
+    assert_eq!(rt; counting.reads.replace(0), 7);
+    // the top once, and each other word once to count and once to list
+    let listed = counting.to_vec(rt.alloc())?;
+    assert_eq!(rt; listed.as_slice(), [64, 70, 16_777_215].as_slice());
+    assert_eq!(rt; counting.reads.replace(0), 13);
+    Ok(())
+}
+
 // A walk over an intersection from an index on: its words lie over members of the first set, and are at most three for each.
 fn walk_both_from<'a>(
     a: &'a BitSet,
