@@ -40,7 +40,10 @@ fn sets(rt: HostRuntime) -> Result<(), Fail> {
     assert!(rt; has_exactly(&set, &[70, 300_000]));
     assert!(rt; set.drain().next() == Some(70));
     set.clear();
-    assert!(rt; has_exactly(&set, &[]) && BitSet::new(rt.alloc()).is_empty());
+    assert!(rt; has_exactly(&set, &[]) && set.to_vec(rt.alloc()).is_ok());
+    assert!(rt; set.add(300_000) == Ok(false));
+    let empty = BitSet::new(rt.alloc());
+    assert!(rt; empty.is_empty() && empty.clone().is_ok());
     ask(&rt)
 }
 

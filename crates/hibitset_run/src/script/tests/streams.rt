@@ -156,21 +156,25 @@ fn reads_on_after_an_interruption(rt: HostRuntime) {
 }
 
 #[test]
-fn ends_where_a_write_fails(rt: HostRuntime) {
+fn ends_where_a_write_fails(rt: HostRuntime) -> Result<(), Fail> {
+    let long = lines(rt.alloc(), "has a 5\n", 20_000)?;
     for (kind, takes_text) in [
         (ErrorKind::Other, false),
         (ErrorKind::OutOfMemory, false),
         (ErrorKind::Other, true),
     ] {
-        let mut writer = Full {
-            kind,
-            writes: 0,
-            takes_text,
-        };
-        let ended = run_text(rt.alloc(), b"add a 5\n".as_slice(), &mut writer);
-        assert_eq!(rt; ended, Ended::OutputFailed);
-        assert_eq!(rt; writer.writes, 1);
+        for script in ["add a 5\n", long.as_str()] {
+            let mut writer = Full {
+                kind,
+                writes: 0,
+                takes_text,
+            };
+            let ended = run_text(rt.alloc(), script.as_bytes(), &mut writer);
+            assert_eq!(rt; ended, Ended::OutputFailed);
+            assert_eq!(rt; writer.writes, 1);
+        }
     }
+    Ok(())
 }
 
 #[test]
@@ -217,7 +221,7 @@ fn reads_to_the_first_end(rt: HostRuntime) {
 
 #[test]
 fn reads_byte_by_byte(rt: HostRuntime) -> Result<(), Fail> {
-    let script = lines(rt.alloc(), "add h 16777215\n", 2000)?;
+    let script = lines(rt.alloc(), "add h 16777215\n", 7000)?;
     let reader = EndingOnce {
         bytes: script.as_bytes(),
         rest: b"",
@@ -227,7 +231,7 @@ fn reads_byte_by_byte(rt: HostRuntime) -> Result<(), Fail> {
     assert_eq!(rt; run_text(rt.alloc(), reader, &mut output), Ended::Done);
     let mut wanted = String::new(rt.alloc());
     wanted.push_str("false\n")?;
-    wanted.push_str(lines(rt.alloc(), "true\n", 1999)?.as_str())?;
+    wanted.push_str(lines(rt.alloc(), "true\n", 6999)?.as_str())?;
     assert!(rt; output.as_slice() == wanted.as_bytes());
     Ok(())
 }
