@@ -73,6 +73,28 @@ fn divided_to_the_last_share(rt: HostRuntime) -> Result<(), Fail> {
     assert_eq!(rt; first.weight(), 1);
     let (last, none) = set.divide(first);
     assert!(rt; none.is_none() && last.weight() == 1 && !last.is_whole());
+    let Ok(set) = set.settle(last) else {
+        panic!(rt; "no memory")
+    };
+    assert!(rt; set.is_empty());
+    Ok(())
+}
+
+#[test]
+fn a_member_in_each_block(rt: HostRuntime) -> Result<(), Fail> {
+    let mut set = AtomicBitSet::new(rt.alloc())?;
+    for block in 0..4_096u32 {
+        assert_eq!(rt; set.add(4_096 * block + 1), Ok(false));
+    }
+    assert_eq!(rt; (set.layer3(), set.len()), (!0, 4_096));
+    let Ok((set, seat)) = set.share() else {
+        panic!(rt; "no memory")
+    };
+    let Ok(set) = set.settle(seat) else {
+        panic!(rt; "no memory")
+    };
+    assert_eq!(rt; (set.layer3(), set.len()), (!0, 4_096));
+    assert_eq!(rt; (set.first(), set.contains(16_773_121)), (Some(1), true));
     Ok(())
 }
 
