@@ -32,19 +32,19 @@ pub stored_lengthened : {n i place : ℕ} {layers : List (List ℕ)} {xs : List 
     → (k + 2 < n → i / 64 ^ (k + 2) < length (get_or layers (k + 1) [])) → IsStored n (set layers k xs)
 stored_lengthened {n} {i} {place} {layers} {xs} k stored there below within long place-is covers = stored_longer n k layers xs stored there long.same long.keeps
     (λ _.
-        let short = stored.shaped.short k (omega arith) in
-        let here : i / 64 ^ (k + 1) < 64 ^ (n + 1 - 1 - (k + 1)) = place_within (n + 1) (k + 1) i (omega arith) (let e : n + 1 - 1 ≡ n = omega arith in rw e within) in
-        let size : n + 1 - 1 - (k + 1) ≡ n - 1 - k = omega arith in
-        let small = rw size at here in
-        let most = long.most in
-        omega (arith, short, small, most, place-is))
+    let short = stored.shaped.short k (omega arith) in
+    let here : i / 64 ^ (k + 1) < 64 ^ (n + 1 - 1 - (k + 1)) = place_within (n + 1) (k + 1) i (omega arith) (let e : n + 1 - 1 ≡ n = omega arith in rw e within) in
+    let size : n + 1 - 1 - (k + 1) ≡ n - 1 - k = omega arith in
+    let small = rw size at here in
+    let most = long.most in
+    omega (arith, short, small, most, place-is))
     (λ more.
-        let covered = stored.shaped.covered k more in
-        let two : k + 1 + 1 ≡ k + 2 = omega arith in
-        let up = rw two at (way_up i (k + 1)) in
-        let over = covers more in
-        let most = long.most in
-        omega (arith, covered, up, over, most, place-is))
+    let covered = stored.shaped.covered k more in
+    let two : k + 1 + 1 ≡ k + 2 = omega arith in
+    let up = rw two at (way_up i (k + 1)) in
+    let over = covers more in
+    let most = long.most in
+    omega (arith, covered, up, over, most, place-is))
 
 -- a word put into a layer, whose other words stay
 pub record Puts (xs ys : List ℕ) (place x : ℕ) : Type 0 where

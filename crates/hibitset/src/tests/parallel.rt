@@ -35,12 +35,13 @@ fn clusters(rt: HostRuntime) -> Result<(), Fail> {
     assert_eq!(rt; list(rt.alloc(), &set)?.len(), 512);
     assert_eq!(rt; (&set).par_iter().count(&rt, rt.alloc())?, 512);
     let visited = AtomicUsize::new(0);
-    (&set)
-        .par_iter()
-        .for_each(&rt, rt.alloc(), |_index: Index| {
-            visited.fetch_add(1, Ordering::SeqCst);
-        })?;
+    let sum = AtomicUsize::new(0);
+    (&set).par_iter().for_each(&rt, rt.alloc(), |index: Index| {
+        visited.fetch_add(1, Ordering::SeqCst);
+        sum.fetch_add(index as usize, Ordering::SeqCst);
+    })?;
     assert_eq!(rt; visited.load(Ordering::SeqCst), 512);
+    assert_eq!(rt; sum.load(Ordering::SeqCst), 22_367_744);
     let none = BitSet::new(rt.alloc());
     assert_eq!(rt; (&none).par_iter().count(&rt, rt.alloc())?, 0);
     assert_eq!(rt; none.par_iter().collect(&rt, rt.alloc())?.len(), 0);
@@ -99,14 +100,16 @@ fn folds_of_ten_and_of_many(rt: HostRuntime) -> Result<(), Fail> {
     assert_eq!(rt; sum_of(&rt, rt.alloc(), &ten)?, 45);
     let many = run_of(rt.alloc(), 524_288)?;
     assert_eq!(rt; sum_of(&rt, rt.alloc(), &many)?, 137_438_691_328);
-    let pieces = BitParIter::new(&many).fold(
-        &rt,
-        rt.alloc(),
-        || 1u64,
-        |pieces: u64, _index: Index| pieces,
-        |pieces: u64, other: u64| pieces.wrapping_add(other),
-    )?;
-    assert_eq!(rt; pieces, 4096);
+    for (layers, wanted) in [(1u8, 2), (2, 128), (3, 4_096)] {
+        let pieces = BitParIter::new(&many).layers_split(layers).fold(
+            &rt,
+            rt.alloc(),
+            || 1u64,
+            |pieces: u64, _index: Index| pieces,
+            |pieces: u64, other: u64| pieces.wrapping_add(other),
+        )?;
+        assert_eq!(rt; pieces, wanted);
+    }
     Ok(())
 }
 
@@ -120,11 +123,14 @@ fn each_of_many(rt: HostRuntime) -> Result<(), Fail> {
     let all = (&many).par_iter().collect(&rt, rt.alloc())?;
     assert_eq!(rt; all.as_slice(), list(rt.alloc(), &many)?.as_slice());
     let visited = AtomicUsize::new(0);
+    let sum = AtomicUsize::new(0);
     (&many)
         .par_iter()
-        .for_each(&rt, rt.alloc(), |_index: Index| {
+        .for_each(&rt, rt.alloc(), |index: Index| {
             visited.fetch_add(1, Ordering::SeqCst);
+            sum.fetch_add(index as usize, Ordering::SeqCst);
         })?;
     assert_eq!(rt; visited.load(Ordering::SeqCst), 524_288);
+    assert_eq!(rt; sum.load(Ordering::SeqCst), 137_438_691_328);
     Ok(())
 }

@@ -98,7 +98,7 @@ fn words_with_many_bits_and_with_few(rt: HostRuntime) -> Result<(), Fail> {
     assert_eq!(rt; dense.len(), 5_000);
     let listed = dense.to_vec(rt.alloc())?;
     assert_eq!(rt; listed.as_slice(), list(rt.alloc(), &dense)?.as_slice());
-    assert_eq!(rt; listed.last(), Some(&4_999));
+    assert_eq!(rt; (listed.last(), listed.capacity()), (Some(&4_999), 5_000));
     let from = list_from(rt.alloc(), &dense, 4_321)?;
     assert_eq!(rt;
         from.as_slice(),

@@ -62,13 +62,13 @@ fn virtual_sets(rt: HostRuntime) -> Result<(), Fail> {
 
 #[test]
 fn atomic_sets(rt: HostRuntime) -> Result<(), Fail> {
-    let mut set = atomic_of(rt.alloc(), &[5, 70, 300_000])?;
+    let mut set = atomic_of(rt.alloc(), &[5, 70, 300_000, 600_000])?;
     ask(&rt)?;
     assert!(rt; set.add(4095) == Ok(false) && set.add(70) == Ok(true));
     assert!(rt; set.extend_indices(7..10) == Ok(()));
     assert!(rt; set.extend_index_refs(&[7, 300_001]) == Ok(()));
     assert!(rt; set.remove(300_001) && !set.remove(300_001) && set.contains(300_000));
-    assert!(rt; has_exactly(&set, &[5, 7, 8, 9, 70, 4095, 300_000]));
+    assert!(rt; has_exactly(&set, &[5, 7, 8, 9, 70, 4095, 300_000, 600_000]));
     assert!(rt; set.drain().next() == Some(5));
     set.clear();
     assert!(rt; set.is_empty());

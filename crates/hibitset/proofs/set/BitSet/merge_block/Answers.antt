@@ -65,8 +65,8 @@ invariant_of-self g c =
     let puts1 = puts_set self.layer1.items c.args.place c.merge_words-word1.result room1 in
     let puts2 = puts_set self.layer2.items (c.args.place / 64) c.with_bit-word2.result room2 in
     let up0 = block_first LAYERS (layers self) c.merge_words-word1.new.words.items (set self.layer1.items c.args.place c.merge_words-word1.result) c.args.place c.merge_words-word1.result self.stored.shaped (lit< tt)
-        (merged.length ∙ kept.length) (merged.bounded (kept.bounded (λ p. self.stored.shaped.words 0 p))) (λ p other. let same : p / 1 ≡ p = omega arith in merged.words.outside p (rw same other) ∙ kept.words.outside p (rw same other))
-        puts1.long puts1.here (omega arith) puts1.others merged.exact in
+    (merged.length ∙ kept.length) (merged.bounded (kept.bounded (λ p. self.stored.shaped.words 0 p))) (λ p other. let same : p / 1 ≡ p = omega arith in merged.words.outside p (rw same other) ∙ kept.words.outside p (rw same other))
+    puts1.long puts1.here (omega arith) puts1.others merged.exact in
     let up1 = block_up 0 self.stored.summed up0 (lit< tt) (lit< tt) puts2 (omega arith) room2 c.index.ensures (sets_bit bit2.same bit2.here) refl (rw one refl) (rw one puts1.here) in
     let up2 = block_up 1 self.stored.summed up1 (lit< tt) (lit< tt) (puts_top self.layer3 c.with_bit-word3.result) (omega arith) (lit< tt) refl (sets_bit bit3.same bit3.here) (omega (arith, c.requires.range)) (omega (arith, c.requires.range)) puts2.here in
     record { stored = block_last LAYERS 2 _ _ c.args.place (lit≤ tt) up2 self.stored.summed }
