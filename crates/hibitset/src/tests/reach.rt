@@ -209,6 +209,17 @@ fn each_word_once(rt: HostRuntime) -> Result<(), Fail> {
     let listed = counting.to_vec(rt.alloc())?;
     assert_eq!(rt; listed.as_slice(), [64, 70, 16_777_215].as_slice());
     assert_eq!(rt; counting.reads.replace(0), 13);
+    // of words with one bit each 32 are looked at before the list is made
+    let mut set = BitSet::new(rt.alloc());
+    for word in 0..64u32 {
+        set.add(64 * word)?;
+    }
+    let counting = Counting {
+        set,
+        reads: Cell::new(0),
+    };
+    assert_eq!(rt; counting.to_vec(rt.alloc())?.len(), 64);
+    assert_eq!(rt; counting.reads.replace(0), 101);
     Ok(())
 }
 

@@ -82,6 +82,35 @@ fn from_index_refs(rt: HostRuntime) -> Result<(), Fail> {
     Ok(())
 }
 
+// Where the empty set is refused memory, no item is drawn.
+#[test]
+fn from_indices_of_which_none_fits(rt: HostRuntime) -> Result<(), Fail> {
+    let items = [16_777_216u32, 7];
+    ask(&rt)?;
+    let mut left = items.iter().copied();
+    let error = AtomicBitSet::from_indices(rt.alloc(), &mut left).err();
+    let refused = error == Some(BuildError::Memory { place: 0 });
+    say(&rt, refused)?;
+    ask(&rt)?;
+    let next = left.next();
+    assert!(rt; error.is_some() && next == Some(if refused { 16_777_216 } else { 7 }));
+    Ok(())
+}
+
+#[test]
+fn from_index_refs_of_which_none_fits(rt: HostRuntime) -> Result<(), Fail> {
+    let items = [16_777_216u32, 7];
+    ask(&rt)?;
+    let mut left = items.iter();
+    let error = AtomicBitSet::from_index_refs(rt.alloc(), &mut left).err();
+    let refused = error == Some(BuildError::Memory { place: 0 });
+    say(&rt, refused)?;
+    ask(&rt)?;
+    let next = left.next();
+    assert!(rt; error.is_some() && next == Some(if refused { &16_777_216 } else { &7 }));
+    Ok(())
+}
+
 #[test]
 fn extend_indices(rt: HostRuntime) -> Result<(), Fail> {
     let items = [6u32, 5_000_000, 7];
