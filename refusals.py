@@ -75,7 +75,7 @@ CALLS = {
 # The tests of calls that make no request.
 ROOM = "sets sets_with_room virtual_sets atomic_sets shared_sets worlds parts"
 
-# Where rayon is refused the memory for a second part it goes on with one, so that its calls may pass.
+# Where rayon is refused the memory for a second part it goes on with one, so that one request of its calls may be refused and the call pass.
 GO_ON = "tests::parts::"
 
 # What the program may print where one request is refused: each of these is to come, the last one where none is refused.
@@ -182,6 +182,8 @@ class Test:
             fail(f"{self.name}: its own requests have the numbers {self.before} and {self.after}")
         if sorted(self.call + self.went_on) != list(range(self.before[0] + 1, self.after[0])):
             fail(f"{self.name}: between {self.before} and {self.after} only {self.call} were refused")
+        if len(self.went_on) > 1:
+            fail(f"{self.name}: it went on where the requests {self.went_on} were refused")
         if self.has_room == bool(self.call):
             fail(f"{self.name}: {len(self.call)} requests")
         went_on = f", {len(self.went_on)} gone on without" if self.went_on else ""
