@@ -18,32 +18,21 @@ place_within n l p below within =
     let some : 0 < 64 ^ l = one-le-pow l 64 (lit< tt) in
     (div-lt_iff_lt-mul some).1 (rw e at within)
 
--- words that are 0 put behind a layer's, as far as a place
-pub record Lengthens (xs ys : List ℕ) (place : ℕ) : Type 0 where
-  pub same : (p : ℕ) → get_or ys p 0 ≡ get_or xs p 0
-  pub keeps : length xs ≤ length ys
-  pub most : length ys ≤ max (length xs) (place + 1)
-
-pub lengthens : {xs ys : List ℕ} {place : ℕ} → ((p : ℕ) → get_or ys p 0 ≡ get_or xs p 0) → length xs ≤ length ys → length ys ≤ max (length xs) (place + 1) → Lengthens xs ys place
-lengthens same keeps most = record { same = same; keeps = keeps; most = most }
-
--- a layer below the top gets the word over an index, where the layer above has its word over it
-pub stored_lengthened : {n i place : ℕ} {layers : List (List ℕ)} {xs : List ℕ} (k : ℕ) → IsStored n layers → k < length layers → k + 1 < n → i < 64 ^ n → Lengthens (get_or layers k []) xs place → i / 64 ^ (k + 1) ≡ place
-    → (k + 2 < n → i / 64 ^ (k + 2) < length (get_or layers (k + 1) [])) → IsStored n (set layers k xs)
-stored_lengthened {n} {i} {place} {layers} {xs} k stored there below within long place-is covers = stored_longer n k layers xs stored there long.same long.keeps
+-- a layer below the top gets words that are 0 up to the one over an index, where the layer above has its word over that
+pub stored_lengthened : {n i place : ℕ} {layers : List (List ℕ)} (k : ℕ) (xs : List ℕ) → IsStored n layers → k < length layers → k + 1 < n → i < 64 ^ n → ((p : ℕ) → get_or xs p 0 ≡ get_or (get_or layers k []) p 0)
+    → length (get_or layers k []) ≤ length xs → length xs ≤ max (length (get_or layers k [])) (place + 1) → i / 64 ^ (k + 1) ≡ place → (k + 2 < n → i / 64 ^ (k + 2) < length (get_or layers (k + 1) [])) → IsStored n (set layers k xs)
+stored_lengthened {n} {i} {place} {layers} k xs stored there below within same keeps most place-is covers = stored_longer n k layers xs stored there same keeps
     (λ _.
     let short = stored.shaped.short k (omega arith) in
     let here : i / 64 ^ (k + 1) < 64 ^ (n + 1 - 1 - (k + 1)) = place_within (n + 1) (k + 1) i (omega arith) (let e : n + 1 - 1 ≡ n = omega arith in rw e within) in
     let size : n + 1 - 1 - (k + 1) ≡ n - 1 - k = omega arith in
     let small = rw size at here in
-    let most = long.most in
     omega (arith, short, small, most, place-is))
     (λ more.
     let covered = stored.shaped.covered k more in
     let two : k + 1 + 1 ≡ k + 2 = omega arith in
     let up = rw two at (way_up i (k + 1)) in
     let over = covers more in
-    let most = long.most in
     omega (arith, covered, up, over, most, place-is))
 
 -- a word put into a layer, whose other words stay
