@@ -66,14 +66,22 @@ CALLS = {
         "BitSet::from_indices": "sets::from_indices",
         "BitSet::with_capacity": "sets::with_capacity",
     },
+    "hibitset_store": {
+        "Column::insert": "columns::insert",
+    },
     PROGRAM: {
-        "run": "script::tests::refused_and_again",
-        "run_text": "",  # by SCRIPTS
+        "run": "script::tests::refused_and_again store::tests::refused_and_again",
+        "run_text": "",  # by SCRIPTS, as the two below
+        "Reply::put_line": "",
+        "StoreReply::put_line": "",
     },
 }
 
+# Tests of calls of std on what a public call gives.
+OF_STD = "columns::collect"
+
 # The tests of calls that make no request.
-ROOM = "sets sets_with_room virtual_sets atomic_sets shared_sets worlds parts"
+ROOM = "sets sets_with_room virtual_sets atomic_sets shared_sets worlds parts columns"
 
 # Where rayon is refused the memory for a second part it goes on with one, so that one request of its calls may be refused and the call pass.
 GO_ON = "tests::parts::"
@@ -96,6 +104,11 @@ SCRIPTS = {
     ],
     "remove a 5\nhas a 5\ncount a\nand a b\nor a b\nxor a a\nclear a\nsame a b\nwithin a b\nsplit a 3\nlist a\n": [
         "false\nfalse\n0\nok\nok\nok\nok\ntrue\ntrue\n1\n\n",
+    ],
+    "store\nput p 5 7\njoin p p\nget p 5\ntake p 5\njoin p p\n": [
+        "no memory\n\nnone\nnone\n\n",
+        "none\nno memory\n7\n7\n\n",
+        "none\n5:7:7\n7\n7\n\n",
     ],
 }
 
@@ -218,12 +231,12 @@ def compare_lists():
 def library(pool):
     names = " ".join(names for crate, named in CALLS.items() if crate != PROGRAM for names in named.values())
     rooms = [f"room::{room}" for room in ROOM.split()]
-    tests(pool, "refusals", {f"tests::{name}" for name in [*names.split(), *rooms]}, [])
+    tests(pool, "refusals", {f"tests::{name}" for name in [*names.split(), *OF_STD.split(), *rooms]}, [])
 
 
-def script_run(pool):
-    name = CALLS[PROGRAM]["run"]
-    tests(pool, PROGRAM, {name}, ["--", name])
+def runs(pool):
+    for name in CALLS[PROGRAM]["run"].split():
+        tests(pool, PROGRAM, {name}, ["--", name])
 
 
 def scripts(pool):
@@ -264,7 +277,7 @@ def main():
     compare_lists()
     # The threads of the second pool only wait for runs of the first.
     with ThreadPoolExecutor(TOGETHER) as pool, ThreadPoolExecutor() as turns:
-        for turn in [turns.submit(part, pool) for part in (library, scripts, script_run)]:
+        for turn in [turns.submit(part, pool) for part in (library, scripts, runs)]:
             turn.result()
 
 

@@ -100,37 +100,42 @@ def written(script):
 
 def read(path):
     """The scripts of one file."""
+    with open(path, encoding="ascii", newline="\n") as file:
+        return parsed(file, path)
+
+
+def parsed(lines, name):
+    """The scripts of the lines of a file of this name."""
     scripts = []
     section = None
-    with open(path, encoding="ascii", newline="\n") as file:
-        for number, line in enumerate(file, 1):
-            words = line.split()
-            if line.startswith("=== "):
-                section = words[1]
-                if section == "args":
-                    scripts[-1].args = words[2:]
-                elif section == "stdin":
-                    scripts[-1].folder = True
-                elif section == "stdout":
-                    scripts[-1].full = True
-                elif section == "status":
-                    scripts[-1].status = int(words[2])
-                elif section == "out" and words[2:] == ["digests"]:
-                    section = "digests"
-                    scripts[-1].digests = []
-                elif section not in ("out", "err"):
-                    scripts.append(Script(section))
-                    section = "made" if words[2:] == ["made"] else "text"
-            elif section == "text":
-                scripts[-1].text += unescaped(line)
-            elif section == "made":
-                scripts[-1].digest = words[0]
-            elif section == "out":
-                scripts[-1].out += unescaped(line)
-            elif section == "digests":
-                scripts[-1].digests.append((int(words[0]), words[1]))
-            elif section == "err":
-                scripts[-1].err += unescaped(line)
-            else:
-                raise ValueError(f"{path}:{number}: {line.rstrip()}")
+    for number, line in enumerate(lines, 1):
+        words = line.split()
+        if line.startswith("=== "):
+            section = words[1]
+            if section == "args":
+                scripts[-1].args = words[2:]
+            elif section == "stdin":
+                scripts[-1].folder = True
+            elif section == "stdout":
+                scripts[-1].full = True
+            elif section == "status":
+                scripts[-1].status = int(words[2])
+            elif section == "out" and words[2:] == ["digests"]:
+                section = "digests"
+                scripts[-1].digests = []
+            elif section not in ("out", "err"):
+                scripts.append(Script(section))
+                section = "made" if words[2:] == ["made"] else "text"
+        elif section == "text":
+            scripts[-1].text += unescaped(line)
+        elif section == "made":
+            scripts[-1].digest = words[0]
+        elif section == "out":
+            scripts[-1].out += unescaped(line)
+        elif section == "digests":
+            scripts[-1].digests.append((int(words[0]), words[1]))
+        elif section == "err":
+            scripts[-1].err += unescaped(line)
+        else:
+            raise ValueError(f"{name}:{number}: {line.rstrip()}")
     return scripts

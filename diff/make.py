@@ -1,7 +1,7 @@
 #!/usr/bin/env python3
-"""make.py OUT SCRIPTS ORACLE STAGE: writes the files of the folder OUT, of scripts that lie in the folder SCRIPTS as *.in,
-of those of recipes.py and of a few runs with other arguments, input or output, each with the answer of the program
-ORACLE at the stage. make.sh calls it.
+"""make.py OUT SCRIPTS ORACLE: writes the files of the folder OUT, of scripts that lie in the folder SCRIPTS as *.in,
+of those of recipes.py, of the examples of docs/PROGRAM.md and of a few runs with other arguments, input or output, each
+with the answer of the program ORACLE. make.sh calls it.
 """
 import re
 import sys
@@ -9,6 +9,7 @@ from pathlib import Path
 
 sys.dont_write_bytecode = True
 import bundle
+import page
 import recipes
 import runs
 
@@ -18,39 +19,40 @@ PLAIN = 40_000  # bytes of output that are kept as they are
 NAMES = {"row": "example"}  # kinds that have other names here
 
 
-def kinds(stage):
-    """How many scripts of each kind are kept, spread over all that there are. Of those with none recipes.py has its own."""
-    splits, stores = stage >= 7, stage >= 15
-    return {
-        "row": ALL,
-        "basic-dense": 6,
-        "basic-borders": 6,
-        "basic-everywhere": 6,
-        "mixed-dense": 8,
-        "mixed-borders": 12,
-        "mixed-everywhere": 8,
-        "mixed-clusters": 3,
-        "assign-blocks": 14,
-        "assign-borders": 7,
-        "aliased-dense": 8,
-        "aliased-blocks": 8,
-        "split-dense": 5 if splits else 1,
-        "split-blocks": 8 if splits else 1,
-        "split-everywhere": 6 if splits else 1,
-        "split-four": 6 if splits else 1,
-        "bad": ALL,
-        "bad-mutated": ALL,
-        "bad-store": ALL if stores else 16,
-        "good": ALL,
-        "store-dense": 6 if stores else 1,
-        "store-borders": 6 if stores else 1,
-        "store-everywhere": 6 if stores else 1,
-        "store-long": 0,
-        "long-basic": 0,
-        "long-mixed": 0,
-        "full-range": 0,
-        "pairs": 0,
-    }
+# What the oracle is to know beside the commands on sets: five layers, and the store.
+FORM = ["--layers", "5", "--store"]
+
+# How many scripts of each kind are kept, spread over all that there are. Of those with none recipes.py has its own.
+KINDS = {
+    "row": ALL,
+    "basic-dense": 6,
+    "basic-borders": 6,
+    "basic-everywhere": 6,
+    "mixed-dense": 8,
+    "mixed-borders": 12,
+    "mixed-everywhere": 8,
+    "mixed-clusters": 2,
+    "assign-blocks": 14,
+    "assign-borders": 7,
+    "aliased-dense": 8,
+    "aliased-blocks": 8,
+    "split-dense": 5,
+    "split-blocks": 8,
+    "split-everywhere": 6,
+    "split-four": 6,
+    "bad": ALL,
+    "bad-mutated": ALL,
+    "bad-store": ALL,
+    "good": ALL,
+    "store-dense": 3,
+    "store-borders": 3,
+    "store-everywhere": 3,
+    "store-long": 0,
+    "long-basic": 0,
+    "long-mixed": 0,
+    "full-range": 0,
+    "pairs": 0,
+}
 
 
 def kind_of(name):
@@ -117,10 +119,14 @@ def other_runs():
     return scripts
 
 
-def answer(oracle, stage, script):
+def of_page():
+    return [with_text(script.name, script.text) for script in page.scripts()]
+
+
+def answer(oracle, script):
     """Puts the oracle's answer into the script."""
     asked = bundle.Script(script.name)
-    asked.args, asked.folder, asked.full = ["--stage", str(stage)], script.folder, script.full
+    asked.args, asked.folder, asked.full = FORM, script.folder, script.full
     ran = runs.run([oracle], asked, script.text)
     if ran is None or ran[0] not in (0, 2, 4, 5):
         sys.exit(f"make.py: the oracle failed on {script.name}: {ran}")
@@ -130,20 +136,19 @@ def answer(oracle, stage, script):
 
 
 def main():
-    if len(sys.argv) != 5:
-        sys.exit("usage: make.py OUT SCRIPTS ORACLE STAGE")
-    out, folder, oracle, stage = Path(sys.argv[1]), Path(sys.argv[2]), sys.argv[3], int(sys.argv[4])
-    wanted = kinds(stage)
+    if len(sys.argv) != 4:
+        sys.exit("usage: make.py OUT SCRIPTS ORACLE")
+    out, folder, oracle = Path(sys.argv[1]), Path(sys.argv[2]), sys.argv[3]
     found = {}
     for path in sorted(folder.glob("*.in")):
         found.setdefault(kind_of(path.stem), []).append(path)
     for kind in found:
-        if kind not in wanted:
+        if kind not in KINDS:
             sys.exit(f"make.py: scripts of a kind that make.py does not know: {kind}")
-    files = {"made": of_recipes(), "bad-lines": bad_lines(), "runs": other_runs()}
+    files = {"made": of_recipes(), "bad-lines": bad_lines(), "runs": other_runs(), "program": of_page()}
     for kind, paths in found.items():
         paths = [path for path in paths if path.stem not in recipes.RECIPES]
-        kept = spread(paths, wanted[kind])
+        kept = spread(paths, KINDS[kind])
         if kept:
             files[NAMES.get(kind, kind)] = [with_text(name_of(kind, n, path), path.read_bytes()) for n, path in enumerate(kept, 1)]
     out.mkdir(exist_ok=True)
@@ -152,11 +157,11 @@ def main():
     scripts = size = 0
     for kind, of_kind in files.items():
         for script in of_kind:
-            answer(oracle, stage, script)
+            answer(oracle, script)
         text = "".join(map(bundle.written, of_kind))
         (out / f"{kind}.txt").write_text(text, encoding="ascii", newline="\n")
         scripts, size = scripts + len(of_kind), size + len(text)
-    print(f"{scripts} scripts at stage {stage}, {size} bytes")
+    print(f"{scripts} scripts, {size} bytes")
     if size > LIMIT:
         sys.exit(f"make.py: over {LIMIT} bytes")
 

@@ -1,6 +1,6 @@
 """Scripts that are too long to keep: each is made anew, always the same, by the function of its name."""
 
-END = 1 << 24  # indices that a set can have lie below
+END = 1 << 24  # the range of the original; what a script says to lie in range lies below
 
 
 class Numbers:
@@ -82,6 +82,24 @@ def long(seed, ids, weights, sets):
     return "\n".join(lines) + "\n"
 
 
+STORE = {"put": 50, "get": 30, "take": 18, "join": 1}
+
+
+def store(seed, ids):
+    """20,000 lines on two columns."""
+    numbers = Numbers(seed)
+    words = [word for word, weight in STORE.items() for _ in range(weight)]
+    lines = ["store"]
+    for _ in range(20_000):
+        word = numbers.of(words)
+        line = f"{word} {numbers.of('pq')}"
+        line += f" {numbers.of('pq')}" if word == "join" else f" {ids(numbers)}"
+        if word == "put":
+            line += f" {every_size(numbers)}"
+        lines.append(line)
+    return "\n".join(lines) + "\n"
+
+
 def pairs():
     """Each pair of subsets of six indices, under each command of two sets."""
     ids = (0, 63, 64, 4096, 262144, END - 1)
@@ -120,6 +138,11 @@ RECIPES = {
     "long-mixed-clusters": lambda: long(6, clusters, MIXED, "abcd"),
     "long-mixed-blocks": lambda: long(7, blocks, MIXED, "abcdefgh"),
     "long-mixed-borders": lambda: long(8, borders, MIXED, "ab"),
+    "store-long-dense": lambda: store(9, dense),
+    "store-long-below-60000": lambda: store(10, below_60_000),
+    "store-long-every-size": lambda: store(11, every_size),
+    "store-long-clusters": lambda: store(12, clusters),
+    "store-long-borders": lambda: store(13, borders),
     "bad-letters": lambda: "a" * 1_000_000,
     "bad-spaces": lambda: " " * 100_000,
     "bad-newlines-many": lambda: "\n" * 100_000,

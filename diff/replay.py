@@ -1,6 +1,7 @@
 #!/usr/bin/env python3
 """replay.py SCRIPTS PROGRAM [ARG..]: runs the program on each script of the folder SCRIPTS, and compares standard output,
-standard error and the exit status with what is kept there.
+standard error and the exit status with what is kept there. It also fails where the examples of docs/PROGRAM.md are not
+those of program.txt.
 
 The last line is 'N passed, M failed'. The status is 0 where none failed. SHOW: failures that are printed whole (10).
 """
@@ -10,6 +11,7 @@ from pathlib import Path
 
 sys.dont_write_bytecode = True
 import bundle
+import page
 import recipes
 import runs
 
@@ -76,6 +78,10 @@ def main():
         sys.exit(f"replay.py: no program {program[0]}")
     files = sorted(folder.glob("*.txt"))
     passed = failed = 0
+    kept = (folder / "program.txt").read_text(encoding="ascii")
+    if page.text() != kept:
+        failed += 1
+        print("FAILED docs/PROGRAM.md: its examples are not those of program.txt")
     for script in (script for file in files for script in bundle.read(file)):
         said = failures(program, script)
         if not said:

@@ -36,7 +36,8 @@ pub struct Both<'a> {
     pub original: Kernel<'a>,
 }
 
-/// What a peer's answer is compared with: the original's for one turn, or for the set that it ends with.
+/// What a peer's answer is compared with: the original's for one turn, or for the set that it ends with. Where the original
+/// has no answer, it is compared with ours.
 #[derive(Clone, Copy)]
 pub enum Answer {
     Turn,
@@ -48,20 +49,32 @@ type Peer<'a> = Box<dyn FnMut() -> (Duration, u64) + 'a>;
 pub struct Row<'a> {
     name: String,
     ops: f64,
-    aim: f64,
+    aim: Option<f64>,
     answer: Answer,
-    work: Both<'a>,
-    copy: Option<Both<'a>>,
+    /// Ours, and the original's where it has the work.
+    work: Vec<Kernel<'a>>,
+    /// As many, or none.
+    copy: Vec<Kernel<'a>>,
     peers: Vec<(&'static str, Peer<'a>)>,
 }
 
 impl<'a> Row<'a> {
     pub fn new(name: impl Into<String>, ops: usize, aim: f64, work: Both<'a>) -> Row<'a> {
-        Row { name: name.into(), ops: ops.max(1) as f64, aim, answer: Answer::Turn, work, copy: None, peers: Vec::new() }
+        let work = vec![work.ours, work.original];
+        Row { name: name.into(), ops: ops.max(1) as f64, aim: Some(aim), answer: Answer::Turn, work, copy: Vec::new(), peers: Vec::new() }
+    }
+    /// Work that the original does not have.
+    pub fn alone(name: impl Into<String>, ops: usize, ours: Kernel<'a>) -> Row<'a> {
+        Row { name: name.into(), ops: ops.max(1) as f64, aim: None, answer: Answer::Turn, work: vec![ours], copy: Vec::new(), peers: Vec::new() }
     }
     /// Each turn of the work makes a copy first, as this does.
     pub fn on_copies(mut self, copy: Both<'a>) -> Row<'a> {
-        self.copy = Some(copy);
+        self.copy = vec![copy.ours, copy.original];
+        self
+    }
+    /// The same of work that the original does not have.
+    pub fn on_copies_alone(mut self, ours: Kernel<'a>) -> Row<'a> {
+        self.copy = vec![ours];
         self
     }
     pub fn answer(mut self, answer: Answer) -> Row<'a> {
@@ -148,11 +161,12 @@ pub struct Bench {
     only: String,
     table: Vec<String>,
     chart: Vec<(String, f64, f64)>,
+    notes: Vec<String>,
 }
 
 impl Bench {
     pub fn new(peers: &[&'static str], repeats: usize, wanted: Duration, only: &str) -> Bench {
-        Bench { peers: peers.to_vec(), repeats, wanted, only: only.to_string(), table: Vec::new(), chart: Vec::new() }
+        Bench { peers: peers.to_vec(), repeats, wanted, only: only.to_string(), table: Vec::new(), chart: Vec::new(), notes: Vec::new() }
     }
 
     pub fn run(&mut self, row: Row) {
@@ -160,24 +174,25 @@ impl Bench {
             return;
         }
         let Row { name, ops, aim, answer, work, copy, mut peers } = row;
-        let contenders = [&work.ours, &work.original];
-        let copies = copy.as_ref().map(|copy| [&copy.ours, &copy.original]);
+        let judge = &work[work.len() - 1];
         let expected = match answer {
-            Answer::Turn => (work.original)(2).wrapping_sub((work.original)(1)),
-            Answer::Last => (work.original)(0),
+            Answer::Turn => judge(2).wrapping_sub(judge(1)),
+            Answer::Last => judge(0),
         };
-        assert_eq!((work.ours)(0), (work.original)(0), "{name}: another answer than the original's");
-        let turns = contenders.map(|kernel| turns_for(kernel, self.wanted));
-        let sums = [(work.ours)(1 + turns[0]), (work.original)(1 + turns[1])];
-        assert_eq!((work.ours)(1 + turns[1]), sums[1], "{name}: another answer than the original's");
-        let mut times = [Vec::new(), Vec::new()];
+        assert_eq!(work[0](0), judge(0), "{name}: another answer than the original's");
+        let turns: Vec<usize> = work.iter().map(|kernel| turns_for(kernel, self.wanted)).collect();
+        let sums: Vec<u64> = work.iter().zip(&turns).map(|(kernel, turns)| kernel(1 + turns)).collect();
+        if work.len() > 1 {
+            assert_eq!(work[0](1 + turns[1]), sums[1], "{name}: another answer than the original's");
+        }
+        let mut times: Vec<Vec<f64>> = work.iter().map(|_| Vec::new()).collect();
         let mut peer_times: Vec<Vec<f64>> = peers.iter().map(|_| Vec::new()).collect();
         for round in 0..self.repeats + 1 {
-            for place in 0..2 {
-                let who = (round + place) % 2;
-                let (mut took, sum) = turn(contenders[who], turns[who]);
-                if let Some(copies) = &copies {
-                    took -= turn(copies[who], turns[who]).0;
+            for place in 0..work.len() {
+                let who = (round + place) % work.len();
+                let (mut took, sum) = turn(&work[who], turns[who]);
+                if let Some(copy) = copy.get(who) {
+                    took -= turn(copy, turns[who]).0;
                 }
                 assert_eq!(sum, sums[who], "{name}: another answer than before");
                 if round > 0 {
@@ -195,16 +210,26 @@ impl Bench {
                 }
             }
         }
-        let [ours, original] = times.map(|mut times| median(&mut times));
-        let ratio = ours / original;
+        let medians: Vec<f64> = times.iter_mut().map(|times| median(times)).collect();
         let cells: Vec<String> = self.peers.iter().map(|peer| {
             peers.iter().position(|(who, _)| who == peer).map_or("-".to_string(), |at| shown(median(&mut peer_times[at])))
         }).collect();
-        let miss = if ratio > aim { " *" } else { "" };
-        let line = format!("| {name} | {} | {} | {ratio:.2}{miss} | {aim:.2} | {} |", shown(ours), shown(original), cells.join(" | "));
+        let line = match (&medians[..], aim) {
+            ([ours, original], Some(aim)) => {
+                let ratio = ours / original;
+                let miss = if ratio > aim { " *" } else { "" };
+                self.chart.push((name.replace("\\|", "|"), ratio, aim));
+                format!("| {name} | {} | {} | {ratio:.2}{miss} | {aim:.2} | {} |", shown(*ours), shown(*original), cells.join(" | "))
+            }
+            _ => format!("| {name} | {} | - | - | - | {} |", shown(medians[0]), cells.join(" | ")),
+        };
         eprintln!("{line}");
         self.table.push(line);
-        self.chart.push((name.replace("\\|", "|"), ratio, aim));
+    }
+
+    /// A line below the table.
+    pub fn note(&mut self, line: String) {
+        self.notes.push(line);
     }
 
     /// A heading between rows.
@@ -216,6 +241,7 @@ impl Bench {
     pub fn print(&self) {
         println!("| workload | ours | original | ratio | aim | {} |\n|---{}|", self.peers.join(" | "), "|---:".repeat(4 + self.peers.len()));
         self.table.iter().for_each(|line| println!("{line}"));
+        self.notes.iter().for_each(|line| println!("\n{line}"));
         println!("\n```text");
         let width = self.chart.iter().map(|row| row.0.chars().count()).max().unwrap_or(0);
         println!("{:width$}  0        0.25        0.50        0.75        1.0", "");

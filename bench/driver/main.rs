@@ -1,11 +1,13 @@
 //! bench [REPEATS [MILLISECONDS [WORDS]]]: the workloads, each with ours, the original and its peers in one process.
 //! MILLISECONDS: how long the work of one timing is to take. WORDS: the rows whose names have them, alone.
+mod columns;
 mod harness;
 mod original;
 mod ours;
 mod peers;
 #[cfg(roaring)]
 mod roaring;
+mod wide;
 
 use std::collections::{BTreeSet, HashSet};
 use std::time::Duration;
@@ -388,5 +390,10 @@ fn main() {
     whole(&mut bench, &one, &[&half, &ten, &one, &few]);
     builds(&mut bench, [("1M random", &random), ("1M ascending", &ascending)]);
     atomics(&mut bench, &random, &absent, &ascending, &[(&dense, 0.4), (&half, 0.6), (&ten, 0.6), (&one, 0.6), (&few, 0.6)]);
+    wide::rows(&mut bench);
+    let mut values = Bench::new(&["HashMap"], repeats, wanted, only);
+    columns::rows(&mut values);
     bench.print();
+    println!("\nValues by index, where \"original\" is its set beside a flat vector:\n");
+    values.print();
 }

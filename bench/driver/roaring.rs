@@ -16,6 +16,7 @@ unsafe extern "C" {
     fn roaring_bitmap_remove_checked(set: Bitmap, value: u32) -> bool;
     fn roaring_bitmap_contains(set: Bitmap, value: u32) -> bool;
     fn roaring_bitmap_get_cardinality(set: Bitmap) -> u64;
+    fn roaring_bitmap_portable_size_in_bytes(set: Bitmap) -> usize;
     fn roaring_bitmap_and_cardinality(a: Bitmap, b: Bitmap) -> u64;
     fn roaring_bitmap_minimum(set: Bitmap) -> u32;
     fn roaring_bitmap_to_uint32_array(set: Bitmap, list: *mut u32);
@@ -59,6 +60,10 @@ impl Roaring {
     }
     pub fn len(&self) -> u64 {
         unsafe { roaring_bitmap_get_cardinality(self.0) }
+    }
+    /// The bytes of its written form, which are those of its arrays and flat pieces and a little more.
+    pub fn bytes(&self) -> usize {
+        unsafe { roaring_bitmap_portable_size_in_bytes(self.0) }
     }
     pub fn and_len(&self, other: &Roaring) -> u64 {
         unsafe { roaring_bitmap_and_cardinality(self.0, other.0) }

@@ -11,7 +11,7 @@ HERE = pathlib.Path(__file__).resolve().parent
 RESULTS = HERE.parent.parent / "bench" / "README.md"
 
 BITS = 64
-LAYERS = 4
+LAYERS = 5
 MEMBERS = [3, 70, 5000, 300000]
 
 INK, FAINT, GREEN, BLUE, RED = "#222", "#bbb", "#2a7f4f", "#2b5fa8", "#b03a2e"
@@ -64,10 +64,11 @@ def read_order(layers, layer=LAYERS - 1, position=0):
 
 
 def draw_layers():
-    width, tick, word_height, row_height, top = 760, 2, 20, 92, 64
-    word_width = BITS * tick
+    width, tick, edge, word_height, row_height, top = 940, 3, 2, 22, 92, 64
+    word_width = BITS * tick + 2 * edge
     layers = words_of(MEMBERS)
-    drawing = Drawing(width, top + (LAYERS - 1) * row_height + word_height + 50, "The layers of a set and the way of a walk")
+    under = top + (LAYERS - 1) * row_height + word_height + 18
+    drawing = Drawing(width, under + 16, "The layers of a set and the way of a walk")
     drawing.text(16, 24, "The set {" + ", ".join(map(str, MEMBERS)) + "}, and the order in which a walk reads its words", 14, bold=True)
     drawing.text(16, 42, "Each box is a word of 64 bits that is not 0. A bit above stands for a word below; no other word is read.", 12)
     left, places = 90, {}
@@ -79,16 +80,16 @@ def draw_layers():
             places[layer, position] = (x, top + (LAYERS - 1 - layer) * row_height)
     for (layer, position), (x, y) in places.items():
         for bit in layers[layer][position]:
-            middle = x + (bit + 0.5) * tick
+            middle = x + edge + (bit + 0.5) * tick
             if layer > 0:
                 below_x, below_y = places[layer - 1, position * BITS + bit]
                 drawing.line(middle, y + word_height, below_x + word_width / 2, below_y, FAINT)
             else:
-                drawing.text(middle, y + word_height + 18, str(position * BITS + bit), 13, "middle", GREEN, True)
+                drawing.text(middle, under, str(position * BITS + bit), 13, "middle", GREEN, True)
     for (layer, position), (x, y) in places.items():
-        drawing.rect(x, y, word_width, word_height, "#f4f4f4", INK)
+        drawing.rect(x, y, word_width, word_height, "#f4f4f4", "#888")
         for bit in layers[layer][position]:
-            drawing.rect(x + bit * tick - 0.5, y + 1, tick + 1, word_height - 2, GREEN)
+            drawing.rect(x + edge + bit * tick + 0.5, y + 2, tick - 1, word_height - 4, GREEN)
         drawing.text(x + word_width, y - 4, f"word {position}", 11, "end", "#555")
     for number, (layer, position) in enumerate(read_order(layers), 1):
         x, y = places[layer, position]
@@ -96,7 +97,7 @@ def draw_layers():
         drawing.text(x + 8, y - 5, str(number), 11, "middle", "white", True)
     for layer in range(LAYERS):
         drawing.text(16, top + (LAYERS - 1 - layer) * row_height + 15, f"layer {layer}", 13, bold=True)
-    drawing.text(16, drawing.size[1] - 12, "members", 13, fill=GREEN, bold=True)
+    drawing.text(16, under, "members", 13, fill=GREEN, bold=True)
     drawing.write(HERE / "layers.svg")
 
 

@@ -1,5 +1,6 @@
 -- The words under one word of layer 1 are changed, and the summaries over them are set right from the lowest up.
-use Rattle.std.proofs.Common.{◌≡◌, ◌≢◌, ℕ, zero, suc, ◌+◌, ◌*◌, ◌/◌, ◌%◌, ◌^◌, ◌<◌, ◌≤◌, ◌==◌, not, ◌↔◌, List, [], get_or, length, sym, ◌∙◌, ap, arith, inl, inr}
+use Rattle.std.proofs.Common.{◌≡◌, ◌≢◌, ℕ, zero, suc, ◌+◌, ◌-◌, ◌*◌, ◌/◌, ◌%◌, ◌^◌, ◌<◌, ◌≤◌, ◌==◌, not, ◌↔◌, List, [], get_or, length, sym, ◌∙◌, ap, arith, inl, inr}
+use Rattle.std.proofs.lemmas.Bool.{cases_lt}
 use Rattle.std.specs.Int.{bit_at}
 use Rattle.std.proofs.Math.ListN.{set}
 use Rattle.std.proofs.lemmas.List.{get_or-set_same, get_or-set_other, length-set}
@@ -72,21 +73,41 @@ changed_next n k w u v q more summed changed layers others bits bit =
       ];
     }
 
+-- the words under another word are the same
+changed_below : (k : ℕ) (w v : ℕ → ℕ → ℕ) (q : ℕ) → ChangedUpTo k w v q → (l p b : ℕ) → b < 64 → p ≢ q / 64 ^ l → v l (64 * p + b) ≡ w l (64 * p + b)
+changed_below k w v q changed zero p b small other = changed.base (64 * p + b) (λ e. other (omega arith))
+changed_below k w v q changed (suc l) p b small other =
+    let s : suc l ≡ l + 1 = omega arith in
+    let up : q / 64 ^ (l + 1) ≡ q / 64 ^ l / 64 = way_up q l in
+    let other_here : p ≢ q / 64 ^ (l + 1) = rw s at other in
+    rw s (changed.off l (64 * p + b) (λ e. other_here (omega arith)))
+
 -- Summaries are exact again once the top layer is set right.
 pub changed_last : (n k : ℕ) (w v : ℕ → ℕ → ℕ) (q : ℕ) → n ≤ k + 2 → ChangedUpTo k w v q → IsSummed n w → IsSummed n v
 changed_last n k w v q all changed exact = record {
   summed = λ l p b below small. elim (same_or_not p (q / 64 ^ l)) [
     | inl e ↦ rw e (changed.on l b (omega arith) small)
-    | inr other ↦ rw (changed.off l p other, lower l p b below small other) (exact.summed l p b below small)
+    | inr other ↦ rw (changed.off l p other, changed_below k w v q changed l p b small other) (exact.summed l p b below small)
   ];
-} where
-  lower : (l p b : ℕ) → l + 1 < n → b < 64 → p ≢ q / 64 ^ l → v l (64 * p + b) ≡ w l (64 * p + b)
-  lower zero p b below small other = changed.base (64 * p + b) (λ e. other (omega arith))
-  lower (suc l) p b below small other =
-      let s : suc l ≡ l + 1 = omega arith in
-      let up : q / 64 ^ (l + 1) ≡ q / 64 ^ l / 64 = way_up q l in
-      let other_here : p ≢ q / 64 ^ (l + 1) = rw s at other in
-      rw s (changed.off l (64 * p + b) (λ e. other_here (omega arith)))
+}
+
+-- They are exact as well where the last word that was set right is 0 exactly where it was before.
+pub changed_stays : (n k : ℕ) (w v : ℕ → ℕ → ℕ) (q : ℕ) → ChangedUpTo k w v q → (0 < v (k + 1) (q / 64 ^ k)) ↔ (0 < w (k + 1) (q / 64 ^ k)) → IsSummed n w → IsSummed n v
+changed_stays n k w v q changed stays exact = record {
+  summed = λ l p b below small. elim (cases_lt k l) [
+    | inr upto ↦ elim (same_or_not p (q / 64 ^ l)) [
+      | inl e ↦ rw e (changed.on l b upto small)
+      | inr other ↦ rw (changed.off l p other, changed_below k w v q changed l p b small other) (exact.summed l p b below small)
+    ]
+    | inl over ↦ elim (same_or_not l (k + 1)) [
+      | inl e ↦ (let two : k + 1 + 1 ≡ k + 2 = omega arith in elim (same_or_not (64 * p + b) (q / 64 ^ k)) [
+        | inl here ↦ (let h = rw here at (exact.summed (k + 1) p b (rw e at below) small) in let same = changed.above (k + 1) p (omega arith) in rw (e, same, here) (λ on. stays.1 (h.0 on), λ some. h.1 (stays.0 some)))
+        | inr other ↦ rw (e, changed.above (k + 1) p (omega arith), changed.off k (64 * p + b) other) (exact.summed (k + 1) p b (rw e at below) small)
+      ])
+      | inr higher ↦ (let s : l ≡ l - 1 + 1 = omega arith in let lower = changed.above (l - 1) (64 * p + b) (omega arith) in rw (changed.above l p over, rw (← s) at lower) (exact.summed l p b below small))
+    ]
+  ];
+}
 
 -- The words under word q of layer 1 have been put in, and the summaries over them are right up to k layers over that word.
 pub record BlockPutUpTo (n k : ℕ) (old now : List (List ℕ)) (q : ℕ) : Type 0 where
@@ -125,6 +146,10 @@ block_next n k old now xs q x more summed put there same here fits others bits b
 
 pub block_last : (n k : ℕ) (old now : List (List ℕ)) (q : ℕ) → n ≤ k + 2 → BlockPutUpTo n k old now q → IsSummed n (word_at old) → IsStored n now
 block_last n k old now q all put summed = record { shaped = put.shaped; summed = changed_last n k (word_at old) (word_at now) q all put.changed summed }
+
+-- the same where the last word that was set right is 0 exactly where it was before
+pub block_stays : (n k : ℕ) (old now : List (List ℕ)) (q : ℕ) → BlockPutUpTo n k old now q → (0 < word_at now (k + 1) (q / 64 ^ k)) ↔ (0 < word_at old (k + 1) (q / 64 ^ k)) → IsSummed n (word_at old) → IsStored n now
+block_stays n k old now q put stays summed = record { shaped = put.shaped; summed = changed_stays n k (word_at old) (word_at now) q put.changed stays summed }
 
 -- one layer more, over the words under one word of layer 1
 pub block_up : {n q : ℕ} {old now : List (List ℕ)} {xs : List ℕ} {place x before bit below : ℕ} (k : ℕ) → IsSummed n (word_at old) → BlockPutUpTo n k old now q → k + 2 < n → k + 2 < length now → Puts (get_or now (k + 2) []) xs place x → x < 2 ^ 64

@@ -1,10 +1,11 @@
 -- The last word of layer 0 that is not 0, looked for from the last bit of each layer down.
-use Rattle.std.proofs.Common.{◌≡◌, ℕ, ◌+◌, ◌-◌, ◌*◌, ◌/◌, ◌%◌, ◌<◌, ◌≤◌, sym, ◌∙◌, ap, arith, inl, inr}
+use Rattle.std.proofs.Common.{◌≡◌, ℕ, suc, ◌+◌, ◌-◌, ◌*◌, ◌/◌, ◌%◌, ◌^◌, ◌<◌, ◌≤◌, Bool, sym, ◌∙◌, ap, arith, inl, inr}
 use Rattle.std.specs.Int.{bit_at}
-use Rattle.std.proofs.Math.Nat.{div-div-eq-div-mul, div-lt_iff_lt-mul, div-mul-le_self}
+use Rattle.std.proofs.Math.Nat.{pow-suc, div-div-eq-div-mul, div-lt_iff_lt-mul, div-mul-le_self}
 use Rattle.std.proofs.lemmas.Bool.{cases_lt}
-use Rattle.std.proofs.lemmas.Nat.Bits.{bit_at-lt}
+use Rattle.std.proofs.lemmas.Nat.Bits.{bit_at-lt, bit_at-zero}
 use Rattle.hibitset_base.specs.Deciding.{same_or_not}
+use Rattle.hibitset_base.specs.Sets.{IsLawful}
 use Rattle.hibitset.proofs.Merging.{zero_or_one}
 
 -- A place q has 64 parts of `size` words, and words may be other than 0 only under the bits of `left`, of which b is the highest.
@@ -33,3 +34,24 @@ module _ (w : ℕ → ℕ) (size whole q left b end : ℕ) (whole-is : whole ≡
 
   pub last_after : b < 64 → (end - 1) / size ≡ 64 * q + b → (end - 1) / whole ≡ q
   last_after small here = let u = up (end - 1) in omega (arith, u, small, here)
+
+-- Where the words of a layer have no bit for a place on, the layer below has no words from there on.
+pub end_below : (n layer end from : ℕ) (holds : ℕ → Bool) (w : ℕ → ℕ → ℕ) → IsLawful n holds w → 0 < layer → layer < n → ((p : ℕ) → p < 64 ^ (n - 1 - layer) → end ≤ p → w layer p ≡ 0)
+    → ((p b : ℕ) → p < end → b < 64 → bit_at (w layer p) b ≡ 1 → 64 * p + b < from) → (p : ℕ) → p < 64 ^ (n - layer) → from ≤ p → w (layer - 1) p ≡ 0
+end_below n layer end from holds w lawful some within none covers p range after = elim (cases_lt 0 (w (layer - 1) p)) [
+  | inl word ↦ absurd (
+      let above : layer - 1 + 1 ≡ layer = omega (arith, some) in
+      let size : n - 1 - (layer - 1) ≡ n - layer = omega (arith, some, within) in
+      let step : 64 ^ (n - layer) ≡ 64 ^ (n - 1 - layer) * 64 = (let s : n - layer ≡ suc (n - 1 - layer) = omega (arith, within) in ap (λ x. 64 ^ x) s ∙ pow-suc 64 (n - 1 - layer)) in
+      let on = lawful.summaries (layer - 1) p (omega (arith, some, within)) (rw size range) word in
+      let on_here : bit_at (w layer (p / 64)) (p % 64) ≡ 1 = rw above at on in
+      elim (cases_lt (p / 64) end) [
+        | inl before ↦ (let h = covers (p / 64) (p % 64) before (omega arith) on_here in omega (arith, h, after))
+        | inr past ↦ (
+            let zero_word : w layer (p / 64) ≡ 0 = none (p / 64) (omega (arith, step, range)) past in
+            let off = bit_at-zero (p % 64) in
+            let wrong = rw zero_word at on_here in
+            omega (arith, off, wrong))
+      ])
+  | inr z ↦ omega (arith, z)
+]

@@ -2,7 +2,7 @@
 use Rattle.std.proofs.Common.{◌≡◌, ◌≢◌, ℕ, zero, suc, ◌+◌, ◌-◌, ◌*◌, ◌/◌, ◌%◌, ◌^◌, ◌<◌, ◌≤◌, ◌==◌, Bool, ◌↔◌, refl, sym, ◌∙◌, ap, arith, lit<, ◌⊎◌, inl, inr}
 use Rattle.std.specs.Prelude.{bit_and, min}
 use Rattle.std.specs.Int.{bit_at, bit_not, w64}
-use Rattle.std.proofs.Math.Nat.{pow-suc, div-div-eq-div-mul, div-lt_iff_lt-mul, one-le-pow}
+use Rattle.std.proofs.Math.Nat.{pow-suc, pow-le-pow_right, div-div-eq-div-mul, div-lt_iff_lt-mul, one-le-pow}
 use Rattle.std.proofs.lemmas.Bool.{cases_lt}
 use Rattle.std.proofs.lemmas.Nat.{pow-add}
 use Rattle.std.proofs.lemmas.Nat.Bits.{bit_at-lt, bit_at_and, bit_at_not, bit_at-zero}
@@ -228,6 +228,19 @@ pub lower_place : (n layer place bit : ℕ) → layer + 1 < n → place < 64 ^ (
 lower_place n layer place bit below within small =
     let step : 64 ^ (n - 1 - layer) ≡ 64 ^ (n - 2 - layer) * 64 = (let s : n - 1 - layer ≡ suc (n - 2 - layer) = omega arith in ap (λ x. 64 ^ x) s ∙ pow-suc 64 (n - 2 - layer)) in
     omega (arith, step, within, small)
+
+-- the same, told by the layer above
+pub place_below : (n layer place bit : ℕ) → 0 < layer → layer < n → place < 64 ^ (n - 1 - layer) → bit < 64 → 64 * place + bit < 64 ^ (n - 1 - (layer - 1))
+place_below n layer place bit some within range small =
+    let same : n - 1 - layer ≡ n - 2 - (layer - 1) = omega arith in
+    lower_place n (layer - 1) place bit (omega arith) (rw same at range) small
+
+-- and it is less than layer 0 has places
+pub place_fits : (n layer place bit : ℕ) → 0 < layer → layer < n → place < 64 ^ (n - 1 - layer) → bit < 64 → 64 * place + bit < 64 ^ (n - 1)
+place_fits n layer place bit some within range small =
+    let lower = place_below n layer place bit some within range small in
+    let most : 64 ^ (n - 1 - (layer - 1)) ≤ 64 ^ (n - 1) = (let b : n - 1 - (layer - 1) ≤ n - 1 = omega arith in pow-le-pow_right {n = 64} (lit< tt) b) in
+    omega (arith, lower, most)
 
 -- any lawful set's word of a layer covers those below it
 pub lawful_covers : (n : ℕ) (holds : ℕ → Bool) (w : ℕ → ℕ → ℕ) → IsLawful n holds w → (layer place : ℕ) → 0 < layer → layer < n → place < 64 ^ (n - 1 - layer) → Covers (w (layer - 1)) place (w layer place)

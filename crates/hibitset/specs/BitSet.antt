@@ -9,7 +9,7 @@ use Rattle.hibitset.specs.declared.set.BitSet.{BitSet}
 
 -- the words of the layers, from the lowest up
 abbrev pub layers : BitSet → List (List ℕ)
-layers set = set.layer0.items ∷ set.layer1.items ∷ set.layer2.items ∷ (set.layer3 ∷ []) ∷ []
+layers set = set.layer0.items ∷ set.layer1.items ∷ set.layer2.items ∷ set.layer3.items ∷ (set.layer4 ∷ []) ∷ []
 
 -- the word of a layer at a position
 unfoldable pub word_of : BitSet → ℕ → ℕ → ℕ

@@ -30,7 +30,12 @@ impl BitSetLike for Empty {
     ghost lawful = { λ s. none_lawful LAYERS };
 
     #[inline]
-    fn layer3(&self) -> usize {
+    fn layer4(&self) -> usize {
+        0
+    }
+
+    #[inline]
+    fn layer3(&self, _i: usize) -> usize {
         0
     }
 
@@ -55,14 +60,22 @@ impl BitSetLike for Empty {
     }
 }
 
+// Tells whether a word has turned from 0 or to 0. Where it has not, the summaries over it stay.
+#[inline]
+fn has_turned(before: usize, word: usize) -> bool
+    ensures stays { result ≡ false → (0 < word) ↔ (0 < before) }
+{
+    (before == 0) != (word == 0)
+}
+
 // Merges one word, and tells whether it is not 0 then.
 #[inline]
-fn merge_word<O: Operator, B: BitSetLike>(words: &mut Vec<usize>, other: &B, place: usize) -> bool
-    requires fits { length words.old.items ≤ place → O.merged 0 (B.word other.now 0 place) ≡ 0 }
-    ensures length { length words.new.items ≡ length words.old.items }
-    ensures words { MergedUnder O.merged (B.word other.now 0) (λ p. get_or words.old.items p 0) (λ p. get_or words.new.items p 0) 1 place }
-    ensures some { (bit_of result ≡ 1) ↔ (0 < get_or words.new.items place 0) }
-    ensures bounded { AreWords (λ p. get_or words.old.items p 0) → AreWords (λ p. get_or words.new.items p 0) }
+fn merge_word<O: Operator, B: BitSetLike>(words: &mut [usize], other: &B, place: usize) -> bool
+    requires fits { length words.old ≤ place → O.merged 0 (B.word other.now 0 place) ≡ 0 }
+    ensures length { length words.new ≡ length words.old }
+    ensures words { MergedUnder O.merged (B.word other.now 0) (λ p. get_or words.old p 0) (λ p. get_or words.new p 0) 1 place }
+    ensures some { (bit_of result ≡ 1) ↔ (0 < get_or words.new place 0) }
+    ensures bounded { AreWords (λ p. get_or words.old p 0) → AreWords (λ p. get_or words.new p 0) }
 {
     if words.len() <= place {
         return false;
@@ -89,11 +102,12 @@ fn merge_words<O: Operator, B: BitSetLike>(
     ensures exact { Summarizes (λ p. get_or words.new.items p 0) place result }
     ensures bounded { AreWords (λ p. get_or words.old.items p 0) → AreWords (λ p. get_or words.new.items p 0) }
 {
+    let slice = words.as_mut_slice();
     let mut above = summary;
     let mut left = bits;
     while left != 0 {
         let bit = take_bit(&mut left);
-        let stands = merge_word::<O, B>(words, other, 64 * place + bit);
+        let stands = merge_word::<O, B>(slice, other, 64 * place + bit);
         above = with_bit(above, bit, stands);
     }
     above
@@ -178,7 +192,8 @@ fn end_under<B: BitSetLike>(other: &B, layer: usize, place: usize) -> usize
 }
 
 impl BitSet {
-    // Merges the words below word `place` of layer 1, where the other has the word `theirs`, and sets the summaries over them right.
+    // Merges the words below word `place` of layer 1, where the other has the word `theirs`, and sets the summaries over them right, as far up as one turns. It is apart, so that its loops have the registers to themselves.
+    #[inline(never)]
     fn merge_block<O: Operator, B: BitSetLike>(&mut self, other: &B, place: usize, theirs: usize)
         requires range { place < 64 ^ (LAYERS - 2) }
         requires theirs { Covers (B.word other.now 0) place theirs }
@@ -199,13 +214,21 @@ impl BitSet {
             ours,
         );
         let word1 = merge_words::<O, B>(&mut self.layer0, other, place, visited & theirs, kept);
-        let word2 = with_bit(self.layer2[place / 64], place % 64, word1 != 0);
-        let word3 = with_bit(self.layer3, place / 64, word2 != 0);
         self.layer1[place] = word1;
+        if !has_turned(ours, word1) {
+            return;
+        }
+        let before2 = self.layer2[place / 64];
+        let word2 = with_bit(before2, place % 64, word1 != 0);
         self.layer2[place / 64] = word2;
-        self.layer3 = word3;
+        if !has_turned(before2, word2) {
+            return;
+        }
+        let word3 = with_bit(self.layer3[place / 4_096], place / 64 % 64, word2 != 0);
+        let word4 = with_bit(self.layer4, place / 4_096, word3 != 0);
+        self.layer3[place / 4_096] = word3;
+        self.layer4 = word4;
     }
-
     // Merges what lies under word `place` of a layer, where the other has the word `theirs`.
     fn merge_under<O: Operator, B: BitSetLike>(
         &mut self,

@@ -10,7 +10,8 @@ use Rattle.hibitset_atomic.specs.Layers.{layer_word, word_over}
 use Rattle.hibitset_atomic.specs.declared.layers.Layers.{Layers}
 use Rattle.hibitset_base.proofs.Holding.{some_word}
 use Rattle.hibitset_base.proofs.LayerByLayer.{Puts, SetsBit}
-use Rattle.hibitset_base.proofs.Mending.{MendedUpTo, mended_first, mended_next, other_layer}
+use Rattle.hibitset_base.specs.Mended.{MendedUpTo}
+use Rattle.hibitset_base.proofs.Mending.{mended_first, mended_next, other_layer}
 use Rattle.hibitset_base.proofs.Shapes.{get_or_any}
 
 pub layers_fit : (layers : Layers) (l p : ℕ) → layer_word layers l p < 2 ^ 64

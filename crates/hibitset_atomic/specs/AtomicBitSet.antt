@@ -3,21 +3,22 @@ use Rattle.std.specs.Prelude.{◌≡◌, ◌≢◌, ℕ, ◌-◌, ◌/◌, ◌%�
 use Rattle.std.proofs.Common.{arith}
 use Rattle.hibitset_base.specs.Deciding.{no_bit}
 use Rattle.hibitset_base.specs.Sets.{IsLawful}
-use Rattle.hibitset_base.specs.Stored.{summed_lawful}
 use Rattle.hibitset_atomic.specs.Blocks.{block_word, IsUnmade}
 use Rattle.hibitset_base.specs.Members.{members_below}
+use Rattle.hibitset_base.specs.declared.util.TheConstants.{LAYERS}
 use Rattle.hibitset_atomic.specs.declared.atomic.TheConstants.{ATOMIC_MAX_EID}
 use Rattle.hibitset_atomic.specs.declared.layers.TheConstants.{ATOMIC_LAYERS}
 use Rattle.hibitset_base.specs.Words.{holds_at}
-use Rattle.hibitset_atomic.specs.Layers.{layer_word}
+use Rattle.hibitset_atomic.specs.Layers.{layer_word, single_word}
 use Rattle.hibitset_atomic.specs.Topped.{topped}
+use Rattle.hibitset_atomic.specs.Topping.{topped_lawful}
 use Rattle.hibitset_atomic.specs.declared.atomic.AtomicBitSet.{AtomicBitSet}
 
--- the word of a layer at a position
+-- the word of a layer at a position, of the four layers that the set keeps
 unfoldable pub word_of : AtomicBitSet → ℕ → ℕ → ℕ
 word_of set = layer_word set.layers
 
--- the same with one layer more on top
+-- the same with the layer on top of them
 abbrev pub topped_word : AtomicBitSet → ℕ → ℕ → ℕ
 topped_word set = topped (ATOMIC_LAYERS - 1) (word_of set)
 
@@ -26,9 +27,9 @@ unfoldable pub has : AtomicBitSet → ℕ → Bool
 has set = holds_at (word_of set)
 
 -- the words are those of a set that has these members
-pub has_is_lawful : (set : AtomicBitSet) → IsLawful ATOMIC_LAYERS (has set) (word_of set)
+pub topped_is_lawful : (set : AtomicBitSet) → IsLawful LAYERS (has set) (topped_word set)
 unfolding has word_of
-has_is_lawful set = summed_lawful ATOMIC_LAYERS set.summed
+topped_is_lawful set = topped_lawful (ATOMIC_LAYERS - 1) (word_of set) set.summed (single_word set.layers)
 
 -- the members, ascending
 abbrev pub members_of : AtomicBitSet → List ℕ

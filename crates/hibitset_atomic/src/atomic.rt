@@ -4,7 +4,6 @@
 ghost use Rattle.std.specs.Prelude.{◌≡◌, ◌≢◌, ℕ, ◌+◌, ◌-◌, ◌*◌, ◌/◌, ◌%◌, ◌<◌, ◌≤◌, ◌==◌, ◌||◌, ◌&&◌, not, if◌then◌else◌, Bool, true, false, OnOk, OnErr, IfOk, IsOk};
 ghost use Rattle.hibitset_base.specs.Words.{IsSummed, holds_at};
 ghost use Rattle.hibitset_atomic.specs.Layers.{layer_word};
-ghost use Rattle.hibitset_base.specs.declared.util.TheConstants.{LAYERS};
 ghost use Rattle.hibitset_atomic.specs.declared.layers.TheConstants.{ATOMIC_LAYERS};
 ghost use Rattle.hibitset_atomic.specs.declared.atomic.TheConstants.{ATOMIC_MAX_EID};
 
@@ -19,7 +18,7 @@ pub const ATOMIC_MAX_EID: usize = 1 << (BITS * ATOMIC_LAYERS);
 
 /// A set of indices below `ATOMIC_MAX_EID`, kept as words in four layers, that can be shared between threads.
 ///
-/// A bit of a layer above the lowest stands exactly over a word that is not 0, at all times.
+/// A bit of a layer above the lowest stands exactly over a word that is not 0, at all times. The fifth layer, which every set has, is not kept: its one word is 1 where there is a member, and else 0.
 #[derive(Debug, Drop)]
 pub struct AtomicBitSet {
     pub(crate) layers: Layers,
@@ -155,22 +154,27 @@ impl AtomicBitSet {
 }
 
 impl BitSetLike for AtomicBitSet {
-    ghost use Rattle.hibitset_atomic.specs.AtomicBitSet.{has, word_of, has_is_lawful};
+    ghost use Rattle.hibitset_atomic.specs.AtomicBitSet.{has, topped_word, topped_is_lawful};
 
     ghost holds = { has };
 
-    ghost word = { word_of };
+    ghost word = { topped_word };
 
-    ghost lawful = { has_is_lawful };
+    ghost lawful = { topped_is_lawful };
 
     #[inline]
     fn is_empty(&self) -> bool {
-        self.layers.layer3 == 0
+        self.layer4() == 0
     }
 
     #[inline]
-    fn layer3(&self) -> usize {
-        self.layers.layer3
+    fn layer4(&self) -> usize {
+        (self.layers.layer3 != 0) as usize
+    }
+
+    #[inline]
+    fn layer3(&self, i: usize) -> usize {
+        self.layers.layer3(i)
     }
 
     #[inline]

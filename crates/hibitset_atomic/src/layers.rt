@@ -107,6 +107,14 @@ impl Layers {
         }
     }
 
+    /// The word of layer 3 at a position, which is 0 past its one word.
+    #[inline]
+    pub(crate) fn layer3(&self, position: usize) -> usize
+        ensures { result ≡ layer_word self.now 3 position }
+    {
+        if position == 0 { self.layer3 } else { 0 }
+    }
+
     /// The word of layer 2 at a position.
     #[inline]
     pub(crate) fn layer2(&self, position: usize) -> usize
@@ -185,7 +193,7 @@ impl Layers {
             0 => self.layer0(position),
             1 => self.layer1(position),
             2 => self.layer2(position),
-            _ => { if position == 0 { self.layer3 } else { 0 } }
+            _ => self.layer3(position),
         }
     }
 

@@ -10,7 +10,7 @@ pub mod ops;
 pub mod shared;
 pub mod steps;
 
-pub use atomic::AtomicBitSet;
+pub use atomic::{ATOMIC_MAX_EID, AtomicBitSet};
 pub use shared::{Seat, SharedBitSet, SharedWalk};
 pub use steps::{Event, Reply, StepError, World, path};
 

@@ -2,7 +2,7 @@
 ghost use Rattle.std.specs.Prelude.{◌≡◌};
 ghost use Rattle.hibitset_base.specs.Connectives.{IsComplement, IsIntersection, IsUnion, IsExclusive};
 ghost use Rattle.hibitset_base.specs.Walk.{Starts};
-ghost use Rattle.hibitset_atomic.specs.AtomicBitSet.{has, word_of};
+ghost use Rattle.hibitset_atomic.specs.AtomicBitSet.{has, topped_word};
 
 use crate::atomic::AtomicBitSet;
 use hibitset_base::iter::BitIter;
@@ -60,7 +60,7 @@ impl IntoIterator for AtomicBitSet {
 
     type IntoIter = BitIter<AtomicBitSet>;
 
-    ghost into_iter_gives = { Starts has word_of };
+    ghost into_iter_gives = { Starts has topped_word };
 
     #[inline]
     fn into_iter(self) -> BitIter<AtomicBitSet> {
@@ -117,7 +117,7 @@ impl<'a> IntoIterator for &'a AtomicBitSet {
 
     type IntoIter = BitIter<Self>;
 
-    ghost into_iter_gives = { Starts (λ set. has set.now) (λ set. word_of set.now) };
+    ghost into_iter_gives = { Starts (λ set. has set.now) (λ set. topped_word set.now) };
 
     #[inline]
     fn into_iter(self) -> BitIter<Self> {

@@ -1,7 +1,7 @@
 -- A walk goes on in several steps.
-use Rattle.std.proofs.Common.{ℕ, Bool, List, [], ◌++◌, refl, sym, ◌∙◌, ap, arith, length-append, append_assoc}
+use Rattle.std.proofs.Common.{ℕ, ◌≤◌, ◌<◌, Bool, List, [], ◌++◌, length, refl, sym, ◌∙◌, ap, arith, length-append, append_assoc}
 use Rattle.hibitset_base.specs.Places.{Place}
-use Rattle.hibitset_base.specs.Reading.{GoesOn}
+use Rattle.hibitset_base.specs.Reading.{words_of, GoesOn}
 
 module _ {n : ℕ} {holds : ℕ → Bool} {word : ℕ → ℕ → ℕ} where
   pub goes_nowhere : (r : ℕ) (ps : List Place) → GoesOn n holds word r ps r ps
@@ -16,3 +16,11 @@ module _ {n : ℕ} {holds : ℕ → Bool} {word : ℕ → ℕ → ℕ} where
     drawn = λ h. b.drawn (a.drawn h);
     few = λ exact drawn. let h = a.few exact drawn in let k = b.few exact (a.drawn drawn) in omega arith;
   }
+
+  -- what is ahead gets no more
+  pub no_more : {r s : ℕ} {ps qs : List Place} → GoesOn n holds word r ps s qs → length (words_of word qs) ≤ length (words_of word ps)
+  no_more {r} {s} {ps} {qs} goes = let e = ap length goes.ahead in let k = length-append goes.taken (words_of word qs) in omega (arith, e, k)
+
+  -- and stays fewer
+  pub fewer_after : {r s m : ℕ} {ps qs : List Place} → length (words_of word ps) < m → GoesOn n holds word r ps s qs → length (words_of word qs) < m
+  fewer_after fewer goes = let h = no_more goes in omega (arith, fewer, h)

@@ -7,8 +7,9 @@ use Rattle.std.proofs.lemmas.Nat.{pow-add}
 use Rattle.std.proofs.lemmas.List.{length-set, get_or-set_same, get_or-set_other}
 use Rattle.hibitset_base.specs.Sets.{bit_of}
 use Rattle.hibitset_base.specs.Words.{IsShaped, IsStored, word_at}
+use Rattle.hibitset_base.specs.Mended.{PutUpTo}
 use Rattle.hibitset_base.proofs.Mending.{way_up}
-use Rattle.hibitset_base.proofs.Shapes.{get_or_any, stored_longer, PutUpTo, put_next}
+use Rattle.hibitset_base.proofs.Shapes.{get_or_any, stored_longer, put_next}
 
 -- places above a place lie in their layers
 pub place_within : (n l p : ℕ) → l < n → p < 64 ^ (n - 1) → p / 64 ^ l < 64 ^ (n - 1 - l)

@@ -8,17 +8,11 @@ use Rattle.std.proofs.lemmas.List.{get_or-set_other}
 use Rattle.hibitset_base.specs.Deciding.{same_or_not, some_bit}
 use Rattle.hibitset_base.specs.Sets.{bit_of}
 use Rattle.hibitset_base.specs.Words.{IsSummed, word_at}
+use Rattle.hibitset_base.specs.Mended.{MendedUpTo}
 
 -- the way up, one layer more
 pub way_up : (q l : ℕ) → q / 64 ^ (l + 1) ≡ q / 64 ^ l / 64
 way_up q l = let s : l + 1 ≡ suc l = omega arith in rw (s, pow-suc 64 l) (sym (div-div-eq-div-mul q (64 ^ l) 64))
-
--- Words v and w are the same but on the way up from word q of layer 0, no higher than layer k, and each bit on the way up to there tells whether the word below it is 0.
-pub record MendedUpTo (k : ℕ) (w v : ℕ → ℕ → ℕ) (q : ℕ) : Type 0 where
-  pub off : (l p : ℕ) → p ≢ q / 64 ^ l → v l p ≡ w l p
-  pub above : (l p : ℕ) → k < l → v l p ≡ w l p
-  pub here : (l : ℕ) → l < k → (bit_at (v (l + 1) (q / 64 ^ (l + 1))) (q / 64 ^ l % 64) ≡ 1) ↔ (0 < v l (q / 64 ^ l))
-  pub others : (l b : ℕ) → l < k → b < 64 → b ≢ q / 64 ^ l % 64 → bit_at (v (l + 1) (q / 64 ^ (l + 1))) b ≡ bit_at (w (l + 1) (q / 64 ^ (l + 1))) b
 
 pub mended_first : (w v : ℕ → ℕ → ℕ) (q : ℕ) → ((l p : ℕ) → l ≢ 0 → v l p ≡ w l p) → ((p : ℕ) → p ≢ q → v 0 p ≡ w 0 p) → MendedUpTo 0 w v q
 mended_first w v q layers others = record {

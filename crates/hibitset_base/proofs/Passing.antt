@@ -12,6 +12,7 @@ use Rattle.std.proofs.lemmas.Grind.{flat_map-append}
 use Rattle.std.proofs.lemmas.List.{get_or-set_same, get_or-set_other, append-nil, length-set}
 use Rattle.std.proofs.lemmas.List.Elements.{All-nil, All-cons, All-tail, All-head, All-append}
 use Rattle.hibitset_base.specs.Members.{members}
+use Rattle.hibitset_base.specs.Deciding.{same_or_not}
 use Rattle.hibitset_base.specs.Sets.{IsLawful}
 use Rattle.hibitset_base.specs.Places.{Place, places_in, places_left, bits_from}
 use Rattle.hibitset_base.specs.Reading.{words_under, words_of, Encloses, LiesOver, IsBoundBy}
@@ -36,12 +37,18 @@ module _ (w : ℕ → ℕ → ℕ) (from l place v : ℕ) (place-is : place ≡ 
   word_is : v ≡ w l (from / 64 ^ (l + 1))
   word_is = read ∙ ap (w l) (ap (λ x. x / 64) place-is ∙ sym (over from l))
 
-  pub tail_is : (first tail : ℕ) → (l ≡ 0 → first ≡ place % 64) → (0 < l → first ≡ place % 64 + 1) → HasTail v first tail → IsTail w from l tail
-  tail_is first tail lowest above has = rw (word_is, first_is l first place-is lowest above) at has
+  tail_from : (first tail : ℕ) → (l ≡ 0 → first ≡ place % 64) → (0 < l → first ≡ place % 64 + 1) → HasTail v first tail → IsTail w from l tail
+  tail_from first tail lowest above has = rw (word_is, first_is l first place-is lowest above) at has
     where
       first_is : (k x : ℕ) → place ≡ from / 64 ^ k → (k ≡ 0 → x ≡ place % 64) → (0 < k → x ≡ place % 64 + 1) → x ≡ first_bit from k
       first_is zero x is low high = let e = low refl in let one : from / 1 ≡ from = omega arith in omega (arith, e, is, one)
       first_is (suc k) x is low high = let e = high (omega arith) in e ∙ ap (λ y. y % 64 + 1) is
+
+  pub tail_is : (tail : ℕ) → (l ≡ 0 → HasTail v (place % 64) tail) → (0 < l → HasTail v (place % 64 + 1) tail) → IsTail w from l tail
+  tail_is tail lowest above = elim (same_or_not l 0) [
+    | inl e ↦ tail_from (place % 64) tail (λ _. refl) (λ some. absurd (omega (arith, e, some))) (lowest e)
+    | inr more ↦ tail_from (place % 64 + 1) tail (λ e. absurd (more e)) (λ _. refl) (above (omega (arith, more)))
+  ]
 
   bit_is : bit_and (v / 2 ^ (place % 64)) 1 ≡ bit_over w from l
   bit_is = shr_and_one v (place % 64) ∙ (ap (λ x. bit_at x (place % 64)) word_is ∙ ap (λ x. bit_at (w l (from / 64 ^ (l + 1))) (x % 64)) place-is)

@@ -2,16 +2,18 @@
 use Rattle.std.proofs.Common.{◌≡◌, ◌≢◌, ℕ, suc, ◌+◌, ◌-◌, ◌*◌, ◌/◌, ◌%◌, ◌^◌, ◌<◌, ◌≤◌, List, length, get_or, sym, ◌∙◌, ap, subst, arith, ◌⊎◌, inl, inr, lit<}
 use Rattle.std.specs.Int.{bit_at}
 use Rattle.std.proofs.Math.ListN.{set}
-use Rattle.std.proofs.Math.Nat.{pow-succ', pow-le-pow_right, eq-or-lt_of_le, div-div-eq-div-mul}
+use Rattle.std.proofs.Math.Nat.{pow-suc, pow-succ', pow-le-pow_right, eq-or-lt_of_le, div-div-eq-div-mul}
 use Rattle.std.proofs.lemmas.Bool.{cases_lt}
 use Rattle.std.proofs.lemmas.List.{get_or-set_same, get_or-set_other, length-set}
 use Rattle.hibitset_base.specs.Places.{IsWellFormed, ComesBefore}
 
 -- a position's shift keeps all its bits
-pub shifted : (n l q : ℕ) → n ≤ 5 → l + 1 < n → q < 64 ^ (n - (l + 1)) → q * 64 % 4294967296 ≡ 64 * q
-shifted n l q few layer within =
-    let h : 64 ^ (n - (l + 1)) ≤ 64 ^ 4 = (let b : n - (l + 1) ≤ 4 = omega arith in pow-le-pow_right {n = 64} (lit< tt) b) in
-    omega arith
+pub shifted : (n l q : ℕ) → 64 ^ n ≤ 2 ^ 32 → l + 1 < n → q < 64 ^ (n - (l + 1)) → q * 64 % 4294967296 ≡ 64 * q
+shifted n l q fits layer within =
+    let one_more : n - l ≡ suc (n - (l + 1)) = omega arith in
+    let up : 64 ^ (n - l) ≡ 64 ^ (n - (l + 1)) * 64 = ap (λ x. 64 ^ x) one_more ∙ pow-suc 64 (n - (l + 1)) in
+    let most : 64 ^ (n - l) ≤ 64 ^ n = (let b : n - l ≤ n = omega arith in pow-le-pow_right {n = 64} (lit< tt) b) in
+    omega (arith, up, most, fits, within)
 
 module _ (n l : ℕ) (ms ps : List ℕ) (v q : ℕ) (formed : IsWellFormed n ms ps) (long : length ms ≡ n) (wide : length ps ≡ n) (layer : l + 1 < n)
     (next : ComesBefore n ms ps (l + 1) q) where

@@ -6,7 +6,8 @@ use Rattle.std.proofs.lemmas.List.{get_or-set_same, get_or-set_other}
 use Rattle.hibitset_base.specs.Deciding.{same_or_not}
 use Rattle.hibitset_base.specs.Sets.{bit_of}
 use Rattle.hibitset_base.specs.Words.{IsSummed, IsShaped, IsStored, word_at}
-use Rattle.hibitset_base.proofs.Mending.{other_layer, MendedUpTo, mended_first, mended_next, mended_last}
+use Rattle.hibitset_base.specs.Mended.{PutUpTo}
+use Rattle.hibitset_base.proofs.Mending.{other_layer, mended_first, mended_next, mended_last}
 
 -- an element that is there does not depend on the default
 pub get_or_any : (xs : List ℕ) (i d e : ℕ) → i < length xs → get_or xs i d ≡ get_or xs i e
@@ -70,11 +71,6 @@ stored_longer n k layers xs stored there same longer short covered = record {
   shaped = shaped_set n k layers xs stored.shaped there longer short covered (λ p. rw (same p) (stored.shaped.words k p));
   summed = summed_same n (word_at layers) (word_at (set layers k xs)) (same_words layers k xs there same) stored.summed;
 }
-
--- A word of layer 0 has been put in, and the summaries over it are right up to layer k.
-pub record PutUpTo (n k : ℕ) (old now : List (List ℕ)) (q : ℕ) : Type 0 where
-  pub mended : MendedUpTo k (word_at old) (word_at now) q
-  pub shaped : IsShaped n now
 
 pub put_first : (n : ℕ) (layers : List (List ℕ)) (xs : List ℕ) (q x : ℕ) → IsShaped n layers → 0 < length layers → length xs ≡ length (get_or layers 0 []) → get_or xs q 0 ≡ x → x < 2 ^ 64
     → ((p : ℕ) → p ≢ q → get_or xs p 0 ≡ get_or (get_or layers 0 []) p 0) → PutUpTo n 0 layers (set layers 0 xs) q

@@ -11,6 +11,7 @@ ghost use Rattle.hibitset_base.specs.Reading.{AllStand, Encloses, IsBoundBy, wor
 ghost use Rattle.hibitset_base.specs.Walk.{set_of, items_left, words_read, words_ahead, IsDrawn, WalkSteps};
 ghost use Rattle.hibitset_base.specs.declared.util.TheConstants.{LAYERS, MAX_EID};
 
+use crate::bits::with_bit;
 use crate::cursor::Cursor;
 use crate::iter::{BitIter, read};
 use crate::like::BitSetLike;
@@ -20,25 +21,31 @@ use crate::util::{BITS, Index, LAYERS, MAX_EID};
 // The bits of a word from a bit on.
 #[inline]
 fn tail(word: usize, bit: u32) -> usize
-    requires { bit ≤ 64 }
+    requires { bit < 64 }
     ensures { HasTail word bit result }
 {
-    if bit == 64 {
-        return 0;
-    }
     word & !((1usize << bit) - 1)
 }
 
-// The first bit that is left of the word over an index, which lies at a place of a layer: in layer 0 the index's own, and above it the next one.
+// The bits of a word after a bit.
 #[inline]
-fn first_left(layer: usize, place: u32) -> u32
-    ensures lowest { layer ≡ 0 → result ≡ place % 64 }
-    ensures above { 0 < layer → result ≡ place % 64 + 1 }
+fn tail_after(word: usize, bit: u32) -> usize
+    requires { bit < 64 }
+    ensures { HasTail word (bit + 1) result }
+{
+    with_bit(tail(word, bit), bit as usize, false)
+}
+
+// What is left of the word over an index, which lies at a place of a layer: in layer 0 the bits from the index's own on, and above it those after its own.
+#[inline]
+fn left_over(layer: usize, word: usize, place: u32) -> usize
+    ensures lowest { layer ≡ 0 → HasTail word (place % 64) result }
+    ensures above { 0 < layer → HasTail word (place % 64 + 1) result }
 {
     if layer == 0 {
-        place % 64
+        tail(word, place % 64)
     } else {
-        place % 64 + 1
+        tail_after(word, place % 64)
     }
 }
 
@@ -55,7 +62,7 @@ fn read_over<T: BitSetLike>(set: &T, reads: &mut Reads, layer: usize, from: Inde
     let place = from >> (BITS * layer);
     let word = read(set, reads, layer, place >> BITS);
     let stands = word >> (place % 64) & 1 == 1;
-    (tail(word, first_left(layer, place)), stands)
+    (left_over(layer, word, place), stands)
 }
 
 // Where the words over an index begin in their layers.

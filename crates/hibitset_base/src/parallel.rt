@@ -73,7 +73,7 @@ fn divide<'a, T: BitSetLike>(walk: &mut BitIter<&'a T>, looks: usize) -> Option<
 }
 
 impl<'a, T: BitSetLike + Send + Sync> BitProducer<'a, T> {
-    /// Splits the work in two, the lower items and the higher ones. The number of layers to look at is at most 3.
+    /// Splits the work in two, the lower items and the higher ones. The number of layers to look at is at most 4.
     ///
     /// Where more than one mask has bits, it answers none and the producer unchanged. Else it looks at the layers from the top one on: the first that has two bits or more is cut at its halving bit, and under one bit it goes down. So it may answer none and still have gone down.
     pub fn split(self) -> (Self, Option<Self>)

@@ -11,7 +11,7 @@ pub type Index = u32;
 pub const BITS: usize = 6;
 
 /// Number of layers of a set.
-pub const LAYERS: usize = 4;
+pub const LAYERS: usize = 5;
 
 /// Base two logarithm of `MAX_EID`.
 pub const MAX: usize = BITS * LAYERS;
@@ -30,6 +30,9 @@ pub const SHIFT2: usize = SHIFT1 + BITS;
 
 /// Base two logarithm of how many indices a bit of layer 3 stands for.
 pub const SHIFT3: usize = SHIFT2 + BITS;
+
+/// Base two logarithm of how many indices a bit of layer 4 stands for.
+pub const SHIFT4: usize = SHIFT3 + BITS;
 
 /// Where the bit over an index lies in the layer whose bits stand for `2^shift` indices each.
 pub trait Row: Sized + Copy {
@@ -70,14 +73,20 @@ impl Row for Index {
     }
 }
 
-/// The positions of the words that an index lies in, in layers 0, 1 and 2.
+/// The positions of the words that an index lies in, in layers 0, 1, 2 and 3.
 #[inline]
-pub fn offsets(bit: Index) -> (usize, usize, usize)
+pub fn offsets(bit: Index) -> (usize, usize, usize, usize)
     ensures layer0 { result.0 ≡ bit / 64 }
     ensures layer1 { result.1 ≡ bit / 4096 }
     ensures layer2 { result.2 ≡ bit / 262144 }
+    ensures layer3 { result.3 ≡ bit / 16777216 }
 {
-    (bit.offset(SHIFT1), bit.offset(SHIFT2), bit.offset(SHIFT3))
+    (
+        bit.offset(SHIFT1),
+        bit.offset(SHIFT2),
+        bit.offset(SHIFT3),
+        bit.offset(SHIFT4),
+    )
 }
 
 /// The halving bit of a word: the set bit with exactly half of the set bits, rounded down, at or above it. None where fewer than two bits are set.

@@ -38,8 +38,13 @@ impl<A: BitSetLike, B: BitSetLike> BitSetLike for BitSetAnd<A, B> {
     ghost lawful = { λ s. and_lawful LAYERS (A.lawful s.0) (B.lawful s.1) };
 
     #[inline]
-    fn layer3(&self) -> usize {
-        self.0.layer3() & self.1.layer3()
+    fn layer4(&self) -> usize {
+        self.0.layer4() & self.1.layer4()
+    }
+
+    #[inline]
+    fn layer3(&self, i: usize) -> usize {
+        self.0.layer3(i) & self.1.layer3(i)
     }
 
     #[inline]
@@ -116,8 +121,13 @@ impl<A: BitSetLike, B: BitSetLike> BitSetLike for BitSetOr<A, B> {
     ghost lawful = { λ s. or_lawful LAYERS (A.lawful s.0) (B.lawful s.1) };
 
     #[inline]
-    fn layer3(&self) -> usize {
-        self.0.layer3() | self.1.layer3()
+    fn layer4(&self) -> usize {
+        self.0.layer4() | self.1.layer4()
+    }
+
+    #[inline]
+    fn layer3(&self, i: usize) -> usize {
+        self.0.layer3(i) | self.1.layer3(i)
     }
 
     #[inline]
@@ -191,8 +201,13 @@ impl<A: BitSetLike, B: BitSetLike> BitSetLike for BitSetXor<A, B> {
     ghost lawful = { λ s. xor_lawful LAYERS (A.lawful s.0) (B.lawful s.1) };
 
     #[inline]
-    fn layer3(&self) -> usize {
-        self.0.layer3() | self.1.layer3()
+    fn layer4(&self) -> usize {
+        self.0.layer4() | self.1.layer4()
+    }
+
+    #[inline]
+    fn layer3(&self, i: usize) -> usize {
+        self.0.layer3(i) | self.1.layer3(i)
     }
 
     #[inline]
@@ -242,7 +257,12 @@ impl<A: BitSetLike> BitSetLike for BitSetNot<A> {
     ghost lawful = { λ s. not_lawful LAYERS (A.lawful s.0) };
 
     #[inline]
-    fn layer3(&self) -> usize {
+    fn layer4(&self) -> usize {
+        !0
+    }
+
+    #[inline]
+    fn layer3(&self, _i: usize) -> usize {
         !0
     }
 
@@ -288,7 +308,12 @@ impl BitSetLike for BitSetAll {
     ghost lawful = { λ s. all_lawful LAYERS };
 
     #[inline]
-    fn layer3(&self) -> usize {
+    fn layer4(&self) -> usize {
+        !0
+    }
+
+    #[inline]
+    fn layer3(&self, _i: usize) -> usize {
         !0
     }
 

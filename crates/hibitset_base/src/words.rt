@@ -13,7 +13,7 @@ ghost use Rattle.hibitset_base.specs.Walk.{items_left};
 ghost use Rattle.hibitset_base.specs.declared.util.TheConstants.{LAYERS, MAX_EID};
 
 use crate::cursor::Cursor;
-use crate::iter::{BitIter, refill, start, step};
+use crate::iter::{BitIter, fill_layer1, refill, start, step};
 use crate::like::BitSetLike;
 use crate::reads::Reads;
 use crate::util::{Index, LAYERS};
@@ -66,13 +66,14 @@ pub(crate) fn count_members<T: BitSetLike>(set: &T) -> usize
     count_left(set, &mut cursor, &mut reads)
 }
 
-// The first member of a set.
+// The first member of a set. The masks below the top are empty, so the way down to layer 1 needs no test of them.
 #[inline]
 pub(crate) fn find_first<T: BitSetLike>(set: &T, reads: &mut Reads) -> Option<Index>
     ensures first { MatchOption result (HasNone MAX_EID (T.holds set.now)) (IsFirst MAX_EID (T.holds set.now)) }
     ensures few { IsExact LAYERS (T.word set.now) → reads.new.count ≤ reads.old.count + LAYERS }
 {
     let mut cursor = start(set, reads);
+    fill_layer1(set, &mut cursor, reads);
     step(set, &mut cursor, reads)
 }
 

@@ -1,5 +1,5 @@
 //! Calls on one index at a time.
-use crate::sets::{add_all, first_of, set_of};
+use crate::sets::{END, add_all, first_of, set_of};
 use hibitset::util::MAX_EID;
 use hibitset::{BitSet, BuildError, Index};
 use std::alloc::{AllocError, Global};
@@ -16,7 +16,7 @@ pub(crate) fn add(alloc: Global, ids: &[Index], times: usize) -> Result<u64, All
 pub(crate) fn add_with_room(alloc: Global, ids: &[Index], times: usize) -> Result<u64, AllocError> {
     let mut sum = 0u64;
     for _ in 0..times {
-        let mut set = BitSet::with_capacity(alloc, MAX_EID as Index)?;
+        let mut set = BitSet::with_capacity(alloc, END)?;
         sum = sum.wrapping_add(add_all(&mut set, ids)?);
     }
     Ok(sum)

@@ -160,3 +160,21 @@ pub(crate) fn xor_assign(
 ) -> Result<u64, AllocError> {
     changed_beside::<XorAssign>(alloc, a, b, times)
 }
+
+// How many words a set keeps in all its layers, `times` times over.
+pub(crate) fn words(alloc: Global, ids: &[Index], times: usize) -> Result<u64, AllocError> {
+    let set = set_of(alloc, ids)?;
+    let mut sum = 0u64;
+    for _ in 0..times {
+        let upper = [
+            set.layer1_as_slice().len(),
+            set.layer2_as_slice().len(),
+            set.layer3_as_slice().len(),
+        ];
+        sum = sum.wrapping_add(1 + set.layer0_as_slice().len() as u64);
+        for words in upper {
+            sum = sum.wrapping_add(words as u64);
+        }
+    }
+    Ok(sum)
+}

@@ -1,10 +1,11 @@
-//! Kernels over the public calls of `hibitset`, for a driver in Rust that measures them.
+//! Kernels over the public calls of `hibitset` and `hibitset_store`, for a driver in Rust that measures them.
 //!
 //! Each makes its sets of the indices that it is given, does its work `times` times, and answers a sum of what came out, by which the driver compares it with the same kernel over another crate. Nothing else is promised of the sum. Indices out of range are left out. Where memory is refused the sum is `u64::MAX`.
 #![tactic(auto)]
 
 mod atomic;
 mod change;
+mod columns;
 mod compare;
 mod copies;
 mod sets;
@@ -39,6 +40,12 @@ pub extern "C" fn hibitset_bench_contains(
     times: usize,
 ) -> u64 {
     change::contains(alloc, ids, asked, times).unwrap_or(u64::MAX)
+}
+
+/// Counts the words that a set of the indices keeps, `times` times over.
+#[unsafe(no_mangle)]
+pub extern "C" fn hibitset_bench_words(alloc: Global, ids: &[u32], times: usize) -> u64 {
+    copies::words(alloc, ids, times).unwrap_or(u64::MAX)
 }
 
 /// Walks over a set, `times` times over.
@@ -264,4 +271,52 @@ pub extern "C" fn hibitset_bench_atomic_contains(
     times: usize,
 ) -> u64 {
     atomic::contains(alloc, ids, asked, times).unwrap_or(u64::MAX)
+}
+
+/// Gives each of the indices a value in an empty column, `times` times over.
+#[unsafe(no_mangle)]
+pub extern "C" fn hibitset_bench_column_insert(alloc: Global, ids: &[u32], times: usize) -> u64 {
+    columns::insert(alloc, ids, times).unwrap_or(u64::MAX)
+}
+
+/// Gives each of the indices a value in a column that has one for each, `times` times over.
+#[unsafe(no_mangle)]
+pub extern "C" fn hibitset_bench_column_insert_again(
+    alloc: Global,
+    ids: &[u32],
+    times: usize,
+) -> u64 {
+    columns::insert_again(alloc, ids, times).unwrap_or(u64::MAX)
+}
+
+/// Asks a column of `ids` for the value of each of `asked`, `times` times over.
+#[unsafe(no_mangle)]
+pub extern "C" fn hibitset_bench_column_get(
+    alloc: Global,
+    ids: &[u32],
+    asked: &[u32],
+    times: usize,
+) -> u64 {
+    columns::get(alloc, ids, asked, times).unwrap_or(u64::MAX)
+}
+
+/// Takes the values of all indices out of a column and puts them in again, `times` times over.
+#[unsafe(no_mangle)]
+pub extern "C" fn hibitset_bench_column_remove_and_insert(
+    alloc: Global,
+    ids: &[u32],
+    times: usize,
+) -> u64 {
+    columns::remove_and_insert(alloc, ids, times).unwrap_or(u64::MAX)
+}
+
+/// Goes over what two columns have in common, `times` times over.
+#[unsafe(no_mangle)]
+pub extern "C" fn hibitset_bench_column_join(
+    alloc: Global,
+    a: &[u32],
+    b: &[u32],
+    times: usize,
+) -> u64 {
+    columns::join_of_two(alloc, a, b, times).unwrap_or(u64::MAX)
 }

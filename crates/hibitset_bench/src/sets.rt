@@ -33,7 +33,7 @@ pub(crate) fn sum_of<T: BitSetLike>(set: T) -> u64 {
 }
 
 // Where the indices of the bench's sets end, however far a complement goes on.
-const END: Index = 1 << 24;
+pub(crate) const END: Index = 1 << 24;
 
 // The sum of the members below that end.
 #[inline]

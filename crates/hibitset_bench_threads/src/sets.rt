@@ -1,5 +1,4 @@
 //! The sets that are walked over.
-use hibitset::util::MAX_EID;
 use hibitset::{BitSet, Index};
 use std::alloc::{AllocError, Global};
 
@@ -13,6 +12,9 @@ pub(crate) enum Shape {
     // 1,000 in a row, at equal distances
     Clusters,
 }
+
+// Where the indices of the sets end, as in the original.
+const END: Index = 1 << 24;
 
 // Where the fixed sequence begins.
 pub(crate) const SEED: u64 = 88_172_645_463_325_252;
@@ -38,7 +40,7 @@ fn by_chance(alloc: Global, one_in: u32, members: u32) -> Result<BitSet, AllocEr
     let mut state = SEED;
     for id in 0..members.saturating_mul(one_in) {
         state = next(state);
-        if one_in != 0 && (state >> 32) % u64::from(one_in) == 0 && (id as usize) < MAX_EID {
+        if one_in != 0 && (state >> 32) % u64::from(one_in) == 0 && id < END {
             set.add(id)?;
         }
     }
@@ -48,7 +50,7 @@ fn by_chance(alloc: Global, one_in: u32, members: u32) -> Result<BitSet, AllocEr
 // The set with so many indices in a row.
 fn run(mut set: BitSet, first: Index, count: u32) -> Result<BitSet, AllocError> {
     for id in first..first.saturating_add(count) {
-        if (id as usize) < MAX_EID {
+        if id < END {
             set.add(id)?;
         }
     }
@@ -61,7 +63,7 @@ fn clusters(alloc: Global, members: u32) -> Result<BitSet, AllocError> {
     if count == 0 {
         return Ok(set);
     }
-    let distance = MAX_EID as u32 / count;
+    let distance = END / count;
     for cluster in 0..count {
         set = run(set, cluster.saturating_mul(distance), 1_000)?;
     }

@@ -5,3 +5,4 @@ pub mod Pairs
 pub mod Runs
 pub mod Ranges
 pub mod Splits
+pub mod Storing

@@ -7,7 +7,7 @@ use Rattle.hibitset_base.specs.declared.parallel.BitProducer.{BitProducer}
 use Rattle.hibitset_base.specs.declared.util.TheConstants.{LAYERS, MAX_EID}
 use Rattle.hibitset_base.proofs.Lists.{all_left, all_right, all_found}
 use Rattle.hibitset_run.specs.declared.script.Layers.{Layers}
-use Rattle.hibitset_run.specs.declared.script.Layers.TheVariants.{One, Two, Three}
+use Rattle.hibitset_run.specs.declared.script.Layers.TheVariants.{One, Two, Three, Four}
 use Rattle.hibitset_run.specs.Parts.{MaySplit, parts_of}
 use Rattle.hibitset_run.specs.Script.{layers_number, unsplit_size, members_of, parts_in}
 use Rattle.hibitset_run.proofs.Ranges.{parts_in-one, parts_in-append, parts_in-le, parts_in-some}
@@ -22,11 +22,13 @@ range_size-is : (looks : Layers) (n : ℕ) → n ≡ layers_number looks → ran
 range_size-is One n e = rw e refl
 range_size-is Two n e = rw e refl
 range_size-is Three n e = rw e refl
+range_size-is Four n e = rw e refl
 
 layers_number-lt : (looks : Layers) → layers_number looks < LAYERS
 layers_number-lt One = omega arith
 layers_number-lt Two = omega arith
 layers_number-lt Three = omega arith
+layers_number-lt Four = omega arith
 
 -- the whole set
 module _ (looks : Layers) (set : BitSet) (part : BitProducer BitSet) (layers : part.1 ≡ layers_number looks) (items : part_items has part ≡ members_of (has set)) where

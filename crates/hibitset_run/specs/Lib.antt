@@ -1,3 +1,4 @@
 pub mod Script
 pub mod Ended
 pub mod Parts
+pub mod Store

@@ -11,7 +11,7 @@ use Rattle.hibitset_base.specs.declared.util.TheConstants.{LAYERS, MAX_EID}
 use Rattle.hibitset_run.specs.declared.script.Slot.{Slot}
 use Rattle.hibitset_run.specs.declared.script.Slot.TheVariants.{A, B, C, D, E, F, G, H}
 use Rattle.hibitset_run.specs.declared.script.Layers.{Layers}
-use Rattle.hibitset_run.specs.declared.script.Layers.TheVariants.{One, Two, Three}
+use Rattle.hibitset_run.specs.declared.script.Layers.TheVariants.{One, Two, Three, Four}
 use Rattle.hibitset_run.specs.declared.script.Command.{Command}
 use Rattle.hibitset_run.specs.declared.script.Command.TheVariants as command
 use Rattle.hibitset_run.specs.declared.script.Reply.{Reply}
@@ -33,6 +33,7 @@ abbrev pub layers_number : Layers → ℕ
 layers_number One = 1
 layers_number Two = 2
 layers_number Three = 3
+layers_number Four = 4
 
 -- the eight sets, each as a test of numbers
 abbrev pub Sets : Type 0

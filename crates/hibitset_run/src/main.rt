@@ -1,7 +1,8 @@
-//! Runs a script of commands on eight sets, from standard input to standard output.
+//! Runs a script of commands on eight sets, or on two columns of values, from standard input to standard output.
 #![tactic(auto)]
 
 mod script;
+mod store;
 
 use script::Ended;
 use std::process::ExitCode;

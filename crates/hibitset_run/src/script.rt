@@ -12,6 +12,8 @@ mod text;
 
 use hibitset::util::MAX_EID;
 use hibitset::{BitSet, BitSetLike, Index};
+pub(crate) use parse::id_of;
+pub(crate) use print::{Printed, print};
 use std::alloc::{AllocError, Global};
 pub use text::{Ended, run_text};
 
@@ -37,12 +39,13 @@ impl Slot {
     }
 }
 
-/// How many layers, from the top one on, a split looks at, written `1`, `2` or `3`.
+/// How many layers, from the top one on, a split looks at, written `1`, `2`, `3` or `4`.
 #[derive(Clone, Copy, Debug, PartialEq, Eq)]
 pub enum Layers {
     One = 1,
     Two = 2,
     Three = 3,
+    Four = 4,
 }
 
 impl Layers {

@@ -1,5 +1,6 @@
 //! Each call that asks for memory is made between two requests of the test's own. Where a request of the call is refused it is seen what stands, and the call is made again. A test prints whether the first request, the call and the last request were refused; `refusals.py` refuses the requests one after the other. The tests of `room` make calls that need no memory as things stand, and print nothing between the two requests.
 mod atomic;
+mod columns;
 mod copies;
 mod parts;
 mod room;
@@ -9,6 +10,7 @@ mod worlds;
 use hibitset::atomic::ATOMIC_MAX_EID;
 use hibitset::util::MAX_EID;
 use hibitset::{AtomicBitSet, BitSet, BitSetLike, Index};
+use hibitset_store::Column;
 use std::alloc::{AllocError, Global};
 use std::test::Fail;
 
@@ -46,6 +48,17 @@ fn atomic_of(alloc: Global, ids: &[Index]) -> Result<AtomicBitSet, AllocError> {
     Ok(set)
 }
 
+// The column of these indices and values.
+fn column_of(alloc: Global, rows: &[(Index, u32)]) -> Result<Column<u32>, AllocError> {
+    let mut column = Column::new(alloc);
+    for (id, value) in rows {
+        if (*id as usize) < MAX_EID && column.insert(*id, *value).is_err() {
+            return Err(AllocError);
+        }
+    }
+    Ok(column)
+}
+
 // Tells whether a set has exactly these members.
 fn has_exactly<T: BitSetLike>(set: &T, ids: &[Index]) -> bool {
     let mut walk = set.iter();
@@ -57,11 +70,24 @@ fn has_exactly<T: BitSetLike>(set: &T, ids: &[Index]) -> bool {
     walk.next().is_none()
 }
 
+// Tells whether a column has exactly these indices and values, and its mask these indices.
+fn has_values(column: &Column<u32>, rows: &[(Index, u32)]) -> bool {
+    let mut keys = column.mask().iter();
+    let mut entries = column.iter();
+    for (id, value) in rows {
+        if keys.next() != Some(*id) || entries.next() != Some((*id, value)) {
+            return false;
+        }
+    }
+    keys.next().is_none() && entries.next().is_none() && column.len() == rows.len()
+}
+
 // The words on the way to an index, from the top on.
-fn way<T: BitSetLike>(set: &T, id: Index) -> [usize; 4] {
+fn way<T: BitSetLike>(set: &T, id: Index) -> [usize; 5] {
     let id = id as usize;
     [
-        set.layer3(),
+        set.layer4(),
+        set.layer3(id >> 24),
         set.layer2(id >> 18),
         set.layer1(id >> 12),
         set.layer0(id >> 6),

@@ -6,7 +6,6 @@ pub mod ids;
 pub mod pages;
 pub mod ready;
 pub mod shared_ids;
-pub mod store;
 #[cfg(test)]
 mod tests;
 pub mod walks;

@@ -1,10 +1,10 @@
 //! Identifiers that many threads take from one set, none of them twice.
 ghost use Rattle.std.specs.Prelude.{◌≡◌, ℕ, ◌+◌, ◌<◌, ◌≤◌, ◌∷◌, [], IfSome, IfNone, length, reverse};
-ghost use Rattle.hibitset_base.specs.declared.util.TheConstants.{MAX_EID};
+ghost use Rattle.hibitset_atomic.specs.declared.atomic.TheConstants.{ATOMIC_MAX_EID};
 ghost use Rattle.hibitset_atomic.specs.Lists.{Has};
 ghost use Rattle.hibitset_atomic.specs.Seats.{IsOld, Came, Known, weight_of, reports_of};
 
-use hibitset::{Index, MAX_EID, Seat, SharedBitSet};
+use hibitset::{ATOMIC_MAX_EID, Index, Seat, SharedBitSet};
 use std::alloc::Global;
 
 /// The identifiers that a thread took, in the order in which it took them, with its seat.
@@ -14,21 +14,21 @@ pub struct Taken {
     pub ids: Vec<Index>,
 }
 
-/// Takes a fresh identifier: the first from `start` on that the seat's own exchange puts in, of so many tries below `MAX_EID`, or none where all of these were there.
+/// Takes a fresh identifier: the first from `start` on that the seat's own exchange puts in, of so many tries below `ATOMIC_MAX_EID`, or none where all of these were there.
 ///
 /// It was not there when the set was shared, nor did the seat know it, and it is the newest of the seat's reports from then on. No two seats of a set have a report in common, as `join` and `settle` say, so no other seat is given it, whatever the other threads do.
 pub fn take_fresh(set: &SharedBitSet, seat: &mut Seat, start: Index, tries: u32) -> Option<Index>
     requires { Came set.now seat.old }
     ensures came { Came set.now seat.new × (weight_of seat.new ≡ weight_of seat.old) }
     ensures known { (i : ℕ) → Known seat.old i → Known seat.new i }
-    ensures within { IfSome result (λ id. (start ≤ id) × (id < start + tries) × (id < MAX_EID)) }
+    ensures within { IfSome result (λ id. (start ≤ id) × (id < start + tries) × (id < ATOMIC_MAX_EID)) }
     ensures fresh { IfSome result (λ id. ¬ IsOld set.now id × ¬ Known seat.old id × ¬ Has (reports_of seat.old) id) }
     ensures given { IfSome result (λ id. reports_of seat.new ≡ id ∷ reports_of seat.old) }
     ensures first { IfSome result (λ id. (i : ℕ) → start ≤ i → i ≤ id → Known seat.new i) }
     ensures none { IfNone result (reports_of seat.new ≡ reports_of seat.old) }
-    ensures all { IfNone result ((i : ℕ) → start ≤ i → i < start + tries → i < MAX_EID → Known seat.new i) }
+    ensures all { IfNone result ((i : ℕ) → start ≤ i → i < start + tries → i < ATOMIC_MAX_EID → Known seat.new i) }
 {
-    let end = start.saturating_add(tries).min(MAX_EID as Index);
+    let end = start.saturating_add(tries).min(ATOMIC_MAX_EID as Index);
     for id in start..end {
         if !set.add_atomic(seat, id) {
             return Some(id);

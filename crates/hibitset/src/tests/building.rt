@@ -14,17 +14,19 @@ fn building(rt: HostRuntime) -> Result<(), Fail> {
     assert_eq!(rt; list(rt.alloc(), &refs)?.as_slice(), [3, 5].as_slice());
     let other = BitSet::from_indices(rt.alloc(), &refs)?;
     assert!(rt; other == refs);
+    let one = BitSet::from_indices(rt.alloc(), [16777216u32].iter().copied())?;
+    assert_eq!(rt; list(rt.alloc(), &one)?.as_slice(), [16777216].as_slice());
     Ok(())
 }
 
 #[test]
 fn building_past_the_range(rt: HostRuntime) {
-    let refused = BitSet::from_indices(rt.alloc(), [16777216u32].iter().copied());
+    let refused = BitSet::from_indices(rt.alloc(), [1073741824u32].iter().copied());
     assert!(rt;
         refused
             == Err(BuildError::OutOfRange {
                 place: 0,
-                index: 16777216
+                index: 1073741824
             })
     );
     let refused = BitSet::from_index_refs(rt.alloc(), &[7u32, 4294967295]);
@@ -39,7 +41,7 @@ fn building_past_the_range(rt: HostRuntime) {
 
 #[test]
 fn extending_past_the_range(rt: HostRuntime) -> Result<(), Fail> {
-    let items = [3u32, 9, 16777216, 4];
+    let items = [3u32, 9, 1073741824, 4];
     let mut set = BitSet::new(rt.alloc());
     let mut iter = items.iter().copied();
     let ended = set.extend_indices(&mut iter);
@@ -47,7 +49,7 @@ fn extending_past_the_range(rt: HostRuntime) -> Result<(), Fail> {
         ended,
         Err(BuildError::OutOfRange {
             place: 2,
-            index: 16777216
+            index: 1073741824
         })
     );
     assert_eq!(rt; iter.next(), Some(4));
@@ -57,7 +59,7 @@ fn extending_past_the_range(rt: HostRuntime) -> Result<(), Fail> {
         ended,
         Err(BuildError::OutOfRange {
             place: 2,
-            index: 16777216
+            index: 1073741824
         })
     );
     assert_eq!(rt; set.extend_indices(10..12), Ok(()));
@@ -72,12 +74,12 @@ fn extending_past_the_range(rt: HostRuntime) -> Result<(), Fail> {
 fn errors_are_told(rt: HostRuntime) -> Result<(), Fail> {
     let out = BuildError::OutOfRange {
         place: 2,
-        index: 16777216,
+        index: 1073741824,
     };
     let memory = BuildError::Memory { place: 1 };
     assert_eq!(rt;
         format!(in rt.alloc(); "{out}")?.as_str(),
-        "index 16777216 at place 2 is out of range"
+        "index 1073741824 at place 2 is out of range"
     );
     assert_eq!(rt;
         format!(in rt.alloc(); "{memory}")?.as_str(),
@@ -89,10 +91,10 @@ fn errors_are_told(rt: HostRuntime) -> Result<(), Fail> {
 // After a refusal, the iterator goes on after the item that was refused.
 #[test]
 fn no_item_is_drawn_after_one_out_of_range(rt: HostRuntime) -> Result<(), Fail> {
-    let items = [3u32, 9, 16777216, 4];
+    let items = [3u32, 9, 1073741824, 4];
     let refused = BuildError::OutOfRange {
         place: 2,
-        index: 16777216,
+        index: 1073741824,
     };
     let mut set = BitSet::new(rt.alloc());
     let mut left = items.iter().copied();

@@ -3,7 +3,7 @@ ghost use Rattle.std.specs.Prelude.{◌≡◌, ℕ, ◌+◌, ◌-◌, ◌≤◌,
 ghost use Rattle.hibitset_base.specs.Connectives.{IsIntersection, IsUnion, IsExclusive};
 ghost use Rattle.hibitset_base.specs.Members.{members, members_below};
 ghost use Rattle.hibitset_base.specs.Walk.{IsDrawn, words_read, words_ahead, items_left};
-ghost use Rattle.hibitset_base.specs.declared.util.TheConstants.{MAX_EID};
+ghost use Rattle.hibitset_base.specs.declared.util.TheConstants.{LAYERS, MAX_EID};
 ghost use Rattle.hibitset.specs.BitSet.{has, word_of};
 
 use crate::laws::laws;
@@ -59,11 +59,11 @@ fn drained(alloc: Global, set: &mut BitSet) -> Result<Vec<Index>, AllocError>
     set.drain().collect(alloc)
 }
 
-// One step of a walk, which reads three words at most.
+// One step of a walk, which reads at most a word of each layer below the top.
 fn step<'a>(walk: &mut BitIter<&'a BitSet>) -> Option<Index>
     requires { IsDrawn (λ set. word_of set.now) walk.old }
     ensures drawn { IsDrawn (λ set. word_of set.now) walk.new }
-    ensures few { words_read walk.new ≤ words_read walk.old + 3 }
+    ensures few { words_read walk.new ≤ words_read walk.old + (LAYERS - 1) }
 {
     laws();
     walk.next()

@@ -1,16 +1,21 @@
 //! A set from `new` to `clear`.
 use crate::tests::{list, set_of};
-use crate::{BitSet, BitSetLike, Index};
-use hibitset_base::util::{LAYERS, MAX, MAX_EID, SHIFT0, SHIFT1, SHIFT2, SHIFT3};
+use crate::{ATOMIC_MAX_EID, BitSet, BitSetLike, Index};
+use hibitset_base::util::{LAYERS, MAX, MAX_EID, SHIFT0, SHIFT1, SHIFT2, SHIFT3, SHIFT4};
 use std::test::Fail;
 
 #[test]
 fn constants(rt: HostRuntime) {
-    assert_eq!(rt; (LAYERS, MAX, MAX_EID), (4, 24, 16_777_216));
-    assert_eq!(rt; (SHIFT0, SHIFT1, SHIFT2, SHIFT3), (0, 6, 12, 18));
+    assert_eq!(rt; (LAYERS, MAX, MAX_EID), (5, 30, 1_073_741_824));
+    assert_eq!(rt;
+        (SHIFT0, SHIFT1, SHIFT2, SHIFT3, SHIFT4),
+        (0, 6, 12, 18, 24)
+    );
+    assert_eq!(rt; ATOMIC_MAX_EID, 16_777_216);
     assert_eq!(rt; BitSet::BITS_PER_USIZE, 64);
     assert_eq!(rt; BitSet::LAYER1_GRANULARITY, 64);
     assert_eq!(rt; BitSet::LAYER2_GRANULARITY, 4_096);
+    assert_eq!(rt; BitSet::LAYER3_GRANULARITY, 262_144);
 }
 
 #[test]
@@ -20,6 +25,7 @@ fn an_empty_set(rt: HostRuntime) -> Result<(), Fail> {
     assert_eq!(rt; set.layer0_as_slice().len(), 0);
     assert_eq!(rt; set.layer1_as_slice().len(), 0);
     assert_eq!(rt; set.layer2_as_slice().len(), 0);
+    assert_eq!(rt; set.layer3_as_slice().len(), 0);
     assert_eq!(rt; list(rt.alloc(), &set)?.len(), 0);
     assert_eq!(rt; set.to_vec(rt.alloc())?.len(), 0);
     assert!(rt; set.clone()?.is_empty());
@@ -32,12 +38,14 @@ fn words_of_one_index(rt: HostRuntime) -> Result<(), Fail> {
     assert_eq!(rt; set.layer0_as_slice().get(192).copied(), Some(1 << 57));
     assert_eq!(rt; set.layer1_as_slice().get(3).copied(), Some(1));
     assert_eq!(rt; set.layer2_as_slice().get(0).copied(), Some(8));
+    assert_eq!(rt; set.layer3_as_slice().get(0).copied(), Some(1));
+    assert_eq!(rt; set.layer4(), 1);
     assert_eq!(rt;
-        (set.layer0(192), set.layer1(3), set.layer2(0), set.layer3()),
+        (set.layer0(192), set.layer1(3), set.layer2(0), set.layer3(0)),
         (1 << 57, 1, 8, 1)
     );
     assert_eq!(rt; set.get_from_layer(0, 192), 1 << 57);
-    assert_eq!(rt; set.get_from_layer(3, 7), 1);
+    assert_eq!(rt; set.get_from_layer(4, 7), 1);
     assert!(rt; !set.is_empty());
     Ok(())
 }
@@ -45,13 +53,18 @@ fn words_of_one_index(rt: HostRuntime) -> Result<(), Fail> {
 #[test]
 fn border_indices(rt: HostRuntime) -> Result<(), Fail> {
     let mut set = BitSet::new(rt.alloc());
-    for id in [16777215, 262144, 262143, 4096, 4095, 64, 63, 0] {
+    for id in [
+        1073741823, 16777216, 16777215, 262144, 262143, 4096, 4095, 64, 63, 0,
+    ] {
         assert!(rt; !set.add(id)?);
     }
     let all = list(rt.alloc(), &set)?;
     assert_eq!(rt;
         all.as_slice(),
-        [0, 63, 64, 4095, 4096, 262143, 262144, 16777215].as_slice()
+        [
+            0, 63, 64, 4095, 4096, 262143, 262144, 16777215, 16777216, 1073741823
+        ]
+        .as_slice()
     );
     Ok(())
 }
@@ -65,8 +78,8 @@ fn adding_and_removing_twice(rt: HostRuntime) -> Result<(), Fail> {
     assert!(rt; set.remove(5));
     assert!(rt; !set.remove(5));
     assert!(rt; !set.contains(5));
-    assert!(rt; !set.remove(16777216));
-    assert!(rt; !set.contains(16777216));
+    assert!(rt; !set.remove(1073741824));
+    assert!(rt; !set.contains(1073741824));
     assert!(rt; !set.remove(4294967295));
     Ok(())
 }
@@ -76,13 +89,13 @@ fn removing_clears_summaries(rt: HostRuntime) -> Result<(), Fail> {
     let mut set = set_of(rt.alloc(), &[0, 64, 4096, 262144])?;
     assert!(rt; set.remove(64));
     assert_eq!(rt;
-        (set.layer0(1), set.layer1(0), set.layer2(0), set.layer3()),
+        (set.layer0(1), set.layer1(0), set.layer2(0), set.layer3(0)),
         (0, 1, 3, 3)
     );
     assert!(rt; set.remove(4096));
-    assert_eq!(rt; (set.layer1(1), set.layer2(0), set.layer3()), (0, 1, 3));
+    assert_eq!(rt; (set.layer1(1), set.layer2(0), set.layer3(0)), (0, 1, 3));
     assert!(rt; set.remove(262144));
-    assert_eq!(rt; (set.layer2(1), set.layer3()), (0, 1));
+    assert_eq!(rt; (set.layer2(1), set.layer3(0), set.layer4()), (0, 1, 1));
     assert!(rt; set.remove(0));
     assert!(rt; set.is_empty());
     Ok(())
@@ -96,6 +109,7 @@ fn clearing(rt: HostRuntime) -> Result<(), Fail> {
     assert_eq!(rt; set.layer0_as_slice().len(), 0);
     assert_eq!(rt; set.layer1_as_slice().len(), 0);
     assert_eq!(rt; set.layer2_as_slice().len(), 0);
+    assert_eq!(rt; set.layer3_as_slice().len(), 0);
     assert!(rt; !set.add(70)?);
     let all = list(rt.alloc(), &set)?;
     assert_eq!(rt; all.as_slice(), [70].as_slice());
@@ -141,6 +155,7 @@ fn words_of_a_copy(rt: HostRuntime) -> Result<(), Fail> {
     assert_eq!(rt; copy.layer0_as_slice(), set.layer0_as_slice());
     assert_eq!(rt; copy.layer1_as_slice(), set.layer1_as_slice());
     assert_eq!(rt; copy.layer2_as_slice(), set.layer2_as_slice());
+    assert_eq!(rt; copy.layer3_as_slice(), set.layer3_as_slice());
     assert_eq!(rt; copy.layer0_as_slice().len(), 10_938);
     Ok(())
 }

@@ -50,9 +50,11 @@ fn clusters(rt: HostRuntime) -> Result<(), Fail> {
 
 #[test]
 fn border_indices_in_parts(rt: HostRuntime) -> Result<(), Fail> {
-    let ids = [0, 63, 64, 4095, 4096, 262_143, 262_144, 16_777_215];
+    let ids = [
+        0, 63, 64, 4095, 4096, 262_143, 262_144, 16_777_215, 16_777_216,
+    ];
     let set = set_of(rt.alloc(), ids.as_slice())?;
-    for layers in 1..4u8 {
+    for layers in 1..5u8 {
         let all = (&set)
             .par_iter()
             .layers_split(layers)
@@ -100,7 +102,7 @@ fn folds_of_ten_and_of_many(rt: HostRuntime) -> Result<(), Fail> {
     assert_eq!(rt; sum_of(&rt, rt.alloc(), &ten)?, 45);
     let many = run_of(rt.alloc(), 524_288)?;
     assert_eq!(rt; sum_of(&rt, rt.alloc(), &many)?, 137_438_691_328);
-    for (layers, wanted) in [(1u8, 2), (2, 128), (3, 4_096)] {
+    for (layers, wanted) in [(1u8, 1), (2, 2), (3, 128), (4, 4_096)] {
         let pieces = BitParIter::new(&many).layers_split(layers).fold(
             &rt,
             rt.alloc(),
@@ -116,7 +118,7 @@ fn folds_of_ten_and_of_many(rt: HostRuntime) -> Result<(), Fail> {
 #[test]
 fn each_of_many(rt: HostRuntime) -> Result<(), Fail> {
     let many = run_of(rt.alloc(), 524_288)?;
-    for layers in 1..4u8 {
+    for layers in 1..5u8 {
         let walk = (&many).par_iter().layers_split(layers);
         assert_eq!(rt; walk.count(&rt, rt.alloc())?, 524_288);
     }

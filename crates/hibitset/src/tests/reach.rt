@@ -16,8 +16,18 @@ use std::cell::Cell;
 use std::test::Fail;
 
 // The first and the last index under words of each layer.
-const BORDERS: [Index; 9] = [
-    0, 63, 64, 4_095, 4_096, 262_143, 262_144, 8_388_608, 16_777_215,
+const BORDERS: [Index; 11] = [
+    0,
+    63,
+    64,
+    4_095,
+    4_096,
+    262_143,
+    262_144,
+    8_388_608,
+    16_777_215,
+    16_777_216,
+    1_073_741_823,
 ];
 
 // What a walk from an index gives.
@@ -27,8 +37,8 @@ fn list_from<T: BitSetLike>(alloc: Global, set: T, start: Index) -> Result<Vec<I
 
 #[test]
 fn constants_at_the_root(rt: HostRuntime) {
-    assert_eq!(rt; LAYERS, 4);
-    assert_eq!(rt; MAX_EID, 16_777_216);
+    assert_eq!(rt; LAYERS, 5);
+    assert_eq!(rt; MAX_EID, 1_073_741_824);
 }
 
 #[test]
@@ -61,11 +71,11 @@ fn one_member(rt: HostRuntime) -> Result<(), Fail> {
 #[test]
 fn borders_of_words(rt: HostRuntime) -> Result<(), Fail> {
     let set = set_of(rt.alloc(), BORDERS.as_slice())?;
-    assert_eq!(rt; set.len(), 9);
+    assert_eq!(rt; set.len(), 11);
     assert_eq!(rt; set.first(), Some(0));
     assert_eq!(rt; set.to_vec(rt.alloc())?.as_slice(), BORDERS.as_slice());
     // how many of them lie before the index
-    let before: [(Index, usize); 18] = [
+    let before: [(Index, usize); 21] = [
         (0, 0),
         (1, 1),
         (63, 1),
@@ -83,11 +93,14 @@ fn borders_of_words(rt: HostRuntime) -> Result<(), Fail> {
         (16_777_214, 8),
         (16_777_215, 8),
         (16_777_216, 9),
-        (u32::MAX, 9),
+        (16_777_217, 10),
+        (1_073_741_823, 10),
+        (1_073_741_824, 11),
+        (u32::MAX, 11),
     ];
     for (start, passed) in before {
         let rest = list_from(rt.alloc(), &set, start)?;
-        assert_eq!(rt; rest.as_slice(), &BORDERS[passed.min(9)..], "from {start}");
+        assert_eq!(rt; rest.as_slice(), &BORDERS[passed.min(11)..], "from {start}");
     }
     Ok(())
 }
@@ -142,10 +155,13 @@ fn over_virtual_sets(rt: HostRuntime) -> Result<(), Fail> {
     assert_eq!(rt; (&a & !&a).len(), 0);
     assert_eq!(rt; (!&a).first(), Some(1));
     assert_eq!(rt; (!&a).iter_from(63).next(), Some(64));
-    assert_eq!(rt; (!&a).len(), 16_777_211);
-    assert_eq!(rt; BitSetAll.len(), 16_777_216);
-    assert_eq!(rt; BitSetAll.iter_from(16_777_215).next(), Some(16_777_215));
-    assert_eq!(rt; BitSetAll.iter_from(16_777_216).next(), None);
+    assert_eq!(rt; (!&a & &b).len(), 2);
+    assert_eq!(rt; BitSetAnd(BitSetAll, &a).len(), 5);
+    assert_eq!(rt;
+        BitSetAll.iter_from(1_073_741_823).next(),
+        Some(1_073_741_823)
+    );
+    assert_eq!(rt; BitSetAll.iter_from(1_073_741_824).next(), None);
     Ok(())
 }
 
@@ -160,30 +176,32 @@ fn over_a_stranger(rt: HostRuntime) -> Result<(), Fail> {
     assert_eq!(rt; everywhere.first(), Some(70));
     assert_eq!(rt; (&everywhere).iter_from(71).next(), Some(4_096));
     assert_eq!(rt; (&everywhere).iter_from(300_000).next(), Some(300_000));
-    assert_eq!(rt; everywhere.len(), 3);
-    let listed = everywhere.to_vec(rt.alloc())?;
-    assert_eq!(rt; listed.as_slice(), [70, 4_096, 300_000].as_slice());
+    let near = set_of(rt.alloc(), &[0, 70, 4_096, 300_001])?;
+    let both = BitSetAnd(&near, &everywhere);
+    assert_eq!(rt; both.len(), 2);
+    assert_eq!(rt; both.to_vec(rt.alloc())?.as_slice(), [70, 4_096].as_slice());
     Ok(())
 }
 
 #[test]
 fn one_word_a_layer(rt: HostRuntime) -> Result<(), Fail> {
     let counting = Counting {
-        set: set_of(rt.alloc(), &[64, 70, 16_777_215])?,
+        set: set_of(rt.alloc(), &[64, 70, 1_073_741_823])?,
         reads: Cell::new(0),
     };
     assert_eq!(rt; counting.first(), Some(64));
-    assert_eq!(rt; counting.reads.replace(0), 4);
+    assert_eq!(rt; counting.reads.replace(0), 5);
     // start, words read when the walk is made, the first item, and words read up to it
-    let rows: [(Index, usize, Option<Index>, usize); 8] = [
-        (0, 3, Some(64), 1),
-        (64, 4, Some(64), 0),
-        (65, 4, Some(70), 0),
-        (71, 4, Some(16_777_215), 3),
-        (4_096, 2, Some(16_777_215), 3),
-        (262_144, 1, Some(16_777_215), 3),
-        (16_777_215, 4, Some(16_777_215), 0),
-        (16_777_216, 0, None, 0),
+    let rows: [(Index, usize, Option<Index>, usize); 9] = [
+        (0, 4, Some(64), 1),
+        (64, 5, Some(64), 0),
+        (65, 5, Some(70), 0),
+        (71, 5, Some(1_073_741_823), 4),
+        (4_096, 3, Some(1_073_741_823), 4),
+        (262_144, 2, Some(1_073_741_823), 4),
+        (16_777_216, 1, Some(1_073_741_823), 4),
+        (1_073_741_823, 5, Some(1_073_741_823), 0),
+        (1_073_741_824, 0, None, 0),
     ];
     for (start, made, first, later) in rows {
         let mut walk = (&counting).iter_from(start);
@@ -192,23 +210,23 @@ fn one_word_a_layer(rt: HostRuntime) -> Result<(), Fail> {
         assert_eq!(rt; counting.reads.replace(0), later, "next from {start}");
     }
     let mut all = (&counting).iter();
-    assert_eq!(rt; all.nth(2), Some(16_777_215));
-    assert_eq!(rt; counting.reads.replace(0), 7);
+    assert_eq!(rt; all.nth(2), Some(1_073_741_823));
+    assert_eq!(rt; counting.reads.replace(0), 9);
     Ok(())
 }
 
 #[test]
 fn each_word_once(rt: HostRuntime) -> Result<(), Fail> {
     let counting = Counting {
-        set: set_of(rt.alloc(), &[64, 70, 16_777_215])?,
+        set: set_of(rt.alloc(), &[64, 70, 1_073_741_823])?,
         reads: Cell::new(0),
     };
     assert_eq!(rt; counting.len(), 3);
-    assert_eq!(rt; counting.reads.replace(0), 7);
+    assert_eq!(rt; counting.reads.replace(0), 9);
     // the top once, and each other word once to count and once to list
     let listed = counting.to_vec(rt.alloc())?;
-    assert_eq!(rt; listed.as_slice(), [64, 70, 16_777_215].as_slice());
-    assert_eq!(rt; (counting.reads.replace(0), listed.capacity()), (13, 3));
+    assert_eq!(rt; listed.as_slice(), [64, 70, 1_073_741_823].as_slice());
+    assert_eq!(rt; (counting.reads.replace(0), listed.capacity()), (17, 3));
     // of words with one bit each 32 are looked at before the list is made
     let mut set = BitSet::new(rt.alloc());
     for word in 0..64u32 {
@@ -219,11 +237,11 @@ fn each_word_once(rt: HostRuntime) -> Result<(), Fail> {
         reads: Cell::new(0),
     };
     assert_eq!(rt; counting.to_vec(rt.alloc())?.len(), 64);
-    assert_eq!(rt; counting.reads.replace(0), 101);
+    assert_eq!(rt; counting.reads.replace(0), 103);
     Ok(())
 }
 
-// A walk over an intersection from an index on: its words lie over members of the first set, and are at most three for each.
+// A walk over an intersection from an index on: its words lie over members of the first set, and are at most four for each.
 fn walk_both_from<'a>(
     a: &'a BitSet,
     b: &'a BitSet,

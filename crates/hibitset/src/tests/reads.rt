@@ -28,9 +28,14 @@ impl BitSetLike for Counting {
 
     ghost lawful = { λ s. has_is_lawful s.set };
 
-    fn layer3(&self) -> usize {
+    fn layer4(&self) -> usize {
         self.count();
-        self.set.layer3()
+        self.set.layer4()
+    }
+
+    fn layer3(&self, i: usize) -> usize {
+        self.count();
+        self.set.layer3(i)
     }
 
     fn layer2(&self, i: usize) -> usize {
@@ -54,17 +59,17 @@ impl BitSetLike for Counting {
 }
 
 #[test]
-fn one_word_and_then_three_a_step(rt: HostRuntime) -> Result<(), Fail> {
+fn one_word_and_then_four_a_step(rt: HostRuntime) -> Result<(), Fail> {
     let counting = Counting {
-        set: set_of(rt.alloc(), &[0, 16777215])?,
+        set: set_of(rt.alloc(), &[0, 1073741823])?,
         reads: Cell::new(0),
     };
     let mut walk = (&counting).iter();
     assert_eq!(rt; counting.reads.replace(0), 1);
     assert_eq!(rt; walk.next(), Some(0));
-    assert_eq!(rt; counting.reads.replace(0), 3);
-    assert_eq!(rt; walk.next(), Some(16777215));
-    assert_eq!(rt; counting.reads.replace(0), 3);
+    assert_eq!(rt; counting.reads.replace(0), 4);
+    assert_eq!(rt; walk.next(), Some(1073741823));
+    assert_eq!(rt; counting.reads.replace(0), 4);
     assert_eq!(rt; walk.next(), None);
     assert_eq!(rt; counting.reads.replace(0), 0);
     Ok(())
@@ -88,7 +93,12 @@ impl BitSetLike for Everywhere {
 
     ghost lawful = { λ s. full_lawful LAYERS (has_is_lawful s.counting.set) };
 
-    fn layer3(&self) -> usize {
+    fn layer4(&self) -> usize {
+        self.counting.count();
+        !0
+    }
+
+    fn layer3(&self, _i: usize) -> usize {
         self.counting.count();
         !0
     }
@@ -124,6 +134,6 @@ fn all_words_under_bits_that_stand_everywhere(rt: HostRuntime) -> Result<(), Fai
     assert_eq!(rt; walk.next(), Some(0));
     assert_eq!(rt; walk.next(), Some(4096));
     assert_eq!(rt; walk.next(), None);
-    assert_eq!(rt; everywhere.counting.reads.get(), 266_305);
+    assert_eq!(rt; everywhere.counting.reads.get(), 17_043_521);
     Ok(())
 }

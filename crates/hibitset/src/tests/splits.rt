@@ -48,10 +48,11 @@ fn parts_to_the_end(alloc: Global, set: &BitSet, layers: u8) -> Result<usize, Al
 #[test]
 fn splitting_to_the_end(rt: HostRuntime) -> Result<(), Fail> {
     let set = run_of(rt.alloc(), 524_288)?;
-    assert_eq!(rt; parts_to_the_end(rt.alloc(), &set, 3)?, 8192);
-    assert_eq!(rt; parts_to_the_end(rt.alloc(), &set, 2)?, 128);
-    assert_eq!(rt; parts_to_the_end(rt.alloc(), &set, 1)?, 2);
-    assert_eq!(rt; parts_to_the_end(rt.alloc(), &set, 0)?, 2);
+    assert_eq!(rt; parts_to_the_end(rt.alloc(), &set, 4)?, 8192);
+    assert_eq!(rt; parts_to_the_end(rt.alloc(), &set, 3)?, 128);
+    assert_eq!(rt; parts_to_the_end(rt.alloc(), &set, 2)?, 2);
+    assert_eq!(rt; parts_to_the_end(rt.alloc(), &set, 1)?, 1);
+    assert_eq!(rt; parts_to_the_end(rt.alloc(), &set, 0)?, 1);
     Ok(())
 }
 
@@ -80,7 +81,7 @@ fn parts_after(
 #[test]
 fn a_walk_already_begun(rt: HostRuntime) -> Result<(), Fail> {
     let set = set_of(rt.alloc(), &[0, 64, 262_144])?;
-    let (low, high) = parts_after(rt.alloc(), &set, 1, 3)?;
+    let (low, high) = parts_after(rt.alloc(), &set, 1, 4)?;
     assert_eq!(rt; low.as_slice(), [64, 262_144].as_slice());
     assert!(rt; high.is_none());
     Ok(())
@@ -89,14 +90,14 @@ fn a_walk_already_begun(rt: HostRuntime) -> Result<(), Fail> {
 #[test]
 fn walks_in_strange_states(rt: HostRuntime) -> Result<(), Fail> {
     let set = set_of(rt.alloc(), &[0, 1, 64, 128])?;
-    let (low, high) = parts_after(rt.alloc(), &set, 1, 3)?;
+    let (low, high) = parts_after(rt.alloc(), &set, 1, 4)?;
     assert_eq!(rt; low.as_slice(), [1, 64, 128].as_slice());
     assert!(rt; high.is_none());
-    let (low, high) = parts_after(rt.alloc(), &set, 2, 3)?;
+    let (low, high) = parts_after(rt.alloc(), &set, 2, 4)?;
     assert_eq!(rt; low.as_slice(), [64].as_slice());
     let high = high.ok_or("no second part")?;
     assert_eq!(rt; high.as_slice(), [128].as_slice());
-    let (low, high) = parts_after(rt.alloc(), &set, 3, 3)?;
+    let (low, high) = parts_after(rt.alloc(), &set, 3, 4)?;
     assert_eq!(rt; low.as_slice(), [128].as_slice());
     assert!(rt; high.is_none());
     for layers in 0..2u8 {
@@ -110,7 +111,7 @@ fn walks_in_strange_states(rt: HostRuntime) -> Result<(), Fail> {
 #[test]
 fn a_part_is_folded(rt: HostRuntime) -> Result<(), Fail> {
     let set = set_of(rt.alloc(), &[3, 70, 70_000])?;
-    let sum = BitProducer((&set).iter(), 3).fold_with(
+    let sum = BitProducer((&set).iter(), 4).fold_with(
         0u64,
         |sum: u64, index: Index| sum.wrapping_add(u64::from(index)),
     );
@@ -145,7 +146,7 @@ struct Thirds {
 fn in_thirds<T: BitSetLike + Send + Sync>(alloc: Global, set: &T) -> Result<Thirds, AllocError>
     ensures { IfOk result (λ thirds. thirds.low.items ++ thirds.middle.items ++ thirds.high.items ≡ members_below MAX_EID (T.holds set.now)) }
 {
-    let whole = BitProducer(set.iter(), 3);
+    let whole = BitProducer(set.iter(), 4);
     let (lower, high) = whole.split();
     let (low, middle) = lower.split();
     Ok(Thirds {
@@ -160,7 +161,7 @@ fn halves<'a>(set: &'a BitSet) -> (BitProducer<'a, BitSet>, Option<BitProducer<'
     ensures { IfSome result.1 (λ other. (0 < length (part_items ⟦<BitSet as BitSetLike>⟧.holds result.0)) × (0 < length (part_items ⟦<BitSet as BitSetLike>⟧.holds other))) }
 {
     laws();
-    BitProducer(set.iter(), 3).split()
+    BitProducer(set.iter(), 4).split()
 }
 
 #[test]

@@ -1,7 +1,12 @@
 //! Lawful sets that the library doesn't know.
+ghost use Rattle.std.specs.Prelude.{◌<◌};
+ghost use Rattle.hibitset_base.specs.declared.util.TheConstants.{LAYERS};
+
 use crate::tests::{list, run_of, set_of};
 use crate::{BitSet, BitSetAnd, BitSetLike, BitSetNot, BitSetOr, BitSetXor, Index};
+use std::alloc::{AllocError, Global};
 use std::test::Fail;
+use std::thread::Threads;
 
 // The set that it has, with all bits in the layers above the lowest.
 #[derive(Drop)]
@@ -21,7 +26,11 @@ impl BitSetLike for Everywhere {
 
     ghost lawful = { λ s. full_lawful LAYERS (has_is_lawful s.set) };
 
-    fn layer3(&self) -> usize {
+    fn layer4(&self) -> usize {
+        !0
+    }
+
+    fn layer3(&self, _i: usize) -> usize {
         !0
     }
 
@@ -42,24 +51,71 @@ impl BitSetLike for Everywhere {
     }
 }
 
+// The set of these indices, which reads over 17 million words in a whole walk.
+fn stranger_of(alloc: Global, ids: &[Index]) -> Result<Everywhere, AllocError> {
+    Ok(Everywhere {
+        set: set_of(alloc, ids)?,
+    })
+}
+
+// What a walk over a stranger gives, in parts that are cut in so many layers.
+fn in_parts(rt: &(impl Threads + Sync), alloc: Global, layers: u8) -> Result<Vec<Index>, AllocError>
+    requires some { 0 < layers }
+    requires fits { layers < LAYERS }
+{
+    stranger_of(alloc, &[0, 4096])?
+        .par_iter()
+        .layers_split(layers)
+        .collect(rt, alloc)
+}
+
 #[test]
 fn a_stranger_is_walked(rt: HostRuntime) -> Result<(), Fail> {
-    let some = Everywhere {
-        set: set_of(rt.alloc(), &[0, 4096])?,
-    };
+    let some = stranger_of(rt.alloc(), &[0, 4096])?;
     assert_eq!(rt; list(rt.alloc(), &some)?.as_slice(), [0, 4096].as_slice());
     assert!(rt; !some.is_empty());
-    for layers in 1..4u8 {
-        let all = (&some)
-            .par_iter()
-            .layers_split(layers)
-            .collect(&rt, rt.alloc())?;
-        assert_eq!(rt; all.as_slice(), [0, 4096].as_slice());
-    }
-    let none = Everywhere {
-        set: BitSet::new(rt.alloc()),
-    };
-    assert!(rt; none.is_empty());
+    Ok(())
+}
+
+#[test]
+fn a_stranger_without_members(rt: HostRuntime) -> Result<(), Fail> {
+    assert!(rt; stranger_of(rt.alloc(), &[])?.is_empty());
+    Ok(())
+}
+
+#[test]
+fn a_stranger_in_parts_of_one_layer(rt: HostRuntime) -> Result<(), Fail> {
+    assert_eq!(rt;
+        in_parts(&rt, rt.alloc(), 1)?.as_slice(),
+        [0, 4096].as_slice()
+    );
+    Ok(())
+}
+
+#[test]
+fn a_stranger_in_parts_of_two_layers(rt: HostRuntime) -> Result<(), Fail> {
+    assert_eq!(rt;
+        in_parts(&rt, rt.alloc(), 2)?.as_slice(),
+        [0, 4096].as_slice()
+    );
+    Ok(())
+}
+
+#[test]
+fn a_stranger_in_parts_of_three_layers(rt: HostRuntime) -> Result<(), Fail> {
+    assert_eq!(rt;
+        in_parts(&rt, rt.alloc(), 3)?.as_slice(),
+        [0, 4096].as_slice()
+    );
+    Ok(())
+}
+
+#[test]
+fn a_stranger_in_parts_of_four_layers(rt: HostRuntime) -> Result<(), Fail> {
+    assert_eq!(rt;
+        in_parts(&rt, rt.alloc(), 4)?.as_slice(),
+        [0, 4096].as_slice()
+    );
     Ok(())
 }
 
@@ -68,21 +124,14 @@ fn a_large_stranger_in_parts(rt: HostRuntime) -> Result<(), Fail> {
     let many = Everywhere {
         set: run_of(rt.alloc(), 524_288)?,
     };
-    for layers in 1..4u8 {
-        let all = (&many)
-            .par_iter()
-            .layers_split(layers)
-            .collect(&rt, rt.alloc())?;
-        assert_eq!(rt; (all.len(), all.last().copied()), (524_288, Some(524_287)));
-    }
+    let all = (&many).par_iter().collect(&rt, rt.alloc())?;
+    assert_eq!(rt; (all.len(), all.last().copied()), (524_288, Some(524_287)));
     Ok(())
 }
 
 #[test]
 fn strangers_nested_four_deep(rt: HostRuntime) -> Result<(), Fail> {
-    let some = Everywhere {
-        set: set_of(rt.alloc(), &[0, 9, 4096])?,
-    };
+    let some = stranger_of(rt.alloc(), &[0, 9, 4096])?;
     let other = set_of(rt.alloc(), &[9, 300000])?;
     let nested = BitSetAnd(BitSetOr(BitSetXor(BitSetNot(&some), &other), &some), &other);
     assert_eq!(rt; list(rt.alloc(), &nested)?.as_slice(), [9].as_slice());
@@ -92,16 +141,20 @@ fn strangers_nested_four_deep(rt: HostRuntime) -> Result<(), Fail> {
 
 #[test]
 fn a_stranger_is_put_in(rt: HostRuntime) -> Result<(), Fail> {
-    let stranger = Everywhere {
-        set: set_of(rt.alloc(), &[0, 4096])?,
-    };
+    let stranger = stranger_of(rt.alloc(), &[0, 4096])?;
     let mut or = BitSet::new(rt.alloc());
     or.bitor_assign(&stranger)?;
     assert_eq!(rt; list(rt.alloc(), &or)?.as_slice(), [0, 4096].as_slice());
-    assert_eq!(rt; (or.layer3(), or.layer2(0)), (1, 3));
+    assert_eq!(rt; (or.layer4(), or.layer2(0)), (1, 3));
     let mut and = set_of(rt.alloc(), &[0, 9])?;
     and &= &stranger;
     assert_eq!(rt; list(rt.alloc(), &and)?.as_slice(), [0].as_slice());
+    Ok(())
+}
+
+#[test]
+fn a_stranger_is_put_in_where_it_is_not(rt: HostRuntime) -> Result<(), Fail> {
+    let stranger = stranger_of(rt.alloc(), &[0, 4096])?;
     let mut xor = set_of(rt.alloc(), &[0, 9])?;
     xor.bitxor_assign(&stranger)?;
     assert_eq!(rt; list(rt.alloc(), &xor)?.as_slice(), [9, 4096].as_slice());

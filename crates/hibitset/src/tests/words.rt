@@ -55,9 +55,14 @@ impl BitSetLike for Logging {
 
     ghost lawful = { λ s. has_is_lawful s.set };
 
-    fn layer3(&self) -> usize {
-        self.note(3, 0);
-        self.set.layer3()
+    fn layer4(&self) -> usize {
+        self.note(4, 0);
+        self.set.layer4()
+    }
+
+    fn layer3(&self, i: usize) -> usize {
+        self.note(3, i);
+        self.set.layer3(i)
     }
 
     fn layer2(&self, i: usize) -> usize {
@@ -96,8 +101,9 @@ impl DrainableBitSet for Logging {
     }
 }
 
-// The words over 64 and 300,000: the top one, and three on the way to each.
-const OVER_64_AND_300000: [(usize, usize); 7] = [
+// The words over 64 and 300,000: the two at the top, and three on the way to each.
+const OVER_64_AND_300000: [(usize, usize); 8] = [
+    (4, 0),
     (3, 0),
     (2, 0),
     (1, 0),
@@ -115,11 +121,11 @@ fn asked_whether_it_is_empty(rt: HostRuntime) -> Result<(), Fail> {
     assert!(rt; !some.is_empty());
     assert_eq!(rt;
         some.read(alloc)?.as_slice(),
-        [(3, 0), (2, 0), (1, 0), (0, 1)].as_slice()
+        [(4, 0), (3, 0), (2, 0), (1, 0), (0, 1)].as_slice()
     );
     let none = Logging::over(alloc, &[])?;
     assert!(rt; none.is_empty());
-    assert_eq!(rt; none.read(alloc)?.as_slice(), [(3, 0)].as_slice());
+    assert_eq!(rt; none.read(alloc)?.as_slice(), [(4, 0)].as_slice());
     // Two sets that share the words of two blocks, and no member.
     let ours = Logging::over(alloc, &[64, 300000])?;
     let theirs = Logging::over(alloc, &[65, 300001])?;
@@ -143,7 +149,7 @@ fn a_walk_over_an_intersection(rt: HostRuntime) -> Result<(), Fail> {
     for set in [&ours, &theirs] {
         assert_eq!(rt;
             set.read(alloc)?.as_slice(),
-            [(3, 0), (2, 0), (1, 0), (0, 1)].as_slice()
+            [(4, 0), (3, 0), (2, 0), (1, 0), (0, 1)].as_slice()
         );
     }
     assert_eq!(rt; walk.next(), Some(300000));
@@ -193,7 +199,7 @@ fn walks_by_a_reference(rt: HostRuntime) -> Result<(), Fail> {
     let other = Logging::over(alloc, &[300000])?;
     let either = BitSetOr(&set, &other);
     let mut walk = (&either).into_iter();
-    assert_eq!(rt; set.read(alloc)?.as_slice(), [(3, 0)].as_slice());
+    assert_eq!(rt; set.read(alloc)?.as_slice(), [(4, 0)].as_slice());
     assert_eq!(rt; walk.next(), Some(64));
     assert_eq!(rt; walk.next(), Some(300000));
     assert_eq!(rt; walk.next(), None);
@@ -211,7 +217,7 @@ fn a_clone_of_a_walk(rt: HostRuntime) -> Result<(), Fail> {
     let set = Logging::over(alloc, &[64, 300000])?;
     let mut walk = (&set).iter();
     assert_eq!(rt; walk.next(), Some(64));
-    assert_eq!(rt; set.read(alloc)?.len(), 4);
+    assert_eq!(rt; set.read(alloc)?.len(), 5);
     let mut copy = walk.clone()?;
     assert_eq!(rt; set.read(alloc)?.len(), 0);
     let ahead = [(2, 1), (1, 73), (0, 4687)];
@@ -246,7 +252,7 @@ fn assignments(rt: HostRuntime) -> Result<(), Fail> {
     set &= &other;
     assert_eq!(rt;
         other.read(alloc)?.as_slice(),
-        [(3, 0), (2, 0), (1, 0), (0, 1)].as_slice()
+        [(4, 0), (3, 0), (2, 0), (1, 0), (0, 1)].as_slice()
     );
     let mut or = set_of(alloc, &[5, 4096, 16777215])?;
     or.bitor_assign(&other)?;
@@ -266,7 +272,7 @@ fn assignments(rt: HostRuntime) -> Result<(), Fail> {
     xor.bitxor_assign(&none)?;
     or &= &none;
     for word in none.read(alloc)?.as_slice() {
-        assert_eq!(rt; *word, (3, 0));
+        assert_eq!(rt; *word, (4, 0));
     }
     Ok(())
 }

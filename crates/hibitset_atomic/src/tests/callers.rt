@@ -1,13 +1,12 @@
 //! A caller of the shared set, who proves what the contract says from the public clauses alone.
 ghost use Rattle.std.specs.Prelude.{◌≡◌, ℕ, ◌+◌, ◌≤◌, ◌⊎◌, ◌↔◌, [], true, length, IfSome};
-ghost use Rattle.hibitset_base.specs.declared.util.TheConstants.{MAX_EID};
+ghost use Rattle.hibitset_atomic.specs.declared.atomic.TheConstants.{ATOMIC_MAX_EID};
 ghost use Rattle.hibitset_atomic.specs.AtomicBitSet.{has};
 ghost use Rattle.hibitset_atomic.specs.Lists.{Has, Distinct};
 ghost use Rattle.hibitset_atomic.specs.Seats.{IsOld, Came, reports_of};
 
 use crate::tests::list;
 use crate::{AtomicBitSet, Seat, SharedBitSet};
-use hibitset_base::util::MAX_EID;
 use std::snapshot::Snapshot;
 use std::sync::Wait;
 use std::test::Fail;
@@ -40,7 +39,7 @@ pub struct Settled {
 // Adds each index below a bound, and counts the answers false.
 fn add_below(set: &SharedBitSet, seat: Seat, count: u32) -> Added
     requires came { Came set.now seat × (reports_of seat ≡ []) }
-    requires count { count ≤ MAX_EID }
+    requires count { count ≤ ATOMIC_MAX_EID }
     ensures { Came set.now result.seat × (length (reports_of result.seat) ≡ result.new) }
 {
     let mut seat = seat;
@@ -63,7 +62,7 @@ fn on_two_threads<R: Threads + Wait + Sync>(
 ) -> Option<(Added, Added)>
     requires a { Came set.now a × (reports_of a ≡ []) }
     requires b { Came set.now b × (reports_of b ≡ []) }
-    requires count { count ≤ MAX_EID }
+    requires count { count ≤ ATOMIC_MAX_EID }
     ensures came { IfSome result (λ t. Came set.now t.0.seat × Came set.now t.1.seat) }
     ensures new { IfSome result (λ t. (length (reports_of t.0.seat) ≡ t.0.new) × (length (reports_of t.1.seat) ≡ t.1.new)) }
 {
@@ -73,21 +72,21 @@ fn on_two_threads<R: Threads + Wait + Sync>(
         |scope| -> Option<(Added, Added)>
             requires a { Came set.now a × (reports_of a ≡ []) }
             requires b { Came set.now b × (reports_of b ≡ []) }
-            requires count { count ≤ MAX_EID }
+            requires count { count ≤ ATOMIC_MAX_EID }
             ensures came { IfSome result (λ t. Came set.entry.now t.0.seat × Came set.entry.now t.1.seat) }
             ensures new { IfSome result (λ t. (length (reports_of t.0.seat) ≡ t.0.new) × (length (reports_of t.1.seat) ≡ t.1.new)) }
         {
             let one = scope.spawn_with(
                 ComesBack(set),
                 move || -> Added
-                    requires { Came set.now a × (reports_of a ≡ []) × (count ≤ MAX_EID) }
+                    requires { Came set.now a × (reports_of a ≡ []) × (count ≤ ATOMIC_MAX_EID) }
                     ensures { Came set.entry.now result.seat × (length (reports_of result.seat) ≡ result.new) }
                 { add_below(set, a, count) },
             );
             let two = scope.spawn_with(
                 ComesBack(set),
                 move || -> Added
-                    requires { Came set.now b × (reports_of b ≡ []) × (count ≤ MAX_EID) }
+                    requires { Came set.now b × (reports_of b ≡ []) × (count ≤ ATOMIC_MAX_EID) }
                     ensures { Came set.entry.now result.seat × (length (reports_of result.seat) ≡ result.new) }
                 { add_below(set, b, count) },
             );
@@ -104,7 +103,7 @@ pub fn add_from_two<R: Threads + Wait + Sync>(
     count: u32,
 ) -> Option<Settled>
     requires came { Came set seat × (reports_of seat ≡ []) }
-    requires count { count ≤ MAX_EID }
+    requires count { count ≤ ATOMIC_MAX_EID }
     ensures once { IfSome result (λ r. Distinct (reports_of r.seat.value)) }
     ensures new { IfSome result (λ r. length (reports_of r.seat.value) ≡ r.new) }
     ensures members { IfSome result (λ r. (i : ℕ) → (has r.set i ≡ true) ↔ (IsOld set i ⊎ Has (reports_of r.seat.value) i)) }

@@ -59,10 +59,11 @@ fn one_of_two_blocks(rt: HostRuntime) -> Result<(), Fail> {
     assert!(rt; set.remove(0));
     assert!(rt; !set.remove(0));
     assert_eq!(rt;
-        (set.layer3(), set.layer2(0), set.layer1(0), set.layer1(1)),
+        (set.layer3(0), set.layer2(0), set.layer1(0), set.layer1(1)),
         (1, 2, 0, 1)
     );
     assert_eq!(rt; (set.layer0(64), set.layer0(0)), (1, 0));
+    assert_eq!(rt; (set.layer4(), set.layer3(1)), (1, 0));
     assert!(rt; set.contains(4096));
     Ok(())
 }
@@ -83,7 +84,7 @@ fn a_drain(rt: HostRuntime) -> Result<(), Fail> {
     let drained: Vec<Index> = set.drain().collect(rt.alloc())?;
     assert_eq!(rt; drained.as_slice(), [5, 4095, 8185].as_slice());
     assert_eq!(rt; list(rt.alloc(), &set)?.len(), 0);
-    assert_eq!(rt; set.layer3(), 0);
+    assert_eq!(rt; (set.layer4(), set.layer3(0)), (0, 0));
     Ok(())
 }
 

@@ -192,7 +192,8 @@ fn play(
 
 // Whether the set has the model's words.
 fn has_words(set: &AtomicBitSet, words: &Words, other: Index) -> bool {
-    set.layer3() == words.word(3, 0)
+    set.layer4() == usize::from(words.word(3, 0) != 0)
+        && set.layer3(0) == words.word(3, 0)
         && set.layer2(0) == words.word(2, 0)
         && set.layer1(0) == words.word(1, 0)
         && set.layer1(other as usize / 4096) == words.word(1, other / 4096)

@@ -64,7 +64,10 @@ fn a_small_world(rt: HostRuntime) -> Result<(), Fail> {
         return Ok(());
     }
     let set = world.settle();
-    assert_eq!(rt; (set.layer3(), set.layer2(0), set.layer1(0)), (1, 1, 1));
+    assert_eq!(rt;
+        (set.layer4(), set.layer3(0), set.layer2(0), set.layer1(0)),
+        (1, 1, 1, 1)
+    );
     assert_eq!(rt; list(rt.alloc(), &set)?.as_slice(), [5].as_slice());
     Ok(())
 }

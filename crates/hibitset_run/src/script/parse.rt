@@ -86,18 +86,19 @@ fn slot_of(word: &[u8]) -> Option<Slot> {
     }
 }
 
-// The number of layers that a word writes: one digit from `1` to `3`.
+// The number of layers that a word writes: one digit from `1` to `4`.
 fn layers_of(word: &[u8]) -> Option<Layers> {
     match word {
         b"1" => Some(Layers::One),
         b"2" => Some(Layers::Two),
         b"3" => Some(Layers::Three),
+        b"4" => Some(Layers::Four),
         _ => None,
     }
 }
 
 // The id that a word writes in decimal, with no sign and no leading zero, where it fits.
-fn id_of(word: &[u8]) -> Option<Index> {
+pub(crate) fn id_of(word: &[u8]) -> Option<Index> {
     if word == b"0".as_slice() {
         return Some(0);
     }

@@ -7,15 +7,20 @@ use std::io::Write;
 // How many bytes of text are ready before they are written.
 const PIECE: usize = 64 * 1024;
 
+// A reply that is printed as one line.
+pub(crate) trait Printed {
+    fn put_line(&self, text: &mut String) -> Result<(), AllocError>;
+}
+
 // Writes one line a reply, in pieces. With no reply it makes no write.
-pub(super) fn print<W: Write>(
+pub(crate) fn print<W: Write, R: Printed>(
     alloc: Global,
     writer: &mut W,
-    replies: &[Reply],
+    replies: &[R],
 ) -> Result<(), Ended> {
     let mut text = String::new(alloc);
     for reply in replies {
-        if put_line(&mut text, reply).is_err() {
+        if reply.put_line(&mut text).is_err() {
             return Err(Ended::NoMemory);
         }
         if text.len() >= PIECE {
@@ -38,15 +43,16 @@ fn put_out<W: Write>(writer: &mut W, text: &mut String) -> Result<(), Ended> {
     Ok(())
 }
 
-// The line that is printed for a reply.
-fn put_line(text: &mut String, reply: &Reply) -> Result<(), AllocError> {
-    match reply {
-        Reply::Bool(holds) => writeln!(text, "{holds}"),
-        Reply::List(indices) => put_indices(text, indices),
-        Reply::Count(count) => writeln!(text, "{count}"),
-        Reply::Done => text.push_str("ok\n"),
-        Reply::OutOfRange => text.push_str("out of range\n"),
-        Reply::NoMemory => text.push_str("no memory\n"),
+impl Printed for Reply {
+    fn put_line(&self, text: &mut String) -> Result<(), AllocError> {
+        match self {
+            Reply::Bool(holds) => writeln!(text, "{holds}"),
+            Reply::List(indices) => put_indices(text, indices),
+            Reply::Count(count) => writeln!(text, "{count}"),
+            Reply::Done => text.push_str("ok\n"),
+            Reply::OutOfRange => text.push_str("out of range\n"),
+            Reply::NoMemory => text.push_str("no memory\n"),
+        }
     }
 }
 

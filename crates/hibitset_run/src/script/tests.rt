@@ -1,15 +1,9 @@
 mod streams;
 
 use super::*;
+use crate::tests::{ask, printed, say};
 use std::array;
 use std::test::Fail;
-
-// What a script prints, and how it ends.
-fn printed(alloc: Global, script: &str) -> (Vec<u8>, Ended) {
-    let mut output = Vec::new(alloc);
-    let ended = run_text(alloc, script.as_bytes(), &mut output);
-    (output, ended)
-}
 
 #[test]
 fn prints_one_line_a_reply(rt: HostRuntime) {
@@ -18,7 +12,10 @@ fn prints_one_line_a_reply(rt: HostRuntime) {
             "add a 5\nadd a 5\nhas a 5\nhas a 6\nlist a\n",
             "false\ntrue\ntrue\nfalse\n5\n",
         ),
-        ("add a 16777216\nlist a\n", "out of range\n\n"),
+        (
+            "add a 16777216\nlist a\nadd a 1073741824\n",
+            "false\n16777216\nout of range\n",
+        ),
         ("", ""),
         ("add a 5\nadd a 3\nlist a", "false\nfalse\n3 5\n"),
         (
@@ -26,7 +23,7 @@ fn prints_one_line_a_reply(rt: HostRuntime) {
             "false\nfalse\nfalse\nfalse\n16777215\n0\n",
         ),
         (
-            "add a 5\nremove a 5\nremove a 5\nremove a 16777216\ncount a\n",
+            "add a 5\nremove a 5\nremove a 5\nremove a 1073741824\ncount a\n",
             "false\ntrue\nfalse\nfalse\n0\n",
         ),
         (
@@ -50,12 +47,12 @@ fn prints_one_line_a_reply(rt: HostRuntime) {
             "false\nfalse\nfalse\nfalse\nok\n1 70\n3 70\n",
         ),
         (
-            "add a 0\nadd a 64\nadd a 4096\nadd a 262144\nsplit a 1\nsplit a 2\nsplit a 3\nsplit b 3\nlist a\n",
-            "false\nfalse\nfalse\nfalse\n2\n3\n4\n1\n0 64 4096 262144\n",
+            "add a 0\nadd a 64\nadd a 4096\nadd a 262144\nsplit a 1\nsplit a 2\nsplit a 3\nsplit a 4\nsplit b 4\nlist a\n",
+            "false\nfalse\nfalse\nfalse\n1\n2\n3\n4\n1\n0 64 4096 262144\n",
         ),
         (
-            "add h 1048575\nsplit h 1\nsplit h 2\nsplit h 3\n",
-            "false\n1\n1\n1\n",
+            "add h 1048575\nsplit h 1\nsplit h 2\nsplit h 3\nsplit h 4\n",
+            "false\n1\n1\n1\n1\n",
         ),
     ];
     for (script, text) in rows {
@@ -85,7 +82,8 @@ fn takes_a_line_as_it_is_written(rt: HostRuntime) {
         "within e d",
         "split a 1",
         "split b 2",
-        "split h 3",
+        "split c 3",
+        "split h 4",
     ];
     for line in good {
         assert_eq!(rt; printed(rt.alloc(), line).1, Ended::Done, "after {line:?}");
@@ -157,7 +155,7 @@ fn refuses_every_other_line(rt: HostRuntime) {
         "split a",
         "split a ",
         "split a 0",
-        "split a 4",
+        "split a 5",
         "split a 02",
         "split a 22",
         "split a +2",
@@ -224,7 +222,7 @@ fn runs_commands_on_the_sets_that_are_there(rt: HostRuntime) -> Result<(), Fail>
             set: Slot::D,
             id: 7,
         },
-        Command::Add { set, id: 1 << 24 },
+        Command::Add { set, id: 1 << 30 },
         Command::Remove { set, id: 7 },
         Command::Count { set },
         Command::Clear { set },
@@ -269,13 +267,18 @@ fn splits_to_the_end(rt: HostRuntime) -> Result<(), Fail> {
             layers: Layers::Three,
         },
         Command::Split {
+            set,
+            layers: Layers::Four,
+        },
+        Command::Split {
             set: Slot::B,
-            layers: Layers::Three,
+            layers: Layers::Four,
         },
         Command::Count { set },
     ];
     let replies = run(alloc, &mut sets, &commands)?;
     let wanted = [
+        Reply::Count(1),
         Reply::Count(2),
         Reply::Count(3),
         Reply::Count(4),
@@ -284,18 +287,6 @@ fn splits_to_the_end(rt: HostRuntime) -> Result<(), Fail> {
     ];
     assert_eq!(rt; replies.as_slice(), wanted.as_slice());
     Ok(())
-}
-
-// Prints whether a run was refused, in whole or in part.
-fn say(rt: &HostRuntime, refused: bool) -> Result<(), Fail> {
-    println!(rt; "{}", if refused { "refused" } else { "passed" })?;
-    Ok(())
-}
-
-// Makes one request, and prints whether it was refused.
-fn ask(rt: &HostRuntime) -> Result<(), Fail> {
-    let made: Result<Vec<u8>, AllocError> = Vec::with_capacity(rt.alloc(), 1);
-    say(rt, made.is_err())
 }
 
 // What became of adding an index, listing the set and asking for it: each of the two that take memory may have been refused.

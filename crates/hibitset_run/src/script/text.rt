@@ -5,6 +5,7 @@ ghost use Rattle.hibitset_run.specs.Ended.{status_of, text_of};
 use super::parse::commands_of;
 use super::print::print;
 use super::run;
+use crate::store;
 use hibitset::BitSet;
 use std::alloc::Global;
 use std::io::{self, Read, Write};
@@ -54,7 +55,7 @@ impl fmt::Display for Ended {
     }
 }
 
-/// Reads a script to its end, runs its commands on eight empty sets, and writes one line a reply.
+/// Reads a script to its end, runs its commands on eight empty sets, and writes one line a reply. Where the first line is `store`, the others are commands on two empty columns.
 ///
 /// The first fault met ends it. Where a line is bad, nothing is run or written.
 pub fn run_text<R: Read + Drop, W: Write + Drop>(
@@ -75,12 +76,23 @@ fn read_run_write<R: Read, W: Write>(
     writer: &mut W,
 ) -> Result<(), Ended> {
     let input = read_all(alloc, reader)?;
+    if let Some(lines) = store_lines(&input) {
+        return store::run_lines(alloc, lines, writer);
+    }
     let commands = commands_of(alloc, &input)?;
     let mut sets = array::from_fn(|_| BitSet::new(alloc));
     let Ok(replies) = run(alloc, &mut sets, &commands) else {
         return Err(Ended::NoMemory);
     };
     print(alloc, writer, &replies)
+}
+
+// What follows the first line, where that is `store`: commands on two columns.
+fn store_lines(input: &[u8]) -> Option<&[u8]> {
+    if input == b"store".as_slice() {
+        return Some(&[]);
+    }
+    input.strip_prefix(b"store\n")
 }
 
 // All bytes of a reader. A read that a signal interrupts is made again.

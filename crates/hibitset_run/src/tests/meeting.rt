@@ -84,8 +84,12 @@ impl BitSetLike for Meeting {
 
     ghost lawful = { λ s. has_is_lawful s.set };
 
-    fn layer3(&self) -> usize {
-        self.set.layer3()
+    fn layer4(&self) -> usize {
+        self.set.layer4()
+    }
+
+    fn layer3(&self, i: usize) -> usize {
+        self.set.layer3(i)
     }
 
     fn layer2(&self, i: usize) -> usize {
@@ -165,7 +169,7 @@ fn few_heavy_parts_meet(rt: HostRuntime) -> Result<(), Fail> {
         return Ok(());
     }
     let set = Meeting::new(rt.alloc())?;
-    let count = (&set).par_iter().layers_split(1).count(&rt, rt.alloc())?;
+    let count = (&set).par_iter().layers_split(2).count(&rt, rt.alloc())?;
     assert_eq!(rt; count, 524_288);
     assert!(rt; set.places.both_found());
     Ok(())

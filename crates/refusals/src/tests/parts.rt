@@ -32,12 +32,12 @@ fn is_many(set: &BitSet) -> bool {
 fn count(rt: HostRuntime) -> Result<(), Fail> {
     let set = many(rt.alloc())?;
     ask(&rt)?;
-    let counted = (&set).par_iter().layers_split(1).count(&rt, rt.alloc());
+    let counted = (&set).par_iter().layers_split(2).count(&rt, rt.alloc());
     say(&rt, counted.is_err())?;
     ask(&rt)?;
     let count = match counted {
         Ok(count) => count,
-        Err(_) => (&set).par_iter().layers_split(1).count(&rt, rt.alloc())?,
+        Err(_) => (&set).par_iter().layers_split(2).count(&rt, rt.alloc())?,
     };
     assert_eq!(rt; count, 450_000);
     assert!(rt; is_many(&set));
@@ -48,12 +48,12 @@ fn count(rt: HostRuntime) -> Result<(), Fail> {
 fn collect(rt: HostRuntime) -> Result<(), Fail> {
     let set = many(rt.alloc())?;
     ask(&rt)?;
-    let collected = (&set).par_iter().layers_split(1).collect(&rt, rt.alloc());
+    let collected = (&set).par_iter().layers_split(2).collect(&rt, rt.alloc());
     say(&rt, collected.is_err())?;
     ask(&rt)?;
     let all = match collected {
         Ok(all) => all,
-        Err(_) => (&set).par_iter().layers_split(1).collect(&rt, rt.alloc())?,
+        Err(_) => (&set).par_iter().layers_split(2).collect(&rt, rt.alloc())?,
     };
     assert_eq!(rt; all.len(), 450_000);
     assert!(rt; is_many(&set));
@@ -69,7 +69,7 @@ fn fold(rt: HostRuntime) -> Result<(), Fail> {
     ask(&rt)?;
     let folded = (&set)
         .par_iter()
-        .layers_split(1)
+        .layers_split(2)
         .fold(&rt, rt.alloc(), init, step, combine);
     say(&rt, folded.is_err())?;
     ask(&rt)?;
@@ -77,7 +77,7 @@ fn fold(rt: HostRuntime) -> Result<(), Fail> {
         Ok(sum) => sum,
         Err(_) => (&set)
             .par_iter()
-            .layers_split(1)
+            .layers_split(2)
             .fold(&rt, rt.alloc(), init, step, combine)?,
     };
     assert_eq!(rt; sum, 101_249_775_000);
@@ -95,7 +95,7 @@ fn for_each(rt: HostRuntime) -> Result<(), Fail> {
     ask(&rt)?;
     let gone = (&set)
         .par_iter()
-        .layers_split(1)
+        .layers_split(2)
         .for_each(&rt, rt.alloc(), visit);
     say(&rt, gone.is_err())?;
     ask(&rt)?;
@@ -103,7 +103,7 @@ fn for_each(rt: HostRuntime) -> Result<(), Fail> {
         visited.store(0, Ordering::SeqCst);
         (&set)
             .par_iter()
-            .layers_split(1)
+            .layers_split(2)
             .for_each(&rt, rt.alloc(), visit)?;
     }
     assert_eq!(rt; visited.load(Ordering::SeqCst), 450_000);

@@ -1,9 +1,10 @@
 //! Calls that take no memory, or none as things stand, between two requests of the test's own.
-use crate::tests::{ask, atomic_of, has_exactly, set_of};
+use crate::tests::{ask, atomic_of, column_of, has_exactly, has_values, set_of};
 use hibitset::{
     BitParIter, BitProducer, BitSet, BitSetAll, BitSetLike, DrainableBitSet, Event, Index, Reply,
     World,
 };
+use hibitset_store::{Column, join, join_masked};
 use std::alloc::AllocError;
 use std::test::Fail;
 
@@ -33,6 +34,7 @@ fn sets(rt: HostRuntime) -> Result<(), Fail> {
     assert!(rt; set == other && set.contains_set(&other) && set.contains(70));
     assert!(rt;
         set.layer0_as_slice().len() + set.layer1_as_slice().len() + set.layer2_as_slice().len() > 0
+            && set.layer3_as_slice().len() > 0
     );
     assert!(rt; set.len() == 2 && set.first() == Some(70) && !set.is_empty());
     assert!(rt; (&set).iter_from(71).next() == Some(300_000));
@@ -44,6 +46,23 @@ fn sets(rt: HostRuntime) -> Result<(), Fail> {
     assert!(rt; set.add(300_000) == Ok(false));
     let empty = BitSet::new(rt.alloc());
     assert!(rt; empty.is_empty() && empty.clone().is_ok());
+    ask(&rt)
+}
+
+#[test]
+fn columns(rt: HostRuntime) -> Result<(), Fail> {
+    let mut a = column_of(rt.alloc(), &[(5, 77), (300_000, 7)])?;
+    let b = column_of(rt.alloc(), &[(6, 78), (300_000, 8)])?;
+    let set = set_of(rt.alloc(), &[5, 6])?;
+    ask(&rt)?;
+    assert!(rt; a.insert(5, 78) == Ok(Some(77)) && a.insert(300_000, 9) == Ok(Some(7)));
+    assert!(rt; a.get(5) == Some(&78) && a.get(6).is_none() && a.mask().contains(5));
+    assert!(rt; join(&a, &b).next() == Some((300_000, &9, &8)) && a.join(&b).count() == 1);
+    assert!(rt; join_masked(&a, &b, &set).next().is_none() && a.iter().count() == 2);
+    assert!(rt; a.remove(5) == Some(78) && a.remove(5).is_none() && a.len() == 1);
+    a.clear();
+    assert!(rt; a.is_empty() && has_values(&a, &[]) && has_values(&b, &[(6, 78), (300_000, 8)]));
+    assert!(rt; Column::<u32>::new(rt.alloc()).get(5).is_none());
     ask(&rt)
 }
 
@@ -111,7 +130,7 @@ fn parts(rt: HostRuntime) -> Result<(), Fail> {
     let set = set_of(rt.alloc(), &[1, 70, 300_000])?;
     ask(&rt)?;
     let _walk = BitParIter::new(&set).layers_split(2);
-    let (first, second) = BitProducer((&set).iter(), 3).split();
+    let (first, second) = BitProducer((&set).iter(), 4).split();
     let add = |sum: u64, index: Index| sum.wrapping_add(u64::from(index));
     assert!(rt; first.fold_with(0u64, add) == 71);
     if let Some(second) = second {

@@ -42,7 +42,7 @@ fn add(rt: HostRuntime) -> Result<(), Fail> {
     say(&rt, added.is_err())?;
     ask(&rt)?;
     if added.is_err() {
-        assert!(rt; has_exactly(&set, &[5]) && way(&set, 5_000_000) == [1, 0, 0, 0]);
+        assert!(rt; has_exactly(&set, &[5]) && way(&set, 5_000_000) == [1, 1, 0, 0, 0]);
         assert!(rt; !set.add(5_000_000)?);
     }
     assert!(rt; has_exactly(&set, &[5, 5_000_000]));
@@ -59,7 +59,7 @@ fn add_past_the_room_made_before(rt: HostRuntime) -> Result<(), Fail> {
     ask(&rt)?;
     assert!(rt; set.add(998) == Ok(false));
     if added.is_err() {
-        assert!(rt; has_exactly(&set, &[998, 999]) && way(&set, 5_000_000) == [1, 0, 0, 0]);
+        assert!(rt; has_exactly(&set, &[998, 999]) && way(&set, 5_000_000) == [1, 1, 0, 0, 0]);
         assert!(rt; !set.add(5_000_000)?);
     }
     assert!(rt; has_exactly(&set, &[998, 999, 5_000_000]));
@@ -76,7 +76,7 @@ fn bitor_assign(rt: HostRuntime) -> Result<(), Fail> {
     ask(&rt)?;
     assert!(rt; has_exactly(&other, &[1_000_000]));
     if joined.is_err() {
-        assert!(rt; has_exactly(&set, &[0]) && way(&set, 1_000_000) == [1, 0, 0, 0]);
+        assert!(rt; has_exactly(&set, &[0]) && way(&set, 1_000_000) == [1, 1, 0, 0, 0]);
         set.bitor_assign(&other)?;
     }
     assert!(rt; has_exactly(&set, &[0, 1_000_000]));
@@ -93,7 +93,7 @@ fn bitxor_assign(rt: HostRuntime) -> Result<(), Fail> {
     ask(&rt)?;
     assert!(rt; has_exactly(&other, &[0, 1_000_000]));
     if joined.is_err() {
-        assert!(rt; has_exactly(&set, &[0, 3]) && way(&set, 1_000_000) == [1, 0, 0, 0]);
+        assert!(rt; has_exactly(&set, &[0, 3]) && way(&set, 1_000_000) == [1, 1, 0, 0, 0]);
         set.bitxor_assign(&other)?;
     }
     assert!(rt; has_exactly(&set, &[3, 1_000_000]));
@@ -158,7 +158,7 @@ fn extend_indices(rt: HostRuntime) -> Result<(), Fail> {
     ask(&rt)?;
     if let Err(error) = extended {
         assert!(rt; error == (BuildError::Memory { place: 1 }) && left.next() == Some(7));
-        assert!(rt; has_exactly(&set, &[5, 6]) && way(&set, 5_000_000) == [1, 0, 0, 0]);
+        assert!(rt; has_exactly(&set, &[5, 6]) && way(&set, 5_000_000) == [1, 1, 0, 0, 0]);
         set.extend_indices(items.iter().copied())?;
     }
     assert!(rt; has_exactly(&set, &[5, 6, 7, 5_000_000]));
@@ -176,7 +176,7 @@ fn extend_index_refs(rt: HostRuntime) -> Result<(), Fail> {
     ask(&rt)?;
     if let Err(error) = extended {
         assert!(rt; error == (BuildError::Memory { place: 1 }) && left.next() == Some(&7));
-        assert!(rt; has_exactly(&set, &[5, 6]) && way(&set, 5_000_000) == [1, 0, 0, 0]);
+        assert!(rt; has_exactly(&set, &[5, 6]) && way(&set, 5_000_000) == [1, 1, 0, 0, 0]);
         set.extend_index_refs(&items)?;
     }
     assert!(rt; has_exactly(&set, &[5, 6, 7, 5_000_000]));

@@ -6,7 +6,6 @@ use crate::filter::Tagged;
 use crate::ids::Ids;
 use crate::pages::Pages;
 use crate::ready::Ready;
-use crate::store::Column;
 use hibitset::{BitSet, BitSetLike};
 use std::alloc::{AllocError, Global};
 use std::test::Fail;
@@ -44,30 +43,6 @@ fn pages_are_flushed_in_order(rt: HostRuntime) -> Result<(), Fail> {
     pages.mark(6)?;
     pages.flush(&mut out)?;
     assert_eq!(rt; out.as_slice(), [9, 5, 70_000, 16_777_215, 6].as_slice());
-    Ok(())
-}
-
-#[test]
-fn columns_are_joined(rt: HostRuntime) -> Result<(), Fail> {
-    let mut names = Column::new(rt.alloc());
-    let mut sizes = Column::new(rt.alloc());
-    for id in [3, 64, 100] {
-        names.insert(id, id * 2)?;
-    }
-    for id in [2, 64, 100, 101] {
-        sizes.insert(id, id * 3)?;
-    }
-    assert_eq!(rt; names.insert(100, 7)?, Some(200));
-    assert_eq!(rt; names.get(100), Some(&7));
-    assert_eq!(rt; names.get(101), None);
-    let mut join = names.join(&sizes);
-    assert_eq!(rt; join.next(), Some((64, &128, &192)));
-    assert_eq!(rt; join.next(), Some((100, &7, &300)));
-    assert_eq!(rt; join.next(), None);
-    assert_eq!(rt; names.remove(64), Some(128));
-    assert_eq!(rt; names.remove(64), None);
-    assert_eq!(rt; names.remove(16_777_216), None);
-    assert_eq!(rt; names.join(&sizes).next(), Some((100, &7, &300)));
     Ok(())
 }
 

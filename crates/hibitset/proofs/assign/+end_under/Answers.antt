@@ -1,11 +1,28 @@
 use Rattle.std.proofs.Common.{◌≡◌, ℕ, suc, ◌-◌, ◌*◌, ◌^◌, ◌<◌, ap, ◌∙◌, lit<, arith}
 use Rattle.std.proofs.Math.Nat.{pow-suc, one-le-pow}
+use Rattle.hibitset_base.specs.declared.util.TheConstants.{LAYERS}
+use Rattle.hibitset.proofs.Merging.{place_below, place_fits}
 use Rattle.hibitset.proofs.Ending.{end_after, last_after}
 use Rattle.hibitset.proofs.assign.+end_under.Goals as goal
 
 -- the size of a place of a layer
 whole_is : (layer : ℕ) → 0 < layer → 64 ^ layer ≡ 64 ^ (layer - 1) * 64
 whole_is layer some = let s : layer ≡ suc (layer - 1) = omega (arith, some) in ap (λ x. 64 ^ x) s ∙ pow-suc 64 (layer - 1)
+
+pub overflow_mul-place : goal.overflow_mul-place
+overflow_mul-place g t c =
+    let h = place_fits LAYERS c.args.layer c.args.place 0 (let h = c.if-layer-eq0.false in omega (arith, h)) c.requires.layer c.requires.place (lit< tt) in
+    omega (arith, h)
+
+pub overflow_add-place : goal.overflow_add-place
+overflow_add-place g t c =
+    let h = place_fits LAYERS c.args.layer c.args.place c.take_last_bit-bit.result (let h = c.if-layer-eq0.false in omega (arith, h)) c.requires.layer c.requires.place c.take_last_bit-bit.ensures.below in
+    omega (arith, h)
+
+pub end_under-end-requires : goal.end_under-end-requires
+end_under-end-requires g t c κs within =
+    let some : 0 < c.args.layer = (let h = c.if-layer-eq0.false in omega (arith, h)) in
+    (omega (arith, some, c.decreases), (within, (omega (arith, c.requires.layer), place_below LAYERS c.args.layer c.args.place c.take_last_bit-bit.result some c.requires.layer c.requires.place c.take_last_bit-bit.ensures.below)))
 
 pub returns-then-end-gt0-clause-end : goal.returns-then-end-gt0-clause-end
 returns-then-end-gt0-clause-end g t c =

@@ -5,10 +5,10 @@ use Rattle.hibitset.proofs.assign.merge_words.Given as goal
 
 abbrev pub invariant-loop-left : goal.invariant-loop-left
 invariant-loop-left g l = record {
-  long : length l.words.items ≡ length l.initial.words.items;
-  words : MergedPast (g.O.Operator.merged) (g.B.BitSetLike.word l.fn.other 0) (λ p. get_or l.initial.words.items p 0) (λ p. get_or l.words.items p 0) 1 l.fn.place l.fn.bits l.left;
-  bounded : AreWords (λ p. get_or l.initial.words.items p 0) → AreWords (λ p. get_or l.words.items p 0);
-  exact : Summarizes (λ p. get_or l.words.items p 0) l.fn.place l.above;
+  long : length l.slice ≡ length l.initial.slice;
+  words : MergedPast (g.O.Operator.merged) (g.B.BitSetLike.word l.fn.other 0) (λ p. get_or l.initial.slice p 0) (λ p. get_or l.slice p 0) 1 l.fn.place l.fn.bits l.left;
+  bounded : AreWords (λ p. get_or l.initial.slice p 0) → AreWords (λ p. get_or l.slice p 0);
+  exact : Summarizes (λ p. get_or l.slice p 0) l.fn.place l.above;
 }
 
 abbrev pub decreases-loop-left : goal.decreases-loop-left

@@ -1,4 +1,4 @@
-use Rattle.std.proofs.Common.{◌≡◌, ℕ, suc, ◌+◌, ◌-◌, ◌*◌, ◌/◌, ◌%◌, ◌^◌, ◌<◌, ◌==◌, Bool, true, false, refl, sym, ap, ◌∙◌, arith}
+use Rattle.std.proofs.Common.{◌≡◌, ℕ, suc, ◌+◌, ◌-◌, ◌*◌, ◌/◌, ◌%◌, ◌^◌, ◌<◌, ◌==◌, Bool, true, false, refl, sym, ap, ◌∙◌, lit<, arith}
 use Rattle.std.specs.Int.{bit_at}
 use Rattle.std.proofs.Math.Nat.{pow-suc, div-div-eq-div-mul}
 use Rattle.std.proofs.lemmas.Bool.Decides.{nat_tests}
@@ -7,7 +7,7 @@ use Rattle.hibitset_base.specs.declared.util.TheConstants.{LAYERS}
 use Rattle.hibitset.specs.BitSet.{has, word_of, has_is_lawful}
 use Rattle.hibitset.specs.declared.set.BitSet.{BitSet}
 use Rattle.hibitset.specs.Comparing.{BitsPass}
-use Rattle.hibitset.proofs.Merging.{our_word, covers_below}
+use Rattle.hibitset.proofs.Merging.{our_word, covers_below, place_below, place_fits}
 use Rattle.hibitset.proofs.Comparing.{PassedPast, all_pass, passed_step, passed_under}
 use Rattle.hibitset.proofs.compare.+compare_under.Goals as goal
 
@@ -25,6 +25,23 @@ returns-then-misses-ne0-clause-no g t c = λ _ all.
     let none : c.misses.result ≡ 0 = c.misses.ensures.1 (rw (x-is, y-is) here) in
     let some = c.if-misses-ne0.true in
     absurd (grind (arith, nat_tests, none, some))
+
+pub overflow_mul-place : goal.overflow_mul-place
+overflow_mul-place g t c =
+    let h = place_fits LAYERS c.args.layer c.args.place 0 c.requires.layer.0 c.requires.layer.1 c.requires.place (lit< tt) in
+    omega (arith, h)
+
+pub overflow_add-place : goal.overflow_add-place
+overflow_add-place g t c =
+    let h = place_fits LAYERS c.args.layer c.args.place c.take_bit-bit.result c.requires.layer.0 c.requires.layer.1 c.requires.place c.take_bit-bit.ensures.below in
+    omega (arith, h)
+
+pub compare_under-requires : goal.compare_under-requires
+compare_under-requires g t c κs within =
+    let layer : ℕ = c.args.layer in
+    let lower : 1 < layer = (let some = c.requires.layer.0 in let other = c.if-layer-eq1.false in omega (arith, some, other)) in
+    let range = place_below LAYERS layer c.args.place c.take_bit-bit.result c.requires.layer.0 c.requires.layer.1 c.requires.place c.take_bit-bit.ensures.below in
+    (omega (arith, lower, c.decreases), (within, ((omega (arith, lower), omega (arith, c.requires.layer)), range)))
 
 pub loop-left-preserved : goal.loop-left-preserved
 loop-left-preserved g t c =

@@ -8,7 +8,7 @@ place_is from l = ap (λ x. from / x) (shift_is l)
 
 pub returns-clause-tail : goal.returns-clause-tail
 returns-clause-tail g c =
-    tail_is (g.T.BitSetLike.word c.args.set.now) c.args.from c.args.layer _ c.read-word.result (place_is c.args.from c.args.layer) c.read-word.ensures.word c.first_left.result c.tail.result c.first_left.ensures.lowest c.first_left.ensures.above c.tail.ensures
+    tail_is (g.T.BitSetLike.word c.args.set.now) c.args.from c.args.layer _ c.read-word.result (place_is c.args.from c.args.layer) c.read-word.ensures.word c.left_over.result c.left_over.ensures.lowest c.left_over.ensures.above
 
 pub returns-clause-stands : goal.returns-clause-stands
 returns-clause-stands g c stands = bit_stands (g.T.BitSetLike.word c.args.set.now) c.args.from c.args.layer _ c.read-word.result (place_is c.args.from c.args.layer) c.read-word.ensures.word stands

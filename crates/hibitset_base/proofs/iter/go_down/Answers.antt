@@ -44,3 +44,7 @@ returns-clause-alone g c alone few l other =
       ]
     ] in
     c.put.ensures.others l other ∙ taken l
+
+pub returns-clause-below : goal.returns-clause-below
+returns-clause-below g c l lower =
+    c.put.ensures.others l (λ e. absurd (omega arith)) ∙ (c.take_first-position.ensures.others l (λ e. absurd (omega arith)) ∙ c.requires.lowest l (omega arith))

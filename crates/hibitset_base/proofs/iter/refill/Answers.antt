@@ -1,8 +1,12 @@
-use Rattle.hibitset_base.proofs.Going.{goes_both}
+use Rattle.std.proofs.Common.{arith}
+use Rattle.hibitset_base.proofs.Going.{goes_both, no_more}
 use Rattle.hibitset_base.proofs.iter.refill.Goals as goal
 
-pub returns-then-descend-2-clause-goes : goal.returns-then-descend-2-clause-goes
-returns-then-descend-2-clause-goes g c = goes_both c.descend.ensures.goes c.descend-2.ensures.goes
-
 pub returns-clause-goes : goal.returns-clause-goes
-returns-clause-goes g c = goes_both (goes_both c.descend.ensures.goes c.descend-2.ensures.goes) c.descend-3.ensures.goes
+returns-clause-goes g c = goes_both c.descend.ensures.goes c.fill_layer1.ensures.goes
+
+pub returns-clause-fewer : goal.returns-clause-fewer
+returns-clause-fewer g c filled =
+    let more = no_more c.descend.ensures.goes in
+    let fewer = c.fill_layer1.ensures.fewer filled in
+    omega (arith, more, fewer)

@@ -1,10 +1,28 @@
-use Rattle.std.proofs.Common.{◌≡◌, ℕ, suc, ◌+◌, ◌-◌, ◌*◌, ◌/◌, ◌%◌, ◌^◌, ◌<◌, ap, ◌∙◌, arith}
+use Rattle.std.proofs.Common.{◌≡◌, ℕ, suc, ◌+◌, ◌-◌, ◌*◌, ◌/◌, ◌%◌, ◌^◌, ◌<◌, ap, ◌∙◌, lit<, arith}
 use Rattle.std.proofs.Math.Nat.{pow-suc}
 use Rattle.hibitset_base.specs.declared.util.TheConstants.{LAYERS}
 use Rattle.hibitset.specs.BitSet.{has, has_is_lawful, word_of}
 use Rattle.hibitset.specs.Merging.{Covers}
-use Rattle.hibitset.proofs.Merging.{past_step, under_after, bit_above, our_word, covers_below}
+use Rattle.hibitset.proofs.Merging.{past_step, under_after, bit_above, our_word, covers_below, place_below, place_fits}
 use Rattle.hibitset.proofs.set.BitSet.+merge_under.Goals as goal
+
+pub overflow_mul-place : goal.overflow_mul-place
+overflow_mul-place g t c =
+    let h = place_fits LAYERS c.args.layer c.args.place 0 c.requires.layer.0 c.requires.layer.1 c.requires.place (lit< tt) in
+    omega (arith, h)
+
+pub overflow_add-place : goal.overflow_add-place
+overflow_add-place g t c =
+    let h = place_fits LAYERS c.args.layer c.args.place c.take_bit-bit.result c.requires.layer.0 c.requires.layer.1 c.requires.place c.take_bit-bit.ensures.below in
+    omega (arith, h)
+
+pub merge_under-requires : goal.merge_under-requires
+merge_under-requires g t c κs within =
+    let layer : ℕ = c.args.layer in
+    let lower : 1 < layer = (let some = c.requires.layer.0 in let other = c.if-layer-eq1.false in omega (arith, some, other)) in
+    let range = place_below LAYERS layer c.args.place c.take_bit-bit.result c.requires.layer.0 c.requires.layer.1 c.requires.place c.take_bit-bit.ensures.below in
+    let fits = rw (← c.loop-left.invariant.long) at c.requires.fits in
+    (omega (arith, lower, c.decreases), (within.0, (within.1, ((omega (arith, lower), omega (arith, c.requires.layer)), (range, (c.lower_word-lower.ensures, fits))))))
 
 pub loop-left-preserved : goal.loop-left-preserved
 loop-left-preserved g t c =

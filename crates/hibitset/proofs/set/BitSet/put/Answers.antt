@@ -1,7 +1,10 @@
-use Rattle.std.proofs.Common.{◌≡◌, ◌/◌, ◌%◌, ◌==◌, get_or, refl, ap, sym, ◌∙◌, arith, inl, inr}
+use Rattle.std.proofs.Common.{◌≡◌, ℕ, ◌/◌, ◌%◌, ◌==◌, not, true, get_or, refl, ap, sym, ◌∙◌, arith, inl, inr}
+use Rattle.std.proofs.lemmas.Bool.Decides.{nat_tests}
 use Rattle.std.specs.Int.{bit_at}
 use Rattle.hibitset_base.specs.Deciding.{same_or_not, eq_same, eq_other}
+use Rattle.hibitset_base.specs.Sets.{bit_of}
 use Rattle.hibitset.specs.BitSet.{word_of, has}
+use Rattle.hibitset.proofs.Merging.{some_word}
 use Rattle.hibitset_base.proofs.Holding.{bit_test, holds_put, turned}
 use Rattle.hibitset_base.proofs.Shapes.{get_or_any}
 use Rattle.hibitset.proofs.set.BitSet.put.Goals as goal
@@ -11,6 +14,20 @@ unfolding word_of
 put_word-requires-clause-before c =
     let self = c.args.self.now in
     c.index-before.ensures ∙ get_or_any self.layer0.items (c.args.id / 64) c.index-before.result.now 0 c.requires
+
+-- the tests of a bit and its word
+test_one : (x : ℕ) → (x == 1) ≡ true → x ≡ 1
+test_one x h = grind (arith, nat_tests)
+
+pub put_word-requires-clause-set : goal.put_word-requires-clause-set
+put_word-requires-clause-set c set = some_word c.with_bit-word.result (c.args.id % 64) (c.with_bit-word.ensures.here ∙ ap bit_of set)
+
+pub put_word-requires-clause-cleared : goal.put_word-requires-clause-cleared
+put_word-requires-clause-cleared c cleared =
+    let self = c.args.self.now in
+    let before : c.index-before.result.now ≡ get_or self.layer0.items (c.args.id / 64) 0 = c.index-before.ensures ∙ get_or_any self.layer0.items (c.args.id / 64) c.index-before.result.now 0 c.requires in
+    let was = turned c.index-before.result.now c.with_bit-word.result (c.args.id % 64) c.args.stands (rw before (self.stored.shaped.words 0 (c.args.id / 64))) (omega arith) c.if-word-before.false c.with_bit-word.ensures.same c.with_bit-word.ensures.here in
+    some_word c.index-before.result.now (c.args.id % 64) (test_one _ (sym was ∙ ap not cleared))
 
 pub returns-then-word-before-clause-was : goal.returns-then-word-before-clause-was
 unfolding has word_of

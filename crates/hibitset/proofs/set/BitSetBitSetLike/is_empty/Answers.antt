@@ -17,4 +17,4 @@ unfolding word_of
 returns c =
     let self = c.args.self.now in
     let top = top_tells_empty (LAYERS - 1) (has self) (word_of self) (has_is_lawful self) (stored_exact LAYERS self.stored) self.stored.shaped.words in
-    (λ h. top.0 (zero_test self.layer3 h), λ h. test_zero self.layer3 (top.1 h))
+    (λ h. top.0 (zero_test self.layer4 h), λ h. test_zero self.layer4 (top.1 h))

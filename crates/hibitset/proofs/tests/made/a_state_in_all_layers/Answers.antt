@@ -4,7 +4,7 @@ use Rattle.hibitset_base.specs.Places.{IsWellFormed}
 use Rattle.hibitset.proofs.CallerLemmas.{formed-by_test}
 use Rattle.hibitset.proofs.tests.made.a_state_in_all_layers.Goals as goal
 
-formed : IsWellFormed LAYERS (4 ∷ 8 ∷ 2 ∷ 2 ∷ []) (128 ∷ 0 ∷ 0 ∷ [])
+formed : IsWellFormed LAYERS (4 ∷ 8 ∷ 2 ∷ 2 ∷ 0 ∷ []) (128 ∷ 0 ∷ 0 ∷ 0 ∷ [])
 formed = formed-by_test _ _ _ refl
 
 pub new-requires : goal.new-requires

@@ -1,9 +1,11 @@
-use Rattle.std.proofs.Common.{arith, ◌≡◌, ℕ, ◌==◌, ◌-◌, true}
+use Rattle.std.proofs.Common.{arith, ◌≡◌, ℕ, ◌==◌, ◌-◌, true, sym, ◌∙◌}
 use Rattle.std.proofs.lemmas.Bool.Decides.{nat_tests}
 use Rattle.hibitset_base.specs.declared.util.TheConstants.{LAYERS}
 use Rattle.hibitset_base.proofs.Bounds.{top_tells_empty}
-use Rattle.hibitset_atomic.specs.AtomicBitSet.{has, word_of}
-use Rattle.hibitset_base.specs.Stored.{summed_lawful, summed_exact}
+use Rattle.hibitset_atomic.specs.declared.layers.TheConstants.{ATOMIC_LAYERS}
+use Rattle.hibitset_atomic.specs.AtomicBitSet.{has, word_of, topped_word, topped_is_lawful}
+use Rattle.hibitset_atomic.specs.Layers.{single_word}
+use Rattle.hibitset_atomic.specs.Topping.{topped_exact, topped_fits}
 use Rattle.hibitset_atomic.proofs.Layered.{layers_fit}
 use Rattle.hibitset_atomic.proofs.atomic.AtomicBitSetBitSetLike.is_empty.Goals as goal
 
@@ -14,8 +16,11 @@ test_zero : (x : ℕ) → x ≡ 0 → (x == 0) ≡ true
 test_zero x h = grind (arith, nat_tests)
 
 pub returns : goal.returns
-unfolding has word_of
+unfolding word_of
 returns c =
     let self = c.args.self.now in
-    let top = top_tells_empty (LAYERS - 1) (has self) (word_of self) (summed_lawful LAYERS self.summed) (summed_exact LAYERS self.summed) (layers_fit self.layers) in
-    (λ h. top.0 (zero_test self.layers.layer3 h), λ h. test_zero self.layers.layer3 (top.1 h))
+    let exact = topped_exact (ATOMIC_LAYERS - 1) (word_of self) self.summed (single_word self.layers) in
+    let fits = topped_fits (ATOMIC_LAYERS - 1) (word_of self) (layers_fit self.layers) in
+    let top = top_tells_empty (LAYERS - 1) (has self) (topped_word self) (topped_is_lawful self) exact fits in
+    let is = c.layer4.ensures in
+    (λ h. top.0 (sym is ∙ zero_test c.layer4.result h), λ h. test_zero c.layer4.result (is ∙ top.1 h))

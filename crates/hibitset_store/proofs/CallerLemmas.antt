@@ -1,0 +1,21 @@
+-- For callers: what the list of a mask's members says of a column.
+use Rattle.std.proofs.Common.{◌≡◌, ◌≤◌, ℕ, Bool, Contains, None, inl, inr}
+use Rattle.std.specs.Option.{is_some}
+use Rattle.std.proofs.lemmas.Bool.{cases_lt}
+use Rattle.hibitset_base.specs.Members.{members_below}
+use Rattle.hibitset_base.specs.declared.util.TheConstants.{MAX_EID}
+use Rattle.hibitset_base.proofs.CallerLemmas.{members_contain}
+use Rattle.hibitset_base.proofs.Members.{true_or_false}
+use Rattle.hibitset_store.specs.Columns.{Map}
+use Rattle.hibitset_store.proofs.Paging.{no_value}
+
+-- A number that the list of the keys lacks has no value. The first two premises are clauses of `mask`.
+pub none_unlisted : {V : Type 0} (values : Map V) (holds : ℕ → Bool) → ((i : ℕ) → holds i ≡ is_some (values i)) → ((i : ℕ) → MAX_EID ≤ i → values i ≡ None)
+    → (i : ℕ) → ¬ Contains (members_below MAX_EID holds) i → values i ≡ None
+none_unlisted values holds keys within i gone = elim (true_or_false (holds i)) [
+  | inl there ↦ elim (cases_lt i MAX_EID) [
+    | inl below ↦ absurd (gone ((members_contain MAX_EID holds i).1 (below, there)))
+    | inr past ↦ within i past
+  ]
+  | inr clear ↦ no_value (holds i) (values i) (keys i) clear
+]

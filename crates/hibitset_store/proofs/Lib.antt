@@ -1,0 +1,6 @@
+pub mod Picking
+pub mod Paging
+pub mod Joining
+pub mod Bounding
+pub mod Counting
+pub mod CallerLemmas

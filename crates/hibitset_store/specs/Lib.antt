@@ -1,0 +1,7 @@
+pub mod Pages
+pub mod Columns
+pub mod Joins
+pub mod Reads
+pub mod Walks
+pub mod Lending
+pub mod PageLending

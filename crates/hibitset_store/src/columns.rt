@@ -1,0 +1,127 @@
+//! Values by index, beside the set of the indices that have one.
+#![tactic(auto, unfolding(crate::specs::Columns::value_of))]
+
+ghost use Rattle.std.specs.Prelude.{◌≡◌, ℕ, ◌<◌, ◌≤◌, Some, None, ◌↔◌, IsTrue, length, IfOk, IfErr, IsOk, IsSome, OnOk, OnErr, MatchOption};
+ghost use Rattle.std.specs.Borrow.{sem};
+ghost use Rattle.std.specs.Option.{is_some, option_copied_mut};
+ghost use Rattle.hibitset.specs.BitSet.{has, members_of};
+ghost use Rattle.hibitset_base.specs.declared.util.TheConstants.{MAX_EID};
+ghost use Rattle.hibitset_store.specs.Pages.{Covers};
+
+use crate::pages::Pages;
+use hibitset::{BitSet, BitSetLike, Index};
+use std::alloc::Global;
+
+/// A finite map from indices below `MAX_EID` to values, with the set of its keys.
+///
+/// Values lie in pages of 1,024 places, and the page of an index is made whole when one of its indices first gets a value. Each call on one index looks at two places of them.
+///
+/// A page takes 8 KiB for values of four bytes, and the table of pages 24 bytes for each 1,024 indices up to the highest key, beside the words of the set of keys. So a column costs little where keys lie near each other, and most where they lie far apart: 100,000 values at random indices below 2^30 take some 950 MB, those of the indices 0 to 99,999 less than 1 MB.
+#[derive(Drop)]
+pub struct Column<V: Drop> {
+    mask: BitSet,
+    pages: Pages<V>,
+    count: usize,
+    ghost covers: { Covers mask pages.pages.items },
+    ghost counts: { count ≡ length (members_of mask) },
+}
+
+impl<V: Drop> Column<V> {
+    ghost use Rattle.hibitset_store.specs.Columns.{IsWith, keys_of, value_of};
+    ghost use Rattle.hibitset_store.specs.Lending.{LendsValue};
+
+    /// The empty map, which takes no memory until the first `insert`.
+    pub fn new(alloc: Global) -> Column<V>
+        ensures { (i : ℕ) → value_of result i ≡ None }
+    {
+        Column {
+            mask: BitSet::new(alloc),
+            pages: Pages::new(alloc),
+            count: 0,
+        }
+    }
+
+    /// The set of the keys, all of which lie below `MAX_EID`.
+    #[inline]
+    pub fn mask(&self) -> &BitSet
+        ensures keys { (i : ℕ) → has result.now i ≡ is_some (value_of self.now i) }
+        ensures within { (i : ℕ) → MAX_EID ≤ i → value_of self.now i ≡ None }
+    {
+        &self.mask
+    }
+
+    /// How many keys there are.
+    #[inline]
+    pub fn len(&self) -> usize
+        ensures { result ≡ length (keys_of (value_of self.now)) }
+    {
+        self.count
+    }
+
+    /// Tells whether there is no key.
+    #[inline]
+    pub fn is_empty(&self) -> bool
+        ensures { IsTrue result ↔ ((i : ℕ) → value_of self.now i ≡ None) }
+    {
+        self.mask.is_empty()
+    }
+
+    /// The value of an index.
+    #[inline]
+    pub fn get(&self, id: Index) -> Option<&V>
+        ensures { MatchOption result (value_of self.now id ≡ None) (λ value. value_of self.now id ≡ Some value.now) }
+    {
+        self.pages.get(id)
+    }
+
+    /// The value of an index, to be changed. Once the loan ends, the index has what was left there, and no other index has changed.
+    #[inline]
+    pub fn get_mut(&mut self, id: Index) -> Option<&mut V>
+        ensures* writes_back { sem 𝓛 (LendsValue V.row self.entry id result) }
+        ensures value { option_copied_mut result ≡ value_of self.old id }
+    {
+        self.pages.get_mut(id)
+    }
+
+    /// Gives an index below `MAX_EID` a value, and gives back the value that it had. Refused memory, it hands the value back and changes nothing; an index that has a value needs none.
+    #[inline]
+    pub fn insert(&mut self, id: Index, value: V) -> Result<Option<V>, V>
+        requires { id < MAX_EID }
+        ensures was { IfOk result (λ was. was ≡ value_of self.old id) }
+        ensures inserted { OnOk result (IsWith (value_of self.old) id (Some value) (value_of self.new)) }
+        ensures back { IfErr result (λ back. back ≡ value) }
+        ensures refused { OnErr result ((i : ℕ) → value_of self.new i ≡ value_of self.old i) }
+        ensures room { IsSome (value_of self.old id) → IsOk result }
+    {
+        let Ok(()) = self.pages.make_room(id) else {
+            return Err(value);
+        };
+        let Ok(had) = self.mask.add(id) else {
+            return Err(value);
+        };
+        self.count += usize::from(!had);
+        Ok(self.pages.put(id, Some(value)))
+    }
+
+    /// Takes the value of an index out.
+    #[inline]
+    pub fn remove(&mut self, id: Index) -> Option<V>
+        ensures was { result ≡ value_of self.old id }
+        ensures removed { IsWith (value_of self.old) id None (value_of self.new) }
+    {
+        if !self.mask.remove(id) {
+            return None;
+        }
+        self.count -= 1;
+        self.pages.put(id, None)
+    }
+
+    /// Takes all values out. It takes no memory, and gives that of the pages back.
+    pub fn clear(&mut self)
+        ensures { (i : ℕ) → value_of self.new i ≡ None }
+    {
+        self.mask.clear();
+        self.pages.clear();
+        self.count = 0;
+    }
+}

@@ -1,0 +1,129 @@
+//! Values in pages, each made whole when one of its indices first gets a value.
+ghost use Rattle.std.specs.Prelude.{◌≡◌, ℕ, ◌<◌, ◌≤◌, ◌==◌, Some, None, if◌then◌else◌, IsOk, OnOk, MatchOption, vec_len};
+ghost use Rattle.std.specs.Borrow.{sem};
+ghost use Rattle.std.specs.Option.{option_copied_mut};
+ghost use Rattle.hibitset_store.specs.PageLending.{LendsPlace};
+ghost use Rattle.hibitset_store.specs.Pages.{HasPlace, value_at, value_in};
+
+use hibitset::Index;
+use std::alloc::{AllocError, Global};
+use std::mem;
+
+// How many indices a page has places for.
+pub(crate) const PAGE: usize = 1_024;
+
+// The values, in pages, with a place for each index of a page that is made.
+#[derive(Drop)]
+pub(crate) struct Pages<V: Drop> {
+    pages: Vec<Vec<Option<V>>>,
+}
+
+impl<V: Drop> Pages<V> {
+    // No value, and no page.
+    pub(crate) fn new(alloc: Global) -> Pages<V>
+        ensures { (i : ℕ) → value_at result.pages.items i ≡ None }
+    {
+        Pages {
+            pages: Vec::new(alloc),
+        }
+    }
+
+    // The value of an index.
+    #[inline]
+    pub(crate) fn get(&self, id: Index) -> Option<&V>
+        ensures { MatchOption result (value_at self.now.pages.items id ≡ None) (λ value. value_at self.now.pages.items id ≡ Some value.now) }
+    {
+        self.pages
+            .get(id as usize / PAGE)?
+            .get(id as usize % PAGE)?
+            .as_ref()
+    }
+
+    // The value of an index, to be changed. It ends in a `match` and not in `as_mut`, so that only a place with a value is lent.
+    #[inline]
+    pub(crate) fn get_mut(&mut self, id: Index) -> Option<&mut V>
+        ensures* writes_back { sem 𝓛 (LendsPlace V.row self.entry id result) }
+        ensures value { option_copied_mut result ≡ value_at self.old.pages.items id }
+    {
+        let place = self
+            .pages
+            .get_mut(id as usize / PAGE)?
+            .get_mut(id as usize % PAGE)?;
+        match place {
+            Some(value) => Some(value),
+            None => None,
+        }
+    }
+
+    // Puts a value into the place of an index, or takes it out, and answers what was there.
+    #[inline]
+    pub(crate) fn put(&mut self, id: Index, value: Option<V>) -> Option<V>
+        requires { HasPlace self.old.pages.items id }
+        ensures was { result ≡ value_at self.old.pages.items id }
+        ensures put { (i : ℕ) → value_at self.new.pages.items i ≡ (if i == id then value else value_at self.old.pages.items i) }
+    {
+        put_in(
+            &mut self.pages[id as usize / PAGE],
+            id as usize % PAGE,
+            value,
+        )
+    }
+
+    // Makes the place of an index, and changes no value.
+    #[inline]
+    pub(crate) fn make_room(&mut self, id: Index) -> Result<(), AllocError>
+        ensures same { (i : ℕ) → value_at self.new.pages.items i ≡ value_at self.old.pages.items i }
+        ensures there { OnOk result (HasPlace self.new.pages.items id) }
+        ensures room { HasPlace self.old.pages.items id → IsOk result }
+    {
+        let page = id as usize / PAGE;
+        if self.pages.len() <= page {
+            add_pages(&mut self.pages, page)?;
+        }
+        if self.pages[page].len() <= id as usize % PAGE {
+            fill_page(&mut self.pages[page])?;
+        }
+        Ok(())
+    }
+
+    // Takes all values out, and gives the pages back.
+    pub(crate) fn clear(&mut self)
+        ensures { (i : ℕ) → value_at self.new.pages.items i ≡ None }
+    {
+        self.pages.clear();
+    }
+}
+
+// Puts a value into a place of a page, or takes it out, and answers what was there.
+#[inline]
+fn put_in<V: Drop>(page: &mut Vec<Option<V>>, place: usize, value: Option<V>) -> Option<V>
+    requires { place < vec_len page.old }
+    ensures was { result ≡ value_in page.old.items place }
+    ensures put { (j : ℕ) → value_in page.new.items j ≡ (if j == place then value else value_in page.old.items j) }
+{
+    mem::replace(&mut page[place], value)
+}
+
+// Makes the first pages up to this one, without places, and changes no value.
+fn add_pages<V: Drop>(pages: &mut Vec<Vec<Option<V>>>, page: usize) -> Result<(), AllocError>
+    ensures same { (i : ℕ) → value_at pages.new.items i ≡ value_at pages.old.items i }
+    ensures there { OnOk result (page < vec_len pages.new) }
+{
+    let alloc = *pages.allocator();
+    'pages: while pages.len() <= page {
+        pages.push(Vec::new(alloc))?;
+    }
+    Ok(())
+}
+
+// Makes all places of a page, in one request, and changes no value.
+fn fill_page<V: Drop>(page: &mut Vec<Option<V>>) -> Result<(), AllocError>
+    ensures same { (j : ℕ) → value_in page.new.items j ≡ value_in page.old.items j }
+    ensures there { OnOk result (PAGE ≤ vec_len page.new) }
+{
+    page.reserve_exact(PAGE)?;
+    while page.len() < PAGE {
+        page.push(None)?;
+    }
+    Ok(())
+}

@@ -1,0 +1,50 @@
+//! Columns of values, and the lists of what walks over them give.
+use crate::tests::{ask, column_of, has_values, say};
+use hibitset::Index;
+use hibitset_store::{Column, join};
+use std::alloc::{AllocError, Global};
+use std::test::Fail;
+
+// Each growth of `insert`: of the table of pages, of the page and of the mask. Refused, the value comes back and the column is as it was.
+#[test]
+fn insert(rt: HostRuntime) -> Result<(), Fail> {
+    let mut column = column_of(rt.alloc(), &[(5, 77), (70, 7)])?;
+    ask(&rt)?;
+    let put = column.insert(5_000_000, 9);
+    say(&rt, put.is_err())?;
+    ask(&rt)?;
+    if put.is_err() {
+        assert_eq!(rt; put, Err(9));
+        assert!(rt; column.get(5_000_000).is_none() && has_values(&column, &[(5, 77), (70, 7)]));
+        assert_eq!(rt; column.insert(5_000_000, 9), Ok(None));
+    } else {
+        assert_eq!(rt; put, Ok(None));
+    }
+    assert!(rt; has_values(&column, &[(5, 77), (70, 7), (5_000_000, 9)]));
+    Ok(())
+}
+
+// The list of a join, which std makes of its items.
+fn pairs<'a>(
+    alloc: Global,
+    a: &'a Column<u32>,
+    b: &'a Column<u32>,
+) -> Result<Vec<(Index, &'a u32, &'a u32)>, AllocError> {
+    join(a, b).collect(alloc)
+}
+
+#[test]
+fn collect(rt: HostRuntime) -> Result<(), Fail> {
+    let a = column_of(rt.alloc(), &[(5, 77), (70, 7), (300_000, 1)])?;
+    let b = column_of(rt.alloc(), &[(6, 78), (70, 8), (300_000, 2)])?;
+    ask(&rt)?;
+    let refused = pairs(rt.alloc(), &a, &b).is_err();
+    say(&rt, refused)?;
+    ask(&rt)?;
+    assert_eq!(rt;
+        pairs(rt.alloc(), &a, &b)?.as_slice(),
+        [(70, &7, &8), (300_000, &1, &2)].as_slice()
+    );
+    assert!(rt; has_values(&a, &[(5, 77), (70, 7), (300_000, 1)]));
+    Ok(())
+}
