@@ -21,7 +21,8 @@ class Numbers:
 BAD_LINES = (
     "add a 5:", "add a /5", "add a 5/", "add a :5", "add\x0ca\x0c5", "add a\x0c5", "add\x0ba 5", "add a 5\0", "add a \x85",
     "clear a ", "count a ", "list a ", "remove a 5 6", "has a 5 6", "remove a 5 ", "and a b c", "within a b ", "split a 2 1",
-    "split a :", "split a /", "add ` 5", "add @ 5", "add a\xff5",
+    "split a :", "split a /", "add ` 5", "add @ 5", "add a\xff5", "add a 18446744073709551616", "add a 18446744073709551621",
+    "has a 18446744073709551621", "split a 18446744073709551618",
 )  # fmt: skip
 
 
@@ -127,6 +128,14 @@ def long_last_list():
     return "".join(f"add a {END - 1 - 3 * n}\n" for n in range(8_000)) + "list a"
 
 
+PIECE = 1 << 16  # bytes of text that the program has ready when it writes
+
+
+def replies_of_a_piece():
+    """Replies that take the bytes of a piece, no more and no fewer: one "false", and then "true" alone."""
+    return "add a 5\n" * (1 + (PIECE - len("false\n")) // len("true\n"))
+
+
 RECIPES = {
     "pairs": pairs,
     "full-range": full_range,
@@ -152,6 +161,9 @@ RECIPES = {
     "bad-at-99999": lambda: "add a 5\n" * 99_998 + "list\nhas a 5\n\n",
     "bad-at-100001": lambda: "add a 5\n" * 100_000 + "add a 05\n",
     "long-last-list": long_last_list,
+    "list-of-none": lambda: "list a\n",
+    "replies-of-a-piece": replies_of_a_piece,
+    "replies-of-a-piece-and-more": lambda: replies_of_a_piece() + "list b\nhas a 6\n",
     "good-long-no-newline": lambda: "add a 5\n" * 100_000 + "list a",
 }
 
