@@ -1,5 +1,6 @@
 pub mod Picking
 pub mod Paging
+pub mod Filling
 pub mod Joining
 pub mod Bounding
 pub mod Counting

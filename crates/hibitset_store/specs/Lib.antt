@@ -1,4 +1,5 @@
 pub mod Pages
+pub mod Filling
 pub mod Columns
 pub mod Joins
 pub mod Reads

@@ -93,6 +93,10 @@ impl<V: Drop> Column<V> {
         ensures refused { OnErr result ((i : ℕ) → value_of self.new i ≡ value_of self.old i) }
         ensures room { IsSome (value_of self.old id) → IsOk result }
     {
+        let value = match self.pages.write_over(id, value) {
+            Ok(was) => return Ok(Some(was)),
+            Err(value) => value,
+        };
         let Ok(()) = self.pages.make_room(id) else {
             return Err(value);
         };

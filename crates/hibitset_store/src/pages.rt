@@ -1,5 +1,5 @@
 //! Values in pages, each made whole when one of its indices first gets a value.
-ghost use Rattle.std.specs.Prelude.{◌≡◌, ℕ, ◌<◌, ◌≤◌, ◌==◌, Some, None, if◌then◌else◌, IsOk, OnOk, MatchOption, vec_len};
+ghost use Rattle.std.specs.Prelude.{◌≡◌, ℕ, ◌<◌, ◌≤◌, ◌==◌, Some, None, if◌then◌else◌, IsOk, IfOk, IfErr, OnOk, OnErr, MatchOption, vec_len};
 ghost use Rattle.std.specs.Borrow.{sem};
 ghost use Rattle.std.specs.Option.{option_copied_mut};
 ghost use Rattle.hibitset_store.specs.PageLending.{LendsPlace};
@@ -7,6 +7,7 @@ ghost use Rattle.hibitset_store.specs.Pages.{HasPlace, value_at, value_in};
 
 use hibitset::Index;
 use std::alloc::{AllocError, Global};
+use std::marker::PhantomData;
 use std::mem;
 
 // How many indices a page has places for.
@@ -69,6 +70,21 @@ impl<V: Drop> Pages<V> {
         )
     }
 
+    // Writes over the value of an index, and answers it. Where there is none it hands the new one back, and changes nothing.
+    #[inline]
+    pub(crate) fn write_over(&mut self, id: Index, value: V) -> Result<V, V>
+        ensures was { IfOk result (λ was. value_at self.old.pages.items id ≡ Some was) }
+        ensures written { OnOk result ((i : ℕ) → value_at self.new.pages.items i ≡ (if i == id then Some value else value_at self.old.pages.items i)) }
+        ensures none { OnErr result (value_at self.old.pages.items id ≡ None) }
+        ensures back { IfErr result (λ back. back ≡ value) }
+        ensures unchanged { OnErr result ((i : ℕ) → value_at self.new.pages.items i ≡ value_at self.old.pages.items i) }
+    {
+        match self.get_mut(id) {
+            Some(place) => Ok(mem::replace(place, value)),
+            None => Err(value),
+        }
+    }
+
     // Makes the place of an index, and changes no value.
     #[inline]
     pub(crate) fn make_room(&mut self, id: Index) -> Result<(), AllocError>
@@ -116,14 +132,41 @@ fn add_pages<V: Drop>(pages: &mut Vec<Vec<Option<V>>>, page: usize) -> Result<()
     Ok(())
 }
 
+// So many places without a value. They are poured into a page, which is faster than a loop that pushes each and asks how many there are.
+#[derive(Drop)]
+struct EmptyPlaces<V: Drop> {
+    left: usize,
+    of: PhantomData<V>,
+}
+
+impl<V: Drop> Iterator for EmptyPlaces<V> {
+    ghost use Rattle.std.specs.Iterator.{at_most};
+    ghost use Rattle.hibitset_store.specs.Filling.{GivesPlace};
+
+    type Item = Option<V>;
+
+    ghost next_gives = { GivesPlace };
+
+    ghost remaining = { λ places. at_most places.left };
+
+    #[inline]
+    fn next(&mut self) -> Option<Option<V>> {
+        if self.left == 0 {
+            return None;
+        }
+        self.left -= 1;
+        Some(None)
+    }
+}
+
 // Makes all places of a page, in one request, and changes no value.
 fn fill_page<V: Drop>(page: &mut Vec<Option<V>>) -> Result<(), AllocError>
     ensures same { (j : ℕ) → value_in page.new.items j ≡ value_in page.old.items j }
     ensures there { OnOk result (PAGE ≤ vec_len page.new) }
 {
     page.reserve_exact(PAGE)?;
-    while page.len() < PAGE {
-        page.push(None)?;
-    }
-    Ok(())
+    page.extend(EmptyPlaces {
+        left: PAGE,
+        of: PhantomData,
+    })
 }

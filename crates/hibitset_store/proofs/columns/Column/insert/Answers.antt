@@ -5,6 +5,7 @@ use Rattle.hibitset.specs.BitSet.{has, slice_len}
 use Rattle.hibitset.proofs.CallerLemmas.{none_past_slice}
 use Rattle.hibitset_base.specs.declared.util.TheConstants.{MAX_EID}
 use Rattle.hibitset_store.specs.Columns.{value_of}
+use Rattle.hibitset_store.specs.Pages.{value_at}
 use Rattle.hibitset_store.proofs.Counting.{at_most_one, count-with, members-few}
 use Rattle.hibitset_store.proofs.Paging.{is_some-with}
 use Rattle.hibitset_store.proofs.columns.Column.insert.Goals as goal
@@ -25,10 +26,13 @@ overflow_add-self g c =
 
 pub invariant_of-self-2 : goal.invariant_of-self-2
 invariant_of-self-2 g c = record {
-  covers = λ i. c.in-Ok-add.ensures.added i ∙ is_some-with i c.args.id _ _ _ c.args.value (c.args.self.now.covers i ∙ ap is_some (sym (c.in-Ok.ensures.same i))) (c.put.ensures.put i);
+  covers = λ i. c.in-Ok-add.ensures.added i ∙ is_some-with i c.args.id _ _ _ c.in-Err.value (c.args.self.now.covers i ∙ ap is_some (sym (c.in-Ok-make_room.ensures.same i ∙ c.in-Err.ensures.unchanged i))) (c.put.ensures.put i);
   counts = count-with (has c.args.self.now.mask) (has c.add.new.self) c.args.id MAX_EID c.args.self.now.count c.from.result c.in-Ok-add.had c.in-Ok-add.ensures.added c.in-Ok-add.ensures.was c.from.ensures c.args.self.now.counts c.requires;
 }
 
 pub returns-clause-inserted : goal.returns-clause-inserted
 unfolding value_of
-returns-clause-inserted g c = λ i. c.put.ensures.put i ∙ ap (λ z. if i == c.args.id then Some c.args.value else z) (c.in-Ok.ensures.same i)
+returns-clause-inserted g c = λ i.
+    c.put.ensures.put i
+    ∙ (ap (λ v. if i == c.args.id then Some v else value_at c.make_room.new.self.pages.items i) c.in-Err.ensures.back
+    ∙ ap (λ z. if i == c.args.id then Some c.args.value else z) (c.in-Ok-make_room.ensures.same i ∙ c.in-Err.ensures.unchanged i))
