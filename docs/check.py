@@ -14,7 +14,7 @@ import sys
 from pathlib import Path
 
 TOP = Path(__file__).resolve().parent.parent
-CRATES = "hibitset_base hibitset_atomic hibitset hibitset_store hibitset_run uses refusals".split()
+CRATES = "hibitset_base hibitset_atomic hibitset hibitset_store hibitset_run uses refusals word_reads".split()
 MAP = TOP / "docs" / "ARCHITECTURE.md"
 PAGES = [TOP / "README.md", TOP / "CONTRIBUTING.md", *sorted((TOP / "docs").glob("*.md"))]
 

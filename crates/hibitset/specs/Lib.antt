@@ -1,6 +1,5 @@
 pub mod BitSet
 pub mod Summaries
-pub mod Strangers
 pub mod Merging
 pub mod Operators
 pub mod Comparing

@@ -8,12 +8,8 @@ mod life;
 mod made;
 mod operators;
 mod parallel;
-mod reach;
-mod reads;
 mod splits;
-mod strangers;
 mod walks;
-mod words;
 
 use crate::{BitSet, BitSetLike, Index};
 use hibitset_base::util::MAX_EID;

@@ -7,10 +7,10 @@ ghost use Rattle.hibitset_base.specs.declared.util.TheConstants.{LAYERS, MAX_EID
 ghost use Rattle.hibitset.specs.BitSet.{has};
 ghost use Rattle.hibitset.specs.Laws.{intersected};
 
-use crate::laws::laws;
 use crate::tests::reads::{Counting, Everywhere};
 use crate::tests::{list, run_of, set_of};
-use crate::{BitIter, BitSet, BitSetAll, BitSetAnd, BitSetLike, Index, LAYERS, MAX_EID};
+use hibitset::laws::laws;
+use hibitset::{BitIter, BitSet, BitSetAll, BitSetAnd, BitSetLike, Index, LAYERS, MAX_EID};
 use std::alloc::{AllocError, Global};
 use std::cell::Cell;
 use std::test::Fail;

@@ -1,6 +1,6 @@
 //! The reads of a walk, counted by the set that is read.
 use crate::tests::set_of;
-use crate::{BitSet, BitSetLike, Index};
+use hibitset::{BitSet, BitSetLike, Index};
 use std::cell::Cell;
 use std::test::Fail;
 
@@ -84,7 +84,7 @@ pub(super) struct Everywhere {
 impl BitSetLike for Everywhere {
     ghost use Rattle.hibitset.specs.BitSet.{has, word_of};
     ghost use Rattle.hibitset.specs.BitSet.{has_is_lawful};
-    ghost use Rattle.hibitset.specs.Strangers.{full_word, full_lawful};
+    ghost use Rattle.word_reads.specs.Strangers.{full_word, full_lawful};
     ghost use Rattle.hibitset_base.specs.declared.util.TheConstants.{LAYERS};
 
     ghost holds = { λ s. has s.counting.set };

@@ -3,7 +3,7 @@ ghost use Rattle.std.specs.Prelude.{◌<◌};
 ghost use Rattle.hibitset_base.specs.declared.util.TheConstants.{LAYERS};
 
 use crate::tests::{list, run_of, set_of};
-use crate::{BitSet, BitSetAnd, BitSetLike, BitSetNot, BitSetOr, BitSetXor, Index};
+use hibitset::{BitSet, BitSetAnd, BitSetLike, BitSetNot, BitSetOr, BitSetXor, Index};
 use std::alloc::{AllocError, Global};
 use std::test::Fail;
 use std::thread::Threads;
@@ -17,7 +17,7 @@ struct Everywhere {
 impl BitSetLike for Everywhere {
     ghost use Rattle.hibitset.specs.BitSet.{has, word_of};
     ghost use Rattle.hibitset.specs.BitSet.{has_is_lawful};
-    ghost use Rattle.hibitset.specs.Strangers.{full_word, full_lawful};
+    ghost use Rattle.word_reads.specs.Strangers.{full_word, full_lawful};
     ghost use Rattle.hibitset_base.specs.declared.util.TheConstants.{LAYERS};
 
     ghost holds = { λ s. has s.set };

@@ -1,6 +1,6 @@
 //! Which words are read, told by the set that is read.
 use crate::tests::set_of;
-use crate::{BitSet, BitSetAnd, BitSetLike, BitSetNot, BitSetOr, DrainableBitSet, Index};
+use hibitset::{BitSet, BitSetAnd, BitSetLike, BitSetNot, BitSetOr, DrainableBitSet, Index};
 use std::alloc::{AllocError, Global};
 use std::cell::Cell;
 use std::test::Fail;

@@ -1,5 +1,5 @@
 use Rattle.hibitset.specs.BitSet.{has, word_of}
-use Rattle.hibitset.proofs.tests.reach.walk_both_from.Goals as goal
+use Rattle.word_reads.proofs.tests.reach.walk_both_from.Goals as goal
 
 pub returns-clause-bound : goal.returns-clause-bound
 returns-clause-bound c =

@@ -1,0 +1,36 @@
+//! Values from outside: walks and assignments over types of the tests' own, which count or list the words that are read, or have all bits in the layers above the lowest.
+mod reach;
+mod reads;
+mod strangers;
+mod words;
+
+use hibitset::util::MAX_EID;
+use hibitset::{BitSet, BitSetLike, Index};
+use std::alloc::{AllocError, Global};
+
+// The set of these indices, those that are out of range left out.
+fn set_of(alloc: Global, ids: &[Index]) -> Result<BitSet, AllocError> {
+    let mut set = BitSet::new(alloc);
+    for id in ids {
+        if (*id as usize) < MAX_EID {
+            set.add(*id)?;
+        }
+    }
+    Ok(set)
+}
+
+// The set of all indices below a bound.
+fn run_of(alloc: Global, end: Index) -> Result<BitSet, AllocError> {
+    let mut set = BitSet::new(alloc);
+    for id in 0..end {
+        if (id as usize) < MAX_EID {
+            set.add(id)?;
+        }
+    }
+    Ok(set)
+}
+
+// What a walk over a set gives.
+fn list<T: BitSetLike>(alloc: Global, set: T) -> Result<Vec<Index>, AllocError> {
+    set.iter().collect(alloc)
+}
