@@ -1,5 +1,5 @@
 -- What has been poured into a page.
-use Rattle.std.proofs.Common.{◌≡◌, ℕ, zero, suc, ◌+◌, ◌≤◌, List, [], ◌∷◌, ◌++◌, length, Option, Some, None, Result, Ok, Err, refl, ◌∙◌, arith}
+use Rattle.std.proofs.Common.{◌≡◌, ℕ, zero, suc, ◌+◌, List, [], ◌∷◌, length, Option, None, Result, Ok, Err, refl, arith}
 use Rattle.std.specs.Prelude.{MatchResult, OnOk}
 use Rattle.std.specs.Iterator.{Drains, Yields}
 use Rattle.hibitset_store.specs.declared.pages.EmptyPlaces.{EmptyPlaces}
@@ -22,20 +22,14 @@ module _ {V : Type 0} where
   drained-length : (old : EmptyPlaces V) (given : List (Option V)) → Drains GivesPlace old given → length given ≡ old.left
   drained-length old given (last, (new, steps, end)) = let count = given-length old new given steps in omega (arith, count, end)
 
-  -- places without a value change no value of a page to which they are appended
-  value_in-append : (page more : List (Option V)) → ((j : ℕ) → value_in more j ≡ None) → (j : ℕ) → value_in (page ++ more) j ≡ value_in page j
-  value_in-append [] more none j = none j
-  value_in-append (place ∷ page) more none zero = refl
-  value_in-append (place ∷ page) more none (suc j) = value_in-append page more none j
+  -- so nothing that is poured into a page has a value, whether all of it has come or not
+  pub none-poured : {E : Type 0} (given : List (Option V)) (places : EmptyPlaces V) (r : Result (Unit {0}) E) → MatchResult r (λ _. Drains GivesPlace places given) (λ _. (new : EmptyPlaces V) × Yields GivesPlace places given new)
+      → (j : ℕ) → value_in given j ≡ None
+  none-poured given places (Ok _) (last, (new, steps, end)) = given-none places new given steps
+  none-poured given places (Err _) (new, steps) = given-none places new given steps
 
-  -- so nothing that was poured into a page changes a value, whether all of it has come or not
-  pub value_in-poured : {E : Type 0} (page given : List (Option V)) (places : EmptyPlaces V) (r : Result (Unit {0}) E) → MatchResult r (λ _. Drains GivesPlace places given) (λ _. (new : EmptyPlaces V) × Yields GivesPlace places given new)
-      → (j : ℕ) → value_in (page ++ given) j ≡ value_in page j
-  value_in-poured page given places (Ok _) (last, (new, steps, end)) = value_in-append page given (given-none places new given steps)
-  value_in-poured page given places (Err _) (new, steps) = value_in-append page given (given-none places new given steps)
-
-  -- and a page into which all places were poured has as many, at least
-  pub length-poured : {E : Type 0} (before after : ℕ) (given : List (Option V)) (places : EmptyPlaces V) (r : Result (Unit {0}) E) → MatchResult r (λ _. Drains GivesPlace places given) (λ _. (new : EmptyPlaces V) × Yields GivesPlace places given new)
-      → after ≡ before + length given → OnOk r (places.left ≤ after)
-  length-poured before after given places (Ok _) all sum = let count = drained-length places given all in omega (arith, count, sum)
-  length-poured before after given places (Err _) some sum = tt
+  -- and where all of it has come, it is as many places as there were
+  pub length-poured : {E : Type 0} (given : List (Option V)) (places : EmptyPlaces V) (r : Result (Unit {0}) E) → MatchResult r (λ _. Drains GivesPlace places given) (λ _. (new : EmptyPlaces V) × Yields GivesPlace places given new)
+      → OnOk r (length given ≡ places.left)
+  length-poured given places (Ok _) all = drained-length places given all
+  length-poured given places (Err _) some = tt

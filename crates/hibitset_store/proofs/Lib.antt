@@ -1,5 +1,6 @@
 pub mod Picking
 pub mod Paging
+pub mod Sizing
 pub mod Filling
 pub mod Joining
 pub mod Bounding

@@ -1,6 +1,7 @@
 pub mod Pages
 pub mod Filling
 pub mod Columns
+pub mod Room
 pub mod Joins
 pub mod Reads
 pub mod Walks

@@ -1,12 +1,12 @@
 //! Values by index, beside the set of the indices that have one.
-#![tactic(auto, unfolding(crate::specs::Columns::value_of))]
+#![tactic(auto, unfolding(crate::specs::Columns::value_of, crate::specs::Room::places, crate::specs::Room::table_len, crate::specs::Room::words_len))]
 
-ghost use Rattle.std.specs.Prelude.{◌≡◌, ℕ, ◌<◌, ◌≤◌, Some, None, ◌↔◌, IsTrue, length, IfOk, IfErr, IsOk, IsSome, OnOk, OnErr, MatchOption};
+ghost use Rattle.std.specs.Prelude.{◌≡◌, ℕ, ◌/◌, ◌<◌, ◌≤◌, Some, None, ◌↔◌, IsTrue, length, IfOk, IfErr, IsOk, IsSome, OnOk, OnErr, MatchOption};
 ghost use Rattle.std.specs.Borrow.{sem};
 ghost use Rattle.std.specs.Option.{is_some, option_copied_mut};
-ghost use Rattle.hibitset.specs.BitSet.{has, members_of};
+ghost use Rattle.hibitset.specs.BitSet.{has, members_of, slice_len};
 ghost use Rattle.hibitset_base.specs.declared.util.TheConstants.{MAX_EID};
-ghost use Rattle.hibitset_store.specs.Pages.{Covers};
+ghost use Rattle.hibitset_store.specs.Pages.{AreWhole, Covers};
 
 use crate::pages::Pages;
 use hibitset::{BitSet, BitSetLike, Index};
@@ -23,16 +23,21 @@ pub struct Column<V: Drop> {
     pages: Pages<V>,
     count: usize,
     ghost covers: { Covers mask pages.pages.items },
+    ghost whole: { AreWhole pages.pages.items },
     ghost counts: { count ≡ length (members_of mask) },
 }
 
 impl<V: Drop> Column<V> {
     ghost use Rattle.hibitset_store.specs.Columns.{IsWith, keys_of, value_of};
     ghost use Rattle.hibitset_store.specs.Lending.{LendsValue};
+    ghost use Rattle.hibitset_store.specs.Room.{HasRoom, KeepsRoom, MakesRoom, places, table_len, words_len};
 
     /// The empty map, which takes no memory until the first `insert`.
     pub fn new(alloc: Global) -> Column<V>
-        ensures { (i : ℕ) → value_of result i ≡ None }
+        ensures empty { (i : ℕ) → value_of result i ≡ None }
+        ensures pages { (p : ℕ) → places result p ≡ 0 }
+        ensures table { table_len result ≡ 0 }
+        ensures words { words_len result ≡ 0 }
     {
         Column {
             mask: BitSet::new(alloc),
@@ -46,6 +51,7 @@ impl<V: Drop> Column<V> {
     pub fn mask(&self) -> &BitSet
         ensures keys { (i : ℕ) → has result.now i ≡ is_some (value_of self.now i) }
         ensures within { (i : ℕ) → MAX_EID ≤ i → value_of self.now i ≡ None }
+        ensures words { slice_len result.now 0 ≡ words_len self.now }
     {
         &self.mask
     }
@@ -83,7 +89,9 @@ impl<V: Drop> Column<V> {
         self.pages.get_mut(id)
     }
 
-    /// Gives an index below `MAX_EID` a value, and gives back the value that it had. Refused memory, it hands the value back and changes nothing; an index that has a value needs none.
+    /// Gives an index below `MAX_EID` a value, and gives back the value that it had. Refused memory, it hands the value back, and no value has changed.
+    ///
+    /// It needs no memory where the index has room: where the page of the index is made and the mask has its word, as where it has a value or had one before `remove`. Else it makes that page, and the table of pages and the mask as long as the index needs and no longer.
     #[inline]
     pub fn insert(&mut self, id: Index, value: V) -> Result<Option<V>, V>
         requires { id < MAX_EID }
@@ -92,6 +100,12 @@ impl<V: Drop> Column<V> {
         ensures back { IfErr result (λ back. back ≡ value) }
         ensures refused { OnErr result ((i : ℕ) → value_of self.new i ≡ value_of self.old i) }
         ensures room { IsSome (value_of self.old id) → IsOk result }
+        ensures ready { HasRoom self.old id → IsOk result }
+        ensures unused { HasRoom self.old id → KeepsRoom self.old self.new }
+        ensures over { IsSome (value_of self.old id) → KeepsRoom self.old self.new }
+        ensures made { OnOk result (HasRoom self.new id) }
+        ensures most { MakesRoom id self.old self.new }
+        ensures stays { OnErr result (words_len self.new ≡ words_len self.old) }
     {
         let value = match self.pages.write_over(id, value) {
             Ok(was) => return Ok(Some(was)),
@@ -107,11 +121,13 @@ impl<V: Drop> Column<V> {
         Ok(self.pages.put(id, Some(value)))
     }
 
-    /// Takes the value of an index out.
+    /// Takes the value of an index out. The column keeps its room.
     #[inline]
     pub fn remove(&mut self, id: Index) -> Option<V>
         ensures was { result ≡ value_of self.old id }
         ensures removed { IsWith (value_of self.old) id None (value_of self.new) }
+        ensures keeps { KeepsRoom self.old self.new }
+        ensures room { IsSome result → HasRoom self.new id }
     {
         if !self.mask.remove(id) {
             return None;
@@ -120,9 +136,12 @@ impl<V: Drop> Column<V> {
         self.pages.put(id, None)
     }
 
-    /// Takes all values out. It takes no memory, and gives that of the pages back.
+    /// Takes all values out. It takes no memory, and gives that of the pages back. The table and the mask keep their memory for what is to come, but no contract says that it is enough.
     pub fn clear(&mut self)
-        ensures { (i : ℕ) → value_of self.new i ≡ None }
+        ensures empty { (i : ℕ) → value_of self.new i ≡ None }
+        ensures pages { (p : ℕ) → places self.new p ≡ 0 }
+        ensures table { table_len self.new ≡ 0 }
+        ensures words { words_len self.new ≡ 0 }
     {
         self.mask.clear();
         self.pages.clear();

@@ -8,6 +8,7 @@ pub mod walks;
 
 pub use columns::Column;
 pub use joins::{join, join_masked};
+pub use pages::PAGE;
 pub use walks::{Iter, Join, JoinMasked};
 
 #[cfg(test)]

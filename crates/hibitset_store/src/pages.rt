@@ -1,17 +1,17 @@
 //! Values in pages, each made whole when one of its indices first gets a value.
-ghost use Rattle.std.specs.Prelude.{◌≡◌, ℕ, ◌<◌, ◌≤◌, ◌==◌, Some, None, if◌then◌else◌, IsOk, IfOk, IfErr, OnOk, OnErr, MatchOption, vec_len};
+ghost use Rattle.std.specs.Prelude.{◌≡◌, ◌≢◌, ℕ, ◌+◌, ◌/◌, ◌<◌, ◌≤◌, ◌==◌, max, length, [], Some, None, if◌then◌else◌, IsOk, IfOk, IfErr, OnOk, OnErr, MatchOption, vec_len};
 ghost use Rattle.std.specs.Borrow.{sem};
 ghost use Rattle.std.specs.Option.{option_copied_mut};
 ghost use Rattle.hibitset_store.specs.PageLending.{LendsPlace};
-ghost use Rattle.hibitset_store.specs.Pages.{HasPlace, value_at, value_in};
+ghost use Rattle.hibitset_store.specs.Pages.{AreAsLong, AreWhole, HasPlace, places_in, value_at, value_in};
 
 use hibitset::Index;
 use std::alloc::{AllocError, Global};
 use std::marker::PhantomData;
 use std::mem;
 
-// How many indices a page has places for.
-pub(crate) const PAGE: usize = 1_024;
+/// How many indices a page has places for.
+pub const PAGE: usize = 1_024;
 
 // The values, in pages, with a place for each index of a page that is made.
 #[derive(Drop)]
@@ -22,7 +22,7 @@ pub(crate) struct Pages<V: Drop> {
 impl<V: Drop> Pages<V> {
     // No value, and no page.
     pub(crate) fn new(alloc: Global) -> Pages<V>
-        ensures { (i : ℕ) → value_at result.pages.items i ≡ None }
+        ensures { result.pages.items ≡ [] }
     {
         Pages {
             pages: Vec::new(alloc),
@@ -62,6 +62,7 @@ impl<V: Drop> Pages<V> {
         requires { HasPlace self.old.pages.items id }
         ensures was { result ≡ value_at self.old.pages.items id }
         ensures put { (i : ℕ) → value_at self.new.pages.items i ≡ (if i == id then value else value_at self.old.pages.items i) }
+        ensures long { AreAsLong self.old.pages.items self.new.pages.items }
     {
         put_in(
             &mut self.pages[id as usize / PAGE],
@@ -78,6 +79,7 @@ impl<V: Drop> Pages<V> {
         ensures none { OnErr result (value_at self.old.pages.items id ≡ None) }
         ensures back { IfErr result (λ back. back ≡ value) }
         ensures unchanged { OnErr result ((i : ℕ) → value_at self.new.pages.items i ≡ value_at self.old.pages.items i) }
+        ensures long { AreAsLong self.old.pages.items self.new.pages.items }
     {
         match self.get_mut(id) {
             Some(place) => Ok(mem::replace(place, value)),
@@ -85,18 +87,25 @@ impl<V: Drop> Pages<V> {
         }
     }
 
-    // Makes the place of an index, and changes no value.
+    // Makes the page of an index, and changes no value. Refused, it leaves each page as it was.
     #[inline]
     pub(crate) fn make_room(&mut self, id: Index) -> Result<(), AllocError>
+        requires { AreWhole self.old.pages.items }
         ensures same { (i : ℕ) → value_at self.new.pages.items i ≡ value_at self.old.pages.items i }
-        ensures there { OnOk result (HasPlace self.new.pages.items id) }
-        ensures room { HasPlace self.old.pages.items id → IsOk result }
+        ensures whole { AreWhole self.new.pages.items }
+        ensures made { OnOk result (places_in self.new.pages.items (id / PAGE) ≡ PAGE) }
+        ensures stays { OnErr result ((p : ℕ) → places_in self.new.pages.items p ≡ places_in self.old.pages.items p) }
+        ensures others { (p : ℕ) → p ≢ id / PAGE → places_in self.new.pages.items p ≡ places_in self.old.pages.items p }
+        ensures room { places_in self.old.pages.items (id / PAGE) ≡ PAGE → IsOk result }
+        ensures unused { places_in self.old.pages.items (id / PAGE) ≡ PAGE → AreAsLong self.old.pages.items self.new.pages.items }
+        ensures keeps { vec_len self.old.pages ≤ vec_len self.new.pages }
+        ensures most { vec_len self.new.pages ≤ max (vec_len self.old.pages) (id / PAGE + 1) }
     {
         let page = id as usize / PAGE;
         if self.pages.len() <= page {
             add_pages(&mut self.pages, page)?;
         }
-        if self.pages[page].len() <= id as usize % PAGE {
+        if self.pages[page].is_empty() {
             fill_page(&mut self.pages[page])?;
         }
         Ok(())
@@ -104,7 +113,7 @@ impl<V: Drop> Pages<V> {
 
     // Takes all values out, and gives the pages back.
     pub(crate) fn clear(&mut self)
-        ensures { (i : ℕ) → value_at self.new.pages.items i ≡ None }
+        ensures { self.new.pages.items ≡ [] }
     {
         self.pages.clear();
     }
@@ -116,6 +125,7 @@ fn put_in<V: Drop>(page: &mut Vec<Option<V>>, place: usize, value: Option<V>) ->
     requires { place < vec_len page.old }
     ensures was { result ≡ value_in page.old.items place }
     ensures put { (j : ℕ) → value_in page.new.items j ≡ (if j == place then value else value_in page.old.items j) }
+    ensures long { length page.new.items ≡ length page.old.items }
 {
     mem::replace(&mut page[place], value)
 }
@@ -123,7 +133,10 @@ fn put_in<V: Drop>(page: &mut Vec<Option<V>>, place: usize, value: Option<V>) ->
 // Makes the first pages up to this one, without places, and changes no value.
 fn add_pages<V: Drop>(pages: &mut Vec<Vec<Option<V>>>, page: usize) -> Result<(), AllocError>
     ensures same { (i : ℕ) → value_at pages.new.items i ≡ value_at pages.old.items i }
+    ensures none { (p : ℕ) → places_in pages.new.items p ≡ places_in pages.old.items p }
     ensures there { OnOk result (page < vec_len pages.new) }
+    ensures keeps { vec_len pages.old ≤ vec_len pages.new }
+    ensures most { vec_len pages.new ≤ max (vec_len pages.old) (page + 1) }
 {
     let alloc = *pages.allocator();
     'pages: while pages.len() <= page {
@@ -159,14 +172,20 @@ impl<V: Drop> Iterator for EmptyPlaces<V> {
     }
 }
 
-// Makes all places of a page, in one request, and changes no value.
+// Makes all places of a page that has none, in one request. Refused, it has none.
 fn fill_page<V: Drop>(page: &mut Vec<Option<V>>) -> Result<(), AllocError>
-    ensures same { (j : ℕ) → value_in page.new.items j ≡ value_in page.old.items j }
-    ensures there { OnOk result (PAGE ≤ vec_len page.new) }
+    requires { page.old.items ≡ [] }
+    ensures none { (j : ℕ) → value_in page.new.items j ≡ None }
+    ensures made { OnOk result (length page.new.items ≡ PAGE) }
+    ensures refused { OnErr result (page.new.items ≡ []) }
 {
     page.reserve_exact(PAGE)?;
-    page.extend(EmptyPlaces {
+    let poured = page.extend(EmptyPlaces {
         left: PAGE,
         of: PhantomData,
-    })
+    });
+    if poured.is_err() {
+        page.clear();
+    }
+    poured
 }

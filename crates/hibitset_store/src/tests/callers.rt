@@ -1,9 +1,10 @@
 //! What callers know of columns and joins, from the public contracts alone.
-ghost use Rattle.std.specs.Prelude.{◌≡◌, ℕ, ◌+◌, ◌-◌, ◌*◌, ◌<◌, ◌≤◌, ◌==◌, ◌∷◌, if◌then◌else◌, length, map, min, IfOk, OnOk, OnErr, Some, None, true, false};
+ghost use Rattle.std.specs.Prelude.{◌≡◌, ℕ, ◌+◌, ◌-◌, ◌*◌, ◌<◌, ◌≤◌, ◌==◌, ◌∷◌, if◌then◌else◌, length, map, min, IfOk, IfSome, IsOk, OnOk, OnErr, Some, None, true, false};
 ghost use Rattle.std.specs.Option.{is_some, option_map};
 ghost use Rattle.hibitset_base.specs.declared.util.TheConstants.{LAYERS};
 ghost use Rattle.hibitset_store.specs.Columns.{entries_of, entry_seen, keys_of, value_of};
 ghost use Rattle.hibitset_store.specs.Joins.{joined, joined_within, seen};
+ghost use Rattle.hibitset_store.specs.Room.{HasRoom};
 ghost use Rattle.hibitset_store.specs.Walks.{reads_of};
 
 use super::*;
@@ -130,6 +131,64 @@ fn put_new<V: Drop>(column: &mut Column<V>, id: Index, value: V) -> Result<bool,
     Ok(column.insert(id, value)?.is_none())
 }
 
+// Puts two values, the first of which is taken out again. The second can't be refused: the first made the room, and `remove` keeps it.
+fn put_again<V: Drop>(
+    column: &mut Column<V>,
+    id: Index,
+    first: V,
+    second: V,
+) -> Result<Result<Option<V>, V>, V>
+    requires { id < MAX_EID }
+    ensures { IfOk result (λ again. IsOk again) }
+{
+    column.insert(id, first)?;
+    column.remove(id);
+    Ok(column.insert(id, second))
+}
+
+// Takes the value of an index out and puts another one in its place, which can't be refused.
+fn exchange<V: Drop>(column: &mut Column<V>, id: Index, value: V) -> Option<Result<Option<V>, V>>
+    requires { id < MAX_EID }
+    ensures { IfSome result (λ put. IsOk put) }
+{
+    column.remove(id)?;
+    Some(column.insert(id, value))
+}
+
+// Makes room for each index of the first page.
+fn warm_up(column: &mut Column<u32>) -> Result<(), u32>
+    ensures { OnOk result ((i : ℕ) → i < PAGE → HasRoom column.new i) }
+{
+    column.insert(1_023, 0)?;
+    column.remove(1_023);
+    Ok(())
+}
+
+// Puts a far value, whether there is memory for it or not: the first page keeps its room.
+fn put_far(column: &mut Column<u32>) -> bool
+    requires { (i : ℕ) → i < PAGE → HasRoom column.old i }
+    ensures { (i : ℕ) → i < PAGE → HasRoom column.new i }
+{
+    column.insert(5_000_000, 9).is_ok()
+}
+
+// Gives each index of the first page a value, and then changes one. After `warm_up` none is refused.
+fn fill(column: &mut Column<u32>, value: u32) -> bool
+    requires { (i : ℕ) → i < PAGE → HasRoom column.old i }
+    ensures result { result ≡ true }
+    ensures room { (i : ℕ) → i < PAGE → HasRoom column.new i }
+{
+    for id in 0..1_024 {
+        if column.insert(id, value).is_err() {
+            return false;
+        }
+    }
+    if let Some(place) = column.get_mut(7) {
+        *place = 0;
+    }
+    true
+}
+
 #[test]
 fn joins_of_callers(rt: HostRuntime) -> Result<(), Fail> {
     let alloc = rt.alloc();
@@ -161,5 +220,18 @@ fn joins_of_callers(rt: HostRuntime) -> Result<(), Fail> {
     assert!(rt; has_exactly(alloc, &b, &[(70, 0), (71, 0), (700, 0)])?);
     assert_eq!(rt; put_new(&mut b, 3, 9), Ok(true));
     assert_eq!(rt; counted(&a, &b), 3);
+    Ok(())
+}
+
+#[test]
+fn room_of_callers(rt: HostRuntime) -> Result<(), Fail> {
+    let mut column = Column::new(rt.alloc());
+    assert_eq!(rt; put_again(&mut column, 70_000, 1, 2), Ok(Ok(None)));
+    assert_eq!(rt; exchange(&mut column, 70_000, 3), Some(Ok(None)));
+    assert!(rt; exchange(&mut column, 5, 3).is_none());
+    assert_eq!(rt; warm_up(&mut column), Ok(()));
+    assert!(rt; put_far(&mut column) && column.remove(5_000_000) == Some(9));
+    assert!(rt; fill(&mut column, 4) && column.len() == 1_025);
+    assert!(rt; column.get(7) == Some(&0) && column.get(1_023) == Some(&4));
     Ok(())
 }

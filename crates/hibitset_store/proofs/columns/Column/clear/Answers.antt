@@ -1,4 +1,4 @@
-use Rattle.std.proofs.Common.{sym, ap, length, refl}
+use Rattle.std.proofs.Common.{sym, ap, length, refl, ◌<◌, arith}
 use Rattle.hibitset_base.specs.declared.util.TheConstants.{MAX_EID}
 use Rattle.hibitset.specs.BitSet.{has}
 use Rattle.hibitset_store.proofs.Counting.{members-nowhere}
@@ -6,6 +6,7 @@ use Rattle.hibitset_store.proofs.columns.Column.clear.Goals as goal
 
 pub invariant_of-self : goal.invariant_of-self
 invariant_of-self g c = record {
-  covers = λ i. let none = c.clear.ensures.empty i in let value = c.clear-2.ensures i in rw (none, value) refl;
+  covers = λ i. let none = c.clear.ensures.empty i in rw (none, c.clear-2.ensures) refl;
+  whole = λ p some. absurd (let none : 0 < 0 = rw c.clear-2.ensures at some in omega (arith, none));
   counts = sym (ap length (members-nowhere (has c.clear.new.self) MAX_EID c.clear.ensures.empty));
 }

@@ -1,4 +1,4 @@
-use Rattle.std.proofs.Common.{refl, sym, ap, length}
+use Rattle.std.proofs.Common.{refl, sym, ap, length, ◌<◌, arith}
 use Rattle.hibitset.specs.BitSet.{has}
 use Rattle.hibitset_base.specs.declared.util.TheConstants.{MAX_EID}
 use Rattle.hibitset_store.proofs.Counting.{members-nowhere}
@@ -6,6 +6,7 @@ use Rattle.hibitset_store.proofs.columns.Column.new.Goals as goal
 
 pub invariant_of-result : goal.invariant_of-result
 invariant_of-result g c = record {
-  covers = λ i. let none = c.new.ensures.empty i in let value = c.new-2.ensures i in rw (none, value) refl;
+  covers = λ i. let none = c.new.ensures.empty i in rw (none, c.new-2.ensures) refl;
+  whole = λ p some. absurd (let none : 0 < 0 = rw c.new-2.ensures at some in omega (arith, none));
   counts = sym (ap length (members-nowhere (has c.new.result) MAX_EID c.new.ensures.empty));
 }

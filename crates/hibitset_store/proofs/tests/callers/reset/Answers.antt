@@ -69,7 +69,7 @@ loop-id-preserved-in-Some-get_mut c =
     let left = items_left (λ s. has s.now) c.loop-id.id-iterator in
     let rest = items_left (λ s. has s.now) c.next.new.self in
     let some : now c.in-Some.id ≡ Some c.in-Some-get_mut.value.now = sym c.in-Some-get_mut.ensures.value in
-    let put : IsWith now c.in-Some.id (Some 0) new = rw c.in-Some-get_mut.is at (c.get_mut.follows.holds 0) in
+    let put : IsWith now c.in-Some.id (Some 0) new = rw c.in-Some-get_mut.is at (c.get_mut.follows.holds 0).0 in
     record {
       done = done_some old now c.in-Some.id left rest c.in-Some.ensures.steps.0 c.loop-id.invariant.done c.loop-id.invariant.keys new c.in-Some-get_mut.value.now some put;
       keys = keys_some old now c.in-Some.id left rest c.in-Some.ensures.steps.0 c.loop-id.invariant.done c.loop-id.invariant.keys new c.in-Some-get_mut.value.now some put;
@@ -84,6 +84,6 @@ loop-id-preserved c =
     let rest = items_left (λ s. has s.now) c.next.new.self in
     let none : now c.in-Some.id ≡ None = sym (rw c.in_default.is at c.get_mut.ensures.value) in
     record {
-      done = done_none old now c.in-Some.id left rest c.in-Some.ensures.steps.0 c.loop-id.invariant.done c.loop-id.invariant.keys new none c.get_mut.follows.holds-at-none;
-      keys = λ i. ap is_some (c.get_mut.follows.holds-at-none i) ∙ c.loop-id.invariant.keys i;
+      done = done_none old now c.in-Some.id left rest c.in-Some.ensures.steps.0 c.loop-id.invariant.done c.loop-id.invariant.keys new none c.get_mut.follows.holds-at-none.0;
+      keys = λ i. ap is_some (c.get_mut.follows.holds-at-none.0 i) ∙ c.loop-id.invariant.keys i;
     }
