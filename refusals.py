@@ -4,10 +4,12 @@
 Each test that CALLS names makes one call, between two requests of its own, and prints of the first request, of the call
 and of the last request whether it was refused. With N = 1, 2 and so on the Nth request of the test is refused
 (rt try --test --fail-alloc N), until the last one was: so the numbers between those of the two are the requests of the
-call. It fails where one of them was refused and the call passed (but see GO_ON), where a call makes no request, where a
-call of ROOM makes one, where a public call that can be refused is not in CALLS, and where a test fails, which compares
-what stands and makes the call again. SCRIPTS are run by the program, and what it prints is compared.
+call. It fails where one of them was refused and the call passed (but see GO_ON), where a call makes no request or not
+as many as REQUESTS says, where a call of ROOM makes one, where a public call that can be refused is not in CALLS, and
+where a test fails, which compares what stands and makes the call again. SCRIPTS are run by the program, and what it
+prints is compared.
 """
+import os
 import re
 import subprocess
 import sys
@@ -47,8 +49,8 @@ CALLS = {
         "AtomicBitSet::add_index": "atomic::extend_indices",
         "AtomicBitSet::extend_index_refs": "atomic::extend_index_refs",
         "AtomicBitSet::extend_indices": "atomic::extend_indices",
-        "AtomicBitSet::from_index_refs": "atomic::from_index_refs atomic::from_index_refs_of_which_none_fits",
-        "AtomicBitSet::from_indices": "atomic::from_indices atomic::from_indices_of_which_none_fits",
+        "AtomicBitSet::from_index_refs": "atomic::from_index_refs atomic::from_index_refs_of_which_one_fits atomic::from_no_index_refs",
+        "AtomicBitSet::from_indices": "atomic::from_indices atomic::from_indices_of_which_one_fits atomic::from_no_indices",
         "AtomicBitSet::new": "atomic::new",
         "AtomicBitSet::share": "atomic::share",
         "SharedBitSet::settle": "atomic::settle",
@@ -59,15 +61,32 @@ CALLS = {
         "BitSet::add_index": "sets::extend_indices",
         "BitSet::bitor_assign": "sets::bitor_assign",
         "BitSet::bitxor_assign": "sets::bitxor_assign",
-        "BitSet::clone": "sets::clone",
+        "BitSet::clone": "sets::clone sets::add_to_a_clone",
         "BitSet::extend_index_refs": "sets::extend_index_refs",
         "BitSet::extend_indices": "sets::extend_indices",
         "BitSet::from_index_refs": "sets::from_index_refs",
         "BitSet::from_indices": "sets::from_indices",
-        "BitSet::with_capacity": "sets::with_capacity",
+        "BitSet::with_capacity": "sets::with_capacity sets::add_past_the_last_word",
     },
     "hibitset_store": {
         "Column::insert": "columns::insert",
+    },
+    "uses": {
+        "Ids::alloc": "callers::alloc",
+        "Pages::flush": "callers::flush",
+        "Pages::mark": "callers::mark",
+        "Ready::new": "callers::ready",
+        "Ready::wake": "callers::wake",
+        "Tagged::find": "callers::find",
+        "Tagged::new_tag": "callers::new_tag",
+        "Tagged::tag": "callers::tag",
+        "Tagged::widen": "callers::widen",
+        "add_all": "callers::add_a_list",
+        "indices": "callers::walk",
+        "saved": "callers::save",
+        "set_of": "callers::set_of_a_list",
+        "weight_of_both": "parts::fold",
+        "with_one_more": "callers::one_more",
     },
     PROGRAM: {
         "run": "script::tests::refused_and_again store::tests::refused_and_again",
@@ -77,11 +96,80 @@ CALLS = {
     },
 }
 
-# Tests of calls of std on what a public call gives.
-OF_STD = "columns::collect"
+# Tests of other calls: one of std on what a public call gives, and one that stops where it is refused.
+OTHERS = "columns::collect callers::take"
 
 # The tests of calls that make no request.
-ROOM = "sets sets_with_room virtual_sets atomic_sets shared_sets worlds parts columns"
+ROOM = """sets sets_with_room virtual_sets atomic_sets settled_sets shared_sets last_shares new_worlds worlds parts columns identifiers
+pages tasks tags"""
+
+# How many requests the call of each test makes where none is refused. A call that does its work twice is seen here alone.
+REQUESTS = {
+    "atomic::add": 1,
+    "atomic::extend_index_refs": 2,
+    "atomic::extend_indices": 2,
+    "atomic::from_index_refs": 7,
+    "atomic::from_index_refs_of_which_one_fits": 5,
+    "atomic::from_no_index_refs": 4,
+    "atomic::from_indices": 7,
+    "atomic::from_indices_of_which_one_fits": 5,
+    "atomic::from_no_indices": 4,
+    "atomic::new": 4,
+    "atomic::settle": 5,
+    "atomic::share": 3,
+    "callers::add_a_list": 1,
+    "callers::alloc": 1,
+    "callers::find": 1,
+    "callers::flush": 1,
+    "callers::mark": 1,
+    "callers::new_tag": 1,
+    "callers::one_more": 1,
+    "callers::ready": 1,
+    "callers::save": 3,
+    "callers::set_of_a_list": 2,
+    "callers::tag": 1,
+    "callers::take": 1,
+    "callers::wake": 1,
+    "callers::walk": 1,
+    "callers::widen": 1,
+    "columns::collect": 1,
+    "columns::insert": 13,
+    "copies::complement": 1,
+    "copies::intersection": 2,
+    "copies::symmetric_difference": 2,
+    "copies::union": 2,
+    "copies::walk": 1,
+    "sets::add": 1,
+    "sets::add_past_the_last_word": 1,
+    "sets::add_past_the_room_made_before": 1,
+    "sets::add_to_a_clone": 1,
+    "sets::bitor_assign": 1,
+    "sets::bitxor_assign": 1,
+    "sets::clone": 1,
+    "sets::extend_index_refs": 1,
+    "sets::extend_indices": 1,
+    "sets::from_index_refs": 2,
+    "sets::from_indices": 2,
+    "sets::to_vec": 1,
+    "sets::to_vec_of_a_member_a_word": 2,
+    "sets::to_vec_of_full_words": 1,
+    "sets::with_capacity": 1,
+    "worlds::begin": 2,
+    "worlds::open": 2,
+    "worlds::read": 1,
+    "worlds::run": 6,
+    "worlds::step": 1,
+}
+
+# The same of walks in parts. Where there is one processor they ask for nothing but the list of `collect`.
+REQUESTS_AT_MOST = {
+    "parts::collect": 6,
+    "parts::count": 5,
+    "parts::fold": 6,
+    "parts::for_each": 6,
+}
+
+ONE_PROCESSOR = len(os.sched_getaffinity(0)) == 1
 
 # Calls that go on where one request alone is refused, and pass: rayon's with one part where it is refused the memory for a second, and std's, which ask a second time, for one item, where they are refused the room that a walk hints at.
 GO_ON = ("tests::parts::", "tests::columns::collect")
@@ -197,11 +285,22 @@ class Test:
             fail(f"{self.name}: between {self.before} and {self.after} only {self.call} were refused")
         if len(self.went_on) > 1:
             fail(f"{self.name}: it went on where the requests {self.went_on} were refused")
-        asked = self.call + self.went_on if self.name in {f"tests::{name}" for name in OF_STD.split()} else self.call
-        if self.has_room == bool(asked):
+        asked = self.call + self.went_on if self.name in {f"tests::{name}" for name in OTHERS.split()} else self.call
+        in_one_thread = ONE_PROCESSOR and self.name.startswith("tests::parts::")
+        if self.has_room == bool(asked) and not in_one_thread:
             fail(f"{self.name}: {len(asked)} requests")
+        self.compare(self.after[0] - self.before[0] - 1)
         went_on = f", {len(self.went_on)} gone on without" if self.went_on else ""
         print(f"{self.name}: {len(self.call)} refused in turn{went_on}: ok", flush=True)
+
+    def compare(self, requests):
+        """Compares the number of requests of the call with that of the table; a run of the program is no call."""
+        name = self.name.removeprefix("tests::")
+        most = REQUESTS_AT_MOST.get(name)
+        if most is not None and requests > most:
+            fail(f"{self.name}: {requests} requests, where {most} at most are to be made")
+        if name in REQUESTS and requests != REQUESTS[name]:
+            fail(f"{self.name}: {requests} requests, where {REQUESTS[name]} are to be made")
 
 
 def tests(pool, crate, names, words):
@@ -230,9 +329,12 @@ def compare_lists():
 
 
 def library(pool):
-    names = " ".join(names for crate, named in CALLS.items() if crate != PROGRAM for names in named.values())
-    rooms = [f"room::{room}" for room in ROOM.split()]
-    tests(pool, "refusals", {f"tests::{name}" for name in [*names.split(), *OF_STD.split(), *rooms]}, [])
+    named = " ".join(names for crate, named in CALLS.items() if crate != PROGRAM for names in named.values())
+    rooms = {f"room::{room}" for room in ROOM.split()}
+    names = {*named.split(), *OTHERS.split(), *rooms}
+    if lone := sorted(names ^ {*REQUESTS, *REQUESTS_AT_MOST, *rooms}):
+        fail(f"not both a test of a call and with a number of requests: {lone}")
+    tests(pool, "refusals", {f"tests::{name}" for name in names}, [])
 
 
 def runs(pool):

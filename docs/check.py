@@ -1,12 +1,13 @@
 #!/usr/bin/env python3
-"""check.py: sees that docs/ARCHITECTURE.md names each file, that no page points nowhere, and that quoted contracts are so.
+"""check.py: sees that docs/ARCHITECTURE.md names each file, that no page points nowhere, and that what pages quote is so.
 
 A file of src/ stands in the section of its crate by its name, as `set.rt`; one of specs/ in that section's paragraph
 'Definitions: ..', and one of proofs/ (not in its folders) in the paragraph 'Lemmas: ..', each as `Members` or
 `Members.antt`. What the page says of all crates holds for lib.rt, main.rt, Lib.antt and tests.
 A page points by a relative link, or by the path of a page or a tool from the top of the repository.
 A block of rust whose first line is '// crates/..', the path of a file, has heads of functions that stand so in that file,
-with an empty line between two.
+with an empty line between two. A block of antt whose first line is '-- crates/..' has statements, each whole and with the
+lines above it as they stand there. docs/CALLING.md has the statement of each lemma of a file CallerLemmas.antt.
 The status is 1 where something fails.
 """
 import re
@@ -16,6 +17,7 @@ from pathlib import Path
 TOP = Path(__file__).resolve().parent.parent
 CRATES = "hibitset_base hibitset_atomic hibitset hibitset_store hibitset_run uses refusals word_reads".split()
 MAP = TOP / "docs" / "ARCHITECTURE.md"
+CALLING = TOP / "docs" / "CALLING.md"
 PAGES = [TOP / "README.md", TOP / "CONTRIBUTING.md", *sorted((TOP / "docs").glob("*.md"))]
 
 
@@ -61,18 +63,39 @@ def lines_of(text):
     return [line.strip() for line in text.splitlines()]
 
 
+def quoted(page, kind, comment):
+    """The parts of each block of a kind that has the path of a file, with that path."""
+    text = page.read_text(encoding="utf-8")
+    for path, block in re.findall(rf"^```{kind}\n{comment} (crates/\S+)\n(.*?)^```", text, re.M | re.S):
+        for part in block.strip("\n").split("\n\n"):
+            yield path, part
+
+
 def misquoted(page):
-    """The first line of each head of a function that a page quotes and that does not stand so in its file."""
-    for path, block in re.findall(r"^```rust\n// (crates/\S+)\n(.*?)^```", page.read_text(encoding="utf-8"), re.M | re.S):
+    """The first line of each part that a page quotes and that does not stand so in its file."""
+    for path, head in quoted(page, "rust", "//"):
         source = "\n".join(lines_of((TOP / path).read_text(encoding="utf-8"))) + "\n"
-        for head in block.strip().split("\n\n"):
-            lines = lines_of(head)
-            if "\n" + "\n".join(lines) + "\n" not in source:
-                yield f"{lines[0]} of {path}"
+        if "\n" + "\n".join(lines_of(head)) + "\n" not in source:
+            yield f"{head.splitlines()[0].strip()} of {path}"
+    for path, statement in quoted(page, "antt", "--"):
+        source = "\n" + (TOP / path).read_text(encoding="utf-8")
+        # what goes on after it is indented
+        if not re.search(rf"\n{re.escape(statement)}\n(?! )", source):
+            yield f"{statement.splitlines()[0]} of {path}"
+
+
+def unquoted():
+    """The lemmas for callers whose statement docs/CALLING.md lacks."""
+    said = "\n".join(statement for _, statement in quoted(CALLING, "antt", "--"))
+    for path in sorted(TOP.glob("crates/*/proofs/CallerLemmas.antt")):
+        for name in re.findall(r"^pub (?!use )(\S+) :", path.read_text(encoding="utf-8"), re.M):
+            if not re.search(rf"^pub {re.escape(name)} :", said, re.M):
+                yield f"{name} of {path.relative_to(TOP)}"
 
 
 def main():
     said = [f"docs/ARCHITECTURE.md does not name {path.relative_to(TOP)}" for path in unnamed()]
+    said += [f"docs/CALLING.md does not quote the lemma {name}" for name in unquoted()]
     for page in PAGES:
         said += [f"{page.relative_to(TOP)} points to {name}, which is not there" for name in sorted(set(nowhere(page)))]
         said += [f"{page.relative_to(TOP)} quotes what is not so in the sources: {head}" for head in misquoted(page)]

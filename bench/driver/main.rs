@@ -323,6 +323,18 @@ fn atomics(bench: &mut Bench, random: &[u32], absent: &[u32], ascending: &[u32],
     bench.run(Row::new("atomic clear and add one", 1, 0.5, both!(atomic_clear, ids)));
 }
 
+/// Sets of a few small indices: what a set costs before it has much to do. The peers' work is too short for the clock.
+fn small_sets(bench: &mut Bench) {
+    bench.part("sets of a few indices (ns per set)");
+    let indices: Vec<u32> = (0..1000).collect();
+    for (name, many) in [("1 index", 1), ("3 indices", 3), ("20 indices", 20)] {
+        bench.run(Row::new(format!("a set made, {name} added, dropped"), 1, 0.6, both!(add, &indices[..many])));
+    }
+    for (name, many) in [("1 index", 1), ("20 indices", 20), ("1,000 indices", 1000)] {
+        bench.run(Row::new(format!("clone of a set of {name}"), 1, 1.0, both!(clone, &indices[..many])));
+    }
+}
+
 fn main() {
     let args: Vec<String> = std::env::args().collect();
     let number = |at: usize, default: u64| args.get(at).map_or(default, |n| n.parse().expect("a number"));
@@ -386,6 +398,7 @@ fn main() {
     ] {
         assignments(&mut bench, a, b, aims);
     }
+    small_sets(&mut bench);
     drains(&mut bench, &[&half, &ten, &one, &clusters]);
     whole(&mut bench, &one, &[&half, &ten, &one, &few]);
     builds(&mut bench, [("1M random", &random), ("1M ascending", &ascending)]);

@@ -64,11 +64,11 @@ def read_order(layers, layer=LAYERS - 1, position=0):
 
 
 def draw_layers():
-    width, tick, edge, word_height, row_height, top = 940, 3, 2, 22, 92, 64
-    word_width = BITS * tick + 2 * edge
+    width, tick, word_height, row_height, top = 940, 3, 22, 92, 80
+    word_width = BITS * tick
     layers = words_of(MEMBERS)
     under = top + (LAYERS - 1) * row_height + word_height + 18
-    drawing = Drawing(width, under + 16, "The layers of a set and the way of a walk")
+    drawing = Drawing(width, under + 40, "The layers of a set and the way of a walk")
     drawing.text(16, 24, "The set {" + ", ".join(map(str, MEMBERS)) + "}, and the order in which a walk reads its words", 14, bold=True)
     drawing.text(16, 42, "Each box is a word of 64 bits that is not 0. A bit above stands for a word below; no other word is read.", 12)
     left, places = 90, {}
@@ -80,16 +80,19 @@ def draw_layers():
             places[layer, position] = (x, top + (LAYERS - 1 - layer) * row_height)
     for (layer, position), (x, y) in places.items():
         for bit in layers[layer][position]:
-            middle = x + edge + (bit + 0.5) * tick
+            middle = x + (bit + 0.5) * tick
             if layer > 0:
                 below_x, below_y = places[layer - 1, position * BITS + bit]
                 drawing.line(middle, y + word_height, below_x + word_width / 2, below_y, FAINT)
             else:
                 drawing.text(middle, under, str(position * BITS + bit), 13, "middle", GREEN, True)
     for (layer, position), (x, y) in places.items():
-        drawing.rect(x, y, word_width, word_height, "#f4f4f4", "#888")
+        drawing.rect(x, y, word_width, word_height, "#f4f4f4")
+        for bit in range(8, BITS, 8):
+            drawing.line(x + bit * tick, y, x + bit * tick, y + word_height, "#ddd")
         for bit in layers[layer][position]:
-            drawing.rect(x + edge + bit * tick + 0.5, y + 2, tick - 1, word_height - 4, GREEN)
+            drawing.rect(x + bit * tick, y, tick, word_height, GREEN)
+        drawing.rect(x, y, word_width, word_height, "none", "#888")
         drawing.text(x + word_width, y - 4, f"word {position}", 11, "end", "#555")
     for number, (layer, position) in enumerate(read_order(layers), 1):
         x, y = places[layer, position]
@@ -97,15 +100,15 @@ def draw_layers():
         drawing.text(x + 8, y - 5, str(number), 11, "middle", "white", True)
     for layer in range(LAYERS):
         drawing.text(16, top + (LAYERS - 1 - layer) * row_height + 15, f"layer {layer}", 13, bold=True)
-    drawing.text(16, under, "members", 13, fill=GREEN, bold=True)
+    drawing.text(left, under + 24, "Under each bit of layer 0 stands the member that it is for.", 12, fill=GREEN)
     drawing.write(HERE / "layers.svg")
 
 
 def results():
-    """The parts of the table, each with the ratios of its rows."""
+    """The parts of the table of sets, each with the ratios of its rows."""
     parts, held = [], False
     for line in RESULTS.read_text().splitlines():
-        held = (held or line == "<!-- results -->") and line != "<!-- end of results -->"
+        held = (held or line == "<!-- results -->") and not line.startswith("Values by index")
         cells = [cell.strip() for cell in re.split(r"(?<!\\)\|", line)[1:-1]]
         if not held or len(cells) < 5:
             continue

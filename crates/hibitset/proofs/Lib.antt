@@ -1,8 +1,14 @@
 pub mod CallerLemmas
+pub mod Laying
+pub mod Layered
 pub mod Within
 pub mod Merging
-pub mod Blocks
+pub mod Summing
 pub mod Comparing
 pub mod Equality
 pub mod Ending
 pub mod Lengths
+pub mod Sizes
+pub mod Stepping
+pub mod Folding
+pub mod Differing

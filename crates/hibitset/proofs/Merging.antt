@@ -12,7 +12,7 @@ use Rattle.hibitset_base.specs.declared.util.TheConstants.{LAYERS}
 use Rattle.hibitset_base.specs.Words.{IsSummed, holds_at}
 use Rattle.hibitset.specs.Merging.{MergedUnder, MergedAt, Summarizes, Covers}
 use Rattle.hibitset_base.proofs.Holding.{bit_test}
-use Rattle.hibitset_base.proofs.LayerByLayer.{place_within}
+use Rattle.hibitset_base.proofs.Mending.{place_within}
 
 -- The state of a loop over the bits of `visited`, of which those of `left` are still to do.
 pub record MergedPast (merged : ℕ → ℕ → ℕ) (theirs old new : ℕ → ℕ) (size q visited left : ℕ) : Type 0 where

@@ -1,15 +1,16 @@
 -- What a contract sees of a `BitSet`.
-use Rattle.std.specs.Prelude.{◌≡◌, ℕ, Bool, List, [], ◌∷◌, get_or, length}
+use Rattle.std.specs.Prelude.{◌≡◌, ℕ, Bool, List, [], get_or, length}
 use Rattle.hibitset_base.specs.Members.{members_below}
 use Rattle.hibitset_base.specs.declared.util.TheConstants.{LAYERS, MAX_EID}
 use Rattle.hibitset_base.specs.Words.{word_at, holds_at}
 use Rattle.hibitset_base.specs.Sets.{IsLawful}
-use Rattle.hibitset_base.specs.Stored.{stored_lawful}
+use Rattle.hibitset_base.specs.Stored.{summed_lawful}
+use Rattle.hibitset.specs.Layers.{lists}
 use Rattle.hibitset.specs.declared.set.BitSet.{BitSet}
 
 -- the words of the layers, from the lowest up
 abbrev pub layers : BitSet → List (List ℕ)
-layers set = set.layer0.items ∷ set.layer1.items ∷ set.layer2.items ∷ set.layer3.items ∷ (set.layer4 ∷ []) ∷ []
+layers set = lists set.layers
 
 -- the word of a layer at a position
 unfoldable pub word_of : BitSet → ℕ → ℕ → ℕ
@@ -22,7 +23,7 @@ has set = holds_at (word_of set)
 -- the words are those of a set that has these members
 pub has_is_lawful : (set : BitSet) → IsLawful LAYERS (has set) (word_of set)
 unfolding has word_of
-has_is_lawful set = stored_lawful LAYERS set.stored
+has_is_lawful set = summed_lawful LAYERS set.summed
 
 -- the members, ascending
 abbrev pub members_of : BitSet → List ℕ

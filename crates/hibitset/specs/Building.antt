@@ -1,10 +1,10 @@
 -- `BitSet`s that take the items of an iterator.
-use Rattle.std.specs.Prelude.{◌≡◌, ℕ, ◌/◌, ◌%◌, ◌<◌, ◌≤◌, Bool, true, Option, get_or}
+use Rattle.std.specs.Prelude.{◌≡◌, ℕ, ◌/◌, ◌%◌, ◌<◌, ◌≤◌, Bool, true, Option, [], get_or}
 use Rattle.std.proofs.Common.{arith, inl, inr}
 use Rattle.std.proofs.lemmas.Bool.{cases_lt}
 use Rattle.std.proofs.lemmas.List.{get_or_past}
 use Rattle.hibitset_base.specs.Deciding.{no_bit}
-use Rattle.hibitset.specs.BitSet.{has, word_of, slice_len}
+use Rattle.hibitset.specs.BitSet.{layers, has, word_of, slice_len}
 use Rattle.hibitset.specs.declared.set.BitSet.{BitSet}
 use Rattle.hibitset_base.specs.Building.{RefusesBelow, TakesAllBelow, StopsAtRefusedBelow}
 use Rattle.hibitset_base.specs.declared.build.BuildError.{BuildError}
@@ -19,7 +19,7 @@ pub member_apart : (set : BitSet) (i j : ℕ) → has set i ≡ true → slice_l
 unfolding has word_of
 member_apart set i j on lacks = elim (cases_lt (i / 64) (slice_len set 0)) [
   | inl there ↦ omega (arith, there, lacks)
-  | inr past ↦ absurd (let h = no_bit (get_or set.layer0.items (i / 64) 0) (i % 64) (get_or_past set.layer0.items (i / 64) 0 past) on in omega (arith, h))
+  | inr past ↦ absurd (let h = no_bit (word_of set 0 (i / 64)) (i % 64) (get_or_past (get_or (layers set) 0 []) (i / 64) 0 past) on in omega (arith, h))
 ]
 
 -- U is what is iterated over, S its iterator and A an item, of which `number` reads the index.

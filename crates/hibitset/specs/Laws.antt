@@ -2,7 +2,6 @@
 use Rattle.std.specs.Prelude.{◌≡◌, ℕ, ◌<◌, Bool, true, bit_and}
 use Rattle.hibitset_base.specs.declared.util.TheConstants.{MAX_EID}
 use Rattle.hibitset.specs.BitSet.{has, word_of}
-use Rattle.hibitset_base.specs.Virtual.{differ}
 use Rattle.hibitset.specs.declared.set.BitSet.{BitSet}
 
 -- both have the same members
@@ -12,10 +11,6 @@ HaveSameMembers a b = (i : ℕ) → i < MAX_EID → has a i ≡ has b i
 -- each member of b is one of a
 abbrev pub ContainsSet : BitSet → BitSet → Type 0
 ContainsSet a b = (i : ℕ) → i < MAX_EID → has b i ≡ true → has a i ≡ true
-
--- new has the members of old or of the other set alone, as after `bitxor_assign`
-abbrev pub IsExclusiveOr : BitSet → (ℕ → Bool) → BitSet → Type 0
-IsExclusiveOr old other new = (i : ℕ) → i < MAX_EID → has new i ≡ differ (has old i) (other i)
 
 -- the words of `BitSetAnd` over both
 abbrev pub intersected : BitSet → BitSet → ℕ → ℕ → ℕ

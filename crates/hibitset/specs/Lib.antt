@@ -1,5 +1,6 @@
+pub mod Laying
+pub mod Layers
 pub mod BitSet
-pub mod Summaries
 pub mod Merging
 pub mod Operators
 pub mod Comparing

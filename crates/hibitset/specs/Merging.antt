@@ -1,7 +1,11 @@
 -- The words of layer 0 of two sets, put together.
-use Rattle.std.specs.Prelude.{◌≡◌, ◌≢◌, ℕ, ◌+◌, ◌-◌, ◌*◌, ◌/◌, ◌%◌, ◌^◌, ◌<◌, ◌≤◌, ◌↔◌}
+use Rattle.std.specs.Prelude.{◌≡◌, ◌≢◌, ℕ, ◌+◌, ◌-◌, ◌*◌, ◌/◌, ◌%◌, ◌^◌, ◌<◌, ◌≤◌, ◌↔◌, List, take, get_or}
 use Rattle.std.specs.Int.{bit_at}
 use Rattle.hibitset_base.specs.declared.util.TheConstants.{LAYERS}
+
+-- the words of a list, of which so many count
+abbrev pub counted : ℕ → List ℕ → ℕ → ℕ
+counted len words p = get_or (take len words) p 0
 
 -- each is a word
 abbrev pub AreWords : (ℕ → ℕ) → Type 0

@@ -1,8 +1,8 @@
--- The words of two sets put together by and, or, exclusive or.
-use Rattle.std.specs.Prelude.{◌≡◌, ℕ, zero, suc, ◌+◌, ◌%◌, ◌<◌, Bool, true, false, ◌==◌, ◌&&◌, ◌||◌, bit_and, bit_or, bit_xor, min, max, refl}
+-- The words of two sets put together by and, or, exclusive or, and one taken from the other.
+use Rattle.std.specs.Prelude.{◌≡◌, ℕ, zero, suc, ◌+◌, ◌%◌, ◌<◌, Bool, true, false, ◌==◌, ◌&&◌, ◌||◌, not, bit_and, bit_or, bit_xor, min, max, refl}
 use Rattle.std.specs.Int.{bit_at}
-use Rattle.std.specs.Int.Bits.{or_zero_r, xor_zero_r, and_zero_l}
-use Rattle.std.proofs.Common.{arith, ◌∙◌}
+use Rattle.std.specs.Int.Bits.{or_zero_r, xor_zero_r, and_zero_l, and_zero_r}
+use Rattle.std.proofs.Common.{arith, ap, ◌∙◌}
 use Rattle.std.proofs.lemmas.Nat.Bits.{bit_at_and, bit_at_or, bit_at_xor, bit_at-lt, bit_at-zero}
 use Rattle.hibitset_base.specs.Sets.{IsLawful, bit_of}
 use Rattle.hibitset_base.specs.Virtual.{differ}
@@ -27,7 +27,14 @@ or_bits x y i = bit_at_or x y i ∙ by_bits max (λ a b. a || b) refl refl refl 
 pub xor_bits : (x y i : ℕ) → bit_at (bit_xor x y) i ≡ bit_of (differ (bit_at x i == 1) (bit_at y i == 1))
 xor_bits x y i = bit_at_xor x y i ∙ by_bits (λ a b. (a + b) % 2) differ refl refl refl refl (bit_at x i) (bit_at y i) (bit_at-lt x i) (bit_at-lt y i)
 
--- A word stays where the place over it is not visited. For and, that is where ours has no bit; for or and exclusive or, where theirs has none.
+-- the bits of a word that another lacks
+abbrev pub without : ℕ → ℕ → ℕ
+without x y = bit_xor x (bit_and x y)
+
+pub without_bits : (x y i : ℕ) → bit_at (without x y) i ≡ bit_of ((bit_at x i == 1) && not (bit_at y i == 1))
+without_bits x y i = bit_at_xor x (bit_and x y) i ∙ (ap (λ t. (bit_at x i + t) % 2) (bit_at_and x y i) ∙ by_bits (λ a b. (a + min a b) % 2) (λ a b. a && not b) refl refl refl refl (bit_at x i) (bit_at y i) (bit_at-lt x i) (bit_at-lt y i))
+
+-- A word stays where the place over it is not visited. For and, that is where ours has no bit; for or and exclusive or, where theirs has none; where one is taken from the other, where either has none.
 pub and_keeps : (ours theirs b x y : ℕ) → bit_at ours b ≡ 0 → (0 < x → bit_at ours b ≡ 1) → (0 < y → bit_at theirs b ≡ 1) → bit_and x y ≡ x
 and_keeps ours theirs b zero y off here there = and_zero_l y
 and_keeps ours theirs b (suc x) y off here there = absurd (let h = here (omega arith) in omega arith)
@@ -39,6 +46,11 @@ or_keeps ours theirs b x (suc y) off here there = absurd (let h = there (omega a
 pub xor_keeps : (ours theirs b x y : ℕ) → bit_at theirs b ≡ 0 → (0 < x → bit_at ours b ≡ 1) → (0 < y → bit_at theirs b ≡ 1) → bit_xor x y ≡ x
 xor_keeps ours theirs b x zero off here there = xor_zero_r x
 xor_keeps ours theirs b x (suc y) off here there = absurd (let h = there (omega arith) in omega arith)
+
+pub without_keeps : (ours theirs b x y : ℕ) → bit_at (bit_and ours theirs) b ≡ 0 → (0 < x → bit_at ours b ≡ 1) → (0 < y → bit_at theirs b ≡ 1) → without x y ≡ x
+without_keeps ours theirs b zero y off here there = ap (λ t. bit_xor zero t) (and_zero_l y) ∙ xor_zero_r zero
+without_keeps ours theirs b (suc x) zero off here there = ap (λ t. bit_xor (suc x) t) (and_zero_r (suc x)) ∙ xor_zero_r (suc x)
+without_keeps ours theirs b (suc x) (suc y) off here there = absurd (let h = here (omega arith) in let k = there (omega arith) in let m = bit_at_and ours theirs b in omega (arith, h, k, m, off))
 
 -- the set with no members is lawful
 pub none_lawful : (n : ℕ) → IsLawful n (λ i. false) (λ l p. 0)

@@ -5,12 +5,12 @@ ghost use Rattle.std.specs.Prelude.{◌≡◌, ◌≢◌, ℕ, ◌+◌, ◌-◌,
 ghost use Rattle.std.specs.Int.{bit_at};
 ghost use Rattle.hibitset_base.specs.Sets.{bit_of};
 ghost use Rattle.hibitset.specs.BitSet.{has, word_of, slice_len};
-ghost use Rattle.hibitset.specs.Merging.{AreWords, MergedUnder, MergedAt, Summarizes, Covers, NoWordsFrom};
-ghost use Rattle.hibitset_base.specs.Connectives.{is_member, IsIntersection, IsUnion, IsExclusive};
+ghost use Rattle.hibitset.specs.Merging.{counted, AreWords, MergedUnder, MergedAt, Summarizes, Covers, NoWordsFrom};
+ghost use Rattle.hibitset_base.specs.Connectives.{is_member, IsIntersection, IsUnion, IsExclusive, IsDifference};
 ghost use Rattle.hibitset.specs.Operators.{none_lawful};
 ghost use Rattle.hibitset_base.specs.declared.util.TheConstants.{LAYERS, MAX_EID};
 
-use crate::operator::{And, Operator, Or, Xor};
+use crate::operator::{And, Difference, Operator, Or, Xor};
 use crate::set::BitSet;
 use hibitset_base::bits::{last_bit, take_bit, take_last_bit, with_bit};
 use hibitset_base::like::BitSetLike;
@@ -68,16 +68,23 @@ fn has_turned(before: usize, word: usize) -> bool
     (before == 0) != (word == 0)
 }
 
-// Merges one word, and tells whether it is not 0 then.
+// Merges one of the first `len` words, and tells whether it is not 0 then.
 #[inline]
-fn merge_word<O: Operator, B: BitSetLike>(words: &mut [usize], other: &B, place: usize) -> bool
-    requires fits { length words.old ≤ place → O.merged 0 (B.word other.now 0 place) ≡ 0 }
+fn merge_word<O: Operator, B: BitSetLike>(
+    words: &mut [usize],
+    len: usize,
+    other: &B,
+    place: usize,
+) -> bool
+    requires room { len ≤ length words.old }
+    requires fits { len ≤ place → O.merged 0 (B.word other.now 0 place) ≡ 0 }
     ensures length { length words.new ≡ length words.old }
-    ensures words { MergedUnder O.merged (B.word other.now 0) (λ p. get_or words.old p 0) (λ p. get_or words.new p 0) 1 place }
-    ensures some { (bit_of result ≡ 1) ↔ (0 < get_or words.new place 0) }
+    ensures words { MergedUnder O.merged (B.word other.now 0) (counted len words.old) (counted len words.new) 1 place }
+    ensures some { (bit_of result ≡ 1) ↔ (0 < counted len words.new place) }
+    ensures others { (p : ℕ) → len ≤ p → get_or words.new p 0 ≡ get_or words.old p 0 }
     ensures bounded { AreWords (λ p. get_or words.old p 0) → AreWords (λ p. get_or words.new p 0) }
 {
-    if words.len() <= place {
+    if len <= place {
         return false;
     }
     let word = O::merge(words[place], other.layer0(place));
@@ -85,21 +92,24 @@ fn merge_word<O: Operator, B: BitSetLike>(words: &mut [usize], other: &B, place:
     word != 0
 }
 
-// Merges the words below word `place` of layer 1 whose bits stand in `bits`, and answers the summary of all 64, which was `summary`.
+// Merges those of the first `len` words below word `place` of layer 1 whose bits stand in `bits`, and answers the summary of all 64, which was `summary`.
 #[inline]
-fn merge_words<O: Operator, B: BitSetLike>(
+pub(crate) fn merge_words<O: Operator, B: BitSetLike>(
     words: &mut Vec<usize>,
+    len: usize,
     other: &B,
     place: usize,
     bits: usize,
     summary: usize,
 ) -> usize
+    requires room { len ≤ length words.old.items }
     requires range { place < 64 ^ (LAYERS - 2) }
-    requires exact { Summarizes (λ p. get_or words.old.items p 0) place summary }
-    requires fits { (p : ℕ) → p < 64 ^ (LAYERS - 1) → length words.old.items ≤ p → O.merged 0 (B.word other.now 0 p) ≡ 0 }
+    requires exact { Summarizes (counted len words.old.items) place summary }
+    requires fits { (p : ℕ) → p < 64 ^ (LAYERS - 1) → len ≤ p → O.merged 0 (B.word other.now 0 p) ≡ 0 }
     ensures length { length words.new.items ≡ length words.old.items }
-    ensures words { MergedAt O.merged (B.word other.now 0) (λ p. get_or words.old.items p 0) (λ p. get_or words.new.items p 0) 1 place bits }
-    ensures exact { Summarizes (λ p. get_or words.new.items p 0) place result }
+    ensures words { MergedAt O.merged (B.word other.now 0) (counted len words.old.items) (counted len words.new.items) 1 place bits }
+    ensures exact { Summarizes (counted len words.new.items) place result }
+    ensures others { (p : ℕ) → len ≤ p → get_or words.new.items p 0 ≡ get_or words.old.items p 0 }
     ensures bounded { AreWords (λ p. get_or words.old.items p 0) → AreWords (λ p. get_or words.new.items p 0) }
 {
     let slice = words.as_mut_slice();
@@ -107,7 +117,7 @@ fn merge_words<O: Operator, B: BitSetLike>(
     let mut left = bits;
     while left != 0 {
         let bit = take_bit(&mut left);
-        let stands = merge_word::<O, B>(slice, other, 64 * place + bit);
+        let stands = merge_word::<O, B>(slice, len, other, 64 * place + bit);
         above = with_bit(above, bit, stands);
     }
     above
@@ -201,34 +211,23 @@ impl BitSet {
         ensures length { slice_len self.new 0 ≡ slice_len self.old 0 }
         ensures words { MergedUnder O.merged (B.word other.now 0) (word_of self.old 0) (word_of self.new 0) 64 place }
     {
-        if self.layer1.len() <= place {
+        if self.layers.slice(1).len() <= place {
             return;
         }
-        let ours = self.layer1[place];
+        let ours = self.layers.slice(1)[place];
         let visited = O::visit(ours, theirs);
-        let kept = merge_words::<O, Empty>(
-            &mut self.layer0,
-            &Empty,
-            place,
-            visited & !theirs,
-            ours,
-        );
-        let word1 = merge_words::<O, B>(&mut self.layer0, other, place, visited & theirs, kept);
-        self.layer1[place] = word1;
-        if !has_turned(ours, word1) {
-            return;
+        let kept = self
+            .layers
+            .merge::<O, Empty>(&Empty, place, visited & !theirs, ours);
+        let word = self
+            .layers
+            .merge::<O, B>(other, place, visited & theirs, kept);
+        self.layers.put(1, place, word);
+        if has_turned(ours, word) {
+            self.layers.sum_up(1, place, word != 0);
         }
-        let before2 = self.layer2[place / 64];
-        let word2 = with_bit(before2, place % 64, word1 != 0);
-        self.layer2[place / 64] = word2;
-        if !has_turned(before2, word2) {
-            return;
-        }
-        let word3 = with_bit(self.layer3[place / 4_096], place / 64 % 64, word2 != 0);
-        let word4 = with_bit(self.layer4, place / 4_096, word3 != 0);
-        self.layer3[place / 4_096] = word3;
-        self.layer4 = word4;
     }
+
     // Merges what lies under word `place` of a layer, where the other has the word `theirs`.
     fn merge_under<O: Operator, B: BitSetLike>(
         &mut self,
@@ -277,7 +276,7 @@ impl BitSet {
         ensures most { (end : ℕ) → slice_len self.old 0 ≤ end → NoWordsFrom (B.word other.now) end → slice_len self.new 0 ≤ end }
         ensures stays { OnErr result (slice_len self.new 0 ≡ slice_len self.old 0) }
     {
-        if end_of(other) <= self.layer0.len() {
+        if end_of(other) <= self.layers.len() {
             return Ok(());
         }
         let end = end_under(other, LAYERS - 1, 0);
@@ -289,13 +288,14 @@ impl BitSet {
 
     /// Adds the members of any other set. Where memory is refused the members stay.
     ///
-    /// All room is made first, up to the last word of the other that is not 0 and no further: it needs no memory where `layer0_as_slice` is that long, and refused, it leaves its length. Words that the other has not are neither read nor changed; where it has summary bits over words that are 0, past the room of this set, those may be read twice, and take no room.
+    /// All room is made first, in each layer up to the word over the last one of the other that is not 0 and no further: it needs no memory where `layer0_as_slice` is that long, and refused, it leaves its length. Words that the other has not are neither read nor changed; where it has summary bits over words that are 0, past the room of this set, those may be read twice, and take no room.
     pub fn bitor_assign<B: BitSetLike>(&mut self, other: &B) -> Result<(), AllocError>
         ensures members { OnOk result (IsUnion (has self.old) (is_member (B.holds other.now)) (has self.new)) }
         ensures refused { OnErr result ((i : ℕ) → has self.new i ≡ has self.old i) }
         ensures keeps { slice_len self.old 0 ≤ slice_len self.new 0 }
         ensures room { NoWordsFrom (B.word other.now) (slice_len self.old 0) → IsOk result }
         ensures most { (end : ℕ) → slice_len self.old 0 ≤ end → NoWordsFrom (B.word other.now) end → slice_len self.new 0 ≤ end }
+        ensures above { (l end : ℕ) → l < LAYERS - 1 → slice_len self.old l ≤ end → NoWordsFrom (B.word other.now) (64 ^ l * end) → slice_len self.new l ≤ end }
         ensures stays { OnErr result (slice_len self.new 0 ≡ slice_len self.old 0) }
     {
         self.make_room(other)?;
@@ -305,18 +305,27 @@ impl BitSet {
 
     /// Adds the members of any other set that were not there, and takes out those that were. Where memory is refused the members stay.
     ///
-    /// All room is made first, up to the last word of the other that is not 0 and no further: it needs no memory where `layer0_as_slice` is that long, and refused, it leaves its length. Words that the other has not are neither read nor changed; where it has summary bits over words that are 0, past the room of this set, those may be read twice, and take no room.
+    /// All room is made first, in each layer up to the word over the last one of the other that is not 0 and no further: it needs no memory where `layer0_as_slice` is that long, and refused, it leaves its length. Words that the other has not are neither read nor changed; where it has summary bits over words that are 0, past the room of this set, those may be read twice, and take no room.
     pub fn bitxor_assign<B: BitSetLike>(&mut self, other: &B) -> Result<(), AllocError>
         ensures members { OnOk result (IsExclusive (has self.old) (is_member (B.holds other.now)) (has self.new)) }
         ensures refused { OnErr result ((i : ℕ) → has self.new i ≡ has self.old i) }
         ensures keeps { slice_len self.old 0 ≤ slice_len self.new 0 }
         ensures room { NoWordsFrom (B.word other.now) (slice_len self.old 0) → IsOk result }
         ensures most { (end : ℕ) → slice_len self.old 0 ≤ end → NoWordsFrom (B.word other.now) end → slice_len self.new 0 ≤ end }
+        ensures above { (l end : ℕ) → l < LAYERS - 1 → slice_len self.old l ≤ end → NoWordsFrom (B.word other.now) (64 ^ l * end) → slice_len self.new l ≤ end }
         ensures stays { OnErr result (slice_len self.new 0 ≡ slice_len self.old 0) }
     {
         self.make_room(other)?;
         self.merge_with::<Xor, B>(other);
         Ok(())
+    }
+
+    /// Takes out the members that are in the other set. It takes no memory.
+    pub fn subtract_assign<B: BitSetLike>(&mut self, other: &B)
+        ensures members { IsDifference (has self.old) (B.holds other.now) (has self.new) }
+        ensures length { slice_len self.new 0 ≡ slice_len self.old 0 }
+    {
+        self.merge_with::<Difference, B>(other);
     }
 }
 

@@ -1,16 +1,16 @@
 //! Sets made of the items of an iterator, or extended by them.
 #![tactic(auto, unfolding(crate::specs::BitSet::has, crate::specs::BitSet::word_of))]
 
-ghost use Rattle.std.specs.Prelude.{◌≡◌, ℕ, ◌/◌, ◌<◌, ◌≤◌, ◌||◌, Bool, false, OnOk, OnErr, IfOk, IfErr};
+ghost use Rattle.std.specs.Prelude.{◌≡◌, ℕ, ◌-◌, ◌*◌, ◌/◌, ◌^◌, ◌<◌, ◌≤◌, ◌||◌, Bool, false, OnOk, OnErr, IfOk, IfErr};
 ghost use Rattle.std.specs.Iterator.{IsFiniteIterable};
-ghost use Rattle.hibitset_base.specs.declared.util.TheConstants.{MAX_EID};
+ghost use Rattle.hibitset_base.specs.declared.util.TheConstants.{LAYERS, MAX_EID};
 ghost use Rattle.hibitset.specs.BitSet.{has, slice_len};
 ghost use Rattle.hibitset.specs.Building.{MembersEndBy, Refuses, TakesAll, StopsAtRefused, member_apart};
 
 use crate::set::BitSet;
 pub use hibitset_base::build::BuildError;
 use hibitset_base::build::{self, Extendable};
-use hibitset_base::util::{Index, MAX_EID};
+use hibitset_base::util::{Index, LAYERS, MAX_EID};
 use std::alloc::{AllocError, Global};
 
 impl Extendable for BitSet {
@@ -33,7 +33,7 @@ impl Extendable for BitSet {
 impl BitSet {
     /// Adds the items of an iterator, each of which is to be below `MAX_EID`.
     ///
-    /// It stops at the first item that is not, and where memory is refused: then the set has its old members and the items before that one, and no later item is drawn. Memory is refused only for an item whose word lies past `layer0_as_slice`, and that slice grows no longer than the members need.
+    /// It stops at the first item that is not, and where memory is refused: then the set has its old members and the items before that one, and no later item is drawn. Memory is refused only for an item whose word lies past `layer0_as_slice`, and no slice grows longer than the members need.
     pub fn extend_indices<U: IntoIterator<Item = Index>>(
         &mut self,
         iter: U,
@@ -43,6 +43,7 @@ impl BitSet {
         ensures stops { IfErr result (StopsAtRefused U.into_iter_gives U.IntoIter.next_gives (λ i. i) iter (has self.old) (has self.new) (slice_len self.new 0)) }
         ensures keeps { slice_len self.old 0 ≤ slice_len self.new 0 }
         ensures most { (end : ℕ) → slice_len self.old 0 ≤ end → MembersEndBy (has self.new) end → slice_len self.new 0 ≤ end }
+        ensures above { (l end : ℕ) → l < LAYERS - 1 → slice_len self.old l ≤ end → MembersEndBy (has self.new) (64 ^ l * end) → slice_len self.new l ≤ end }
     {
         build::extend_indices(self, iter)
     }
@@ -57,6 +58,7 @@ impl BitSet {
         ensures stops { IfErr result (StopsAtRefused U.into_iter_gives U.IntoIter.next_gives (λ i. i.now) iter (has self.old) (has self.new) (slice_len self.new 0)) }
         ensures keeps { slice_len self.old 0 ≤ slice_len self.new 0 }
         ensures most { (end : ℕ) → slice_len self.old 0 ≤ end → MembersEndBy (has self.new) end → slice_len self.new 0 ≤ end }
+        ensures above { (l end : ℕ) → l < LAYERS - 1 → slice_len self.old l ≤ end → MembersEndBy (has self.new) (64 ^ l * end) → slice_len self.new l ≤ end }
     {
         build::extend_index_refs(self, iter)
     }
@@ -71,6 +73,7 @@ impl BitSet {
         requires { IsFiniteIterable U.into_iter_gives U.IntoIter.can_next U.IntoIter.remaining iter }
         ensures all { IfOk result (λ set. TakesAll U.into_iter_gives U.IntoIter.next_gives (λ i. i) iter (λ _. false) (has set)) }
         ensures most { IfOk result (λ set. (end : ℕ) → MembersEndBy (has set) end → slice_len set 0 ≤ end) }
+        ensures above { IfOk result (λ set. (l end : ℕ) → l < LAYERS - 1 → MembersEndBy (has set) (64 ^ l * end) → slice_len set l ≤ end) }
         ensures stops { IfErr result (Refuses U.into_iter_gives U.IntoIter.next_gives (λ i. i) iter) }
     {
         build::from_indices(BitSet::new(alloc), iter)
@@ -84,6 +87,7 @@ impl BitSet {
         requires { IsFiniteIterable U.into_iter_gives U.IntoIter.can_next U.IntoIter.remaining iter }
         ensures all { IfOk result (λ set. TakesAll U.into_iter_gives U.IntoIter.next_gives (λ i. i.now) iter (λ _. false) (has set)) }
         ensures most { IfOk result (λ set. (end : ℕ) → MembersEndBy (has set) end → slice_len set 0 ≤ end) }
+        ensures above { IfOk result (λ set. (l end : ℕ) → l < LAYERS - 1 → MembersEndBy (has set) (64 ^ l * end) → slice_len set l ≤ end) }
         ensures stops { IfErr result (Refuses U.into_iter_gives U.IntoIter.next_gives (λ i. i.now) iter) }
     {
         build::from_index_refs(BitSet::new(alloc), iter)

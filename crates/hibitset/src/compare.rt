@@ -81,13 +81,12 @@ fn compare_block<C: Comparison>(ours: &BitSet, theirs: &BitSet, place: usize) ->
     ensures yes { result ≡ true → (p : ℕ) → p / 64 ≡ place → BitsPass C.allowed (word_of ours.now 0 p) (word_of theirs.now 0 p) }
     ensures no { result ≡ false → ((p : ℕ) → BitsPass C.allowed (word_of ours.now 0 p) (word_of theirs.now 0 p)) → ⊥ }
 {
+    let ours = ours.layers.slice(0);
+    let theirs = theirs.layers.slice(0);
     let mut missed = 0usize;
     let mut bit = 0;
     while bit < 64 {
-        missed |= C::misses(
-            ours.layer0[64 * place + bit],
-            theirs.layer0[64 * place + bit],
-        );
+        missed |= C::misses(ours[64 * place + bit], theirs[64 * place + bit]);
         bit += 1;
     }
     missed == 0
@@ -99,7 +98,7 @@ fn has_block(set: &BitSet, place: usize) -> bool
     requires { place < 64 ^ (LAYERS - 2) }
     ensures { IsTrue result ↔ 64 * place + 64 ≤ slice_len set.now 0 }
 {
-    64 * place + 64 <= set.layer0.len()
+    64 * place + 64 <= set.layers.len()
 }
 
 // Compares the words below word `place` of layer 1 whose bits stand in `bits`.

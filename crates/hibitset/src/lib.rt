@@ -5,6 +5,7 @@ pub mod assign;
 pub mod build;
 mod compare;
 pub mod laws;
+mod layers;
 mod operator;
 pub mod ops;
 pub mod set;

@@ -1,9 +1,9 @@
 //! How two sets are put together, a word at a time.
-ghost use Rattle.std.specs.Prelude.{◌≡◌, ℕ, ◌<◌, ◌==◌, ◌||◌, ◌&&◌, Bool, bit_and, bit_or, bit_xor, refl};
+ghost use Rattle.std.specs.Prelude.{◌≡◌, ℕ, ◌<◌, ◌==◌, ◌||◌, ◌&&◌, not, Bool, bit_and, bit_or, bit_xor, refl};
 ghost use Rattle.std.specs.Int.{bit_at};
 ghost use Rattle.hibitset_base.specs.Sets.{bit_of};
 ghost use Rattle.hibitset_base.specs.Virtual.{differ};
-ghost use Rattle.hibitset.specs.Operators.{and_bits, and_keeps, or_bits, or_keeps, xor_bits, xor_keeps};
+ghost use Rattle.hibitset.specs.Operators.{and_bits, and_keeps, or_bits, or_keeps, xor_bits, xor_keeps, without, without_bits, without_keeps};
 
 // An operator on two sets, by its words.
 pub(crate) trait Operator {
@@ -110,5 +110,32 @@ impl Operator for Xor {
     #[inline]
     fn visit(_ours: usize, theirs: usize) -> usize {
         theirs
+    }
+}
+
+// The indices of one set that the other lacks.
+pub(crate) struct Difference;
+
+impl Operator for Difference {
+    ghost test = { λ a b. a && not b };
+
+    ghost merged = { without };
+
+    ghost visited = { bit_and };
+
+    ghost bits = { without_bits };
+
+    ghost none = { refl };
+
+    ghost keeps = { without_keeps };
+
+    #[inline]
+    fn merge(ours: usize, theirs: usize) -> usize {
+        ours ^ (ours & theirs)
+    }
+
+    #[inline]
+    fn visit(ours: usize, theirs: usize) -> usize {
+        ours & theirs
     }
 }

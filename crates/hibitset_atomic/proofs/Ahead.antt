@@ -16,7 +16,7 @@ use Rattle.hibitset_atomic.specs.declared.shared.parts.SharedBitSet.{SharedBitSe
 use Rattle.hibitset_atomic.specs.Lists.{Has}
 use Rattle.hibitset_atomic.specs.Levels.{first_mark}
 use Rattle.hibitset_atomic.specs.Rule.{Knows}
-use Rattle.hibitset_atomic.specs.Seats.{Came, Known}
+use Rattle.hibitset_atomic.specs.Seats.{Came, Known, loads_by}
 use Rattle.hibitset_atomic.specs.SharedWalk.{view_of, IsSeen, IsLow, RestIsLow, MayStand, IsUnder, lowest, IsSure, Keeps, Goes}
 use Rattle.hibitset_atomic.proofs.Levels.{up_one, at_whole}
 
@@ -179,11 +179,12 @@ sure_still set old new grew i sure = ⊎_elim (λ o. inl o) (λ k. inr (k.0, (gr
 
 pub goes_nowhere : (set : SharedBitSet) (s : Seat) (r : ℕ) (ps : List Place) → Came set s → MayStand (view_of s) r ps → Goes set s s r ps r ps
 goes_nowhere set s r ps came stands = record {
-  keeps = record { came = came; weight = refl; reports = refl; seen = λ m h. h };
+  keeps = record { came = came; weight = refl; reports = refl; seen = λ m h. h; exchanged = refl };
   stands = stands;
   due = λ i sure h. h;
   from = omega arith;
   few = omega arith;
+  loaded = refl;
 }
 
 pub goes_both : {set : SharedBitSet} {a b c : Seat} {r s t : ℕ} {ps qs xs : List Place} → Goes set a b r ps s qs → Goes set b c s qs t xs → Goes set a c r ps t xs
@@ -193,11 +194,13 @@ goes_both {set = set} {a = a} {b = b} g h = record {
     weight = h.keeps.weight ∙ g.keeps.weight;
     reports = h.keeps.reports ∙ g.keeps.reports;
     seen = λ m k. h.keeps.seen m (g.keeps.seen m k);
+    exchanged = h.keeps.exchanged ∙ g.keeps.exchanged;
   };
   stands = h.stands;
   due = λ i sure k. h.due i (sure_still set a b g.keeps.seen i sure) (g.due i sure k);
   from = let x = g.from in let y = h.from in omega (arith, x, y);
   few = let x = g.few in let y = h.few in omega (arith, x, y);
+  loaded = let x = g.loaded in let y = h.loaded in omega (arith, x, y);
 }
 
 -- the word under the first place was loaded, and its bits are put in the place's stead
@@ -205,7 +208,8 @@ module _ (set : SharedBitSet) (old new : Seat) (r l q n : ℕ) (rest : List Plac
     (stands : MayStand (view_of old) r ((record { layer = suc l; position = q }) ∷ rest)) (fits : n < 2 ^ 64)
     (some : Has (view_of old).seen (first_mark (l + 1) + q) → 0 < n)
     (seen : (b : ℕ) → b < 64 → bit_at n b ≡ 1 → Has (view_of new).seen (first_mark l + (64 * q + b)))
-    (due : (i : ℕ) → IsSure set old i → i / 64 ^ (l + 1) ≡ q → bit_at n (i / 64 ^ l % 64) ≡ 1) where
+    (due : (i : ℕ) → IsSure set old i → i / 64 ^ (l + 1) ≡ q → bit_at n (i / 64 ^ l % 64) ≡ 1)
+    (counted : loads_by new ≡ loads_by old + 1) where
   abbrev before : List Place
   before = (record { layer = suc l; position = q }) ∷ rest
 
@@ -264,6 +268,7 @@ module _ (set : SharedBitSet) (old new : Seat) (r l q n : ℕ) (rest : List Plac
     due = due_after;
     from = from_after;
     few = let d = depth_after in omega (arith, d);
+    loaded = omega (arith, counted);
   }
 
   pub fewer_after : depth after < suc l

@@ -12,7 +12,7 @@ use Rattle.atomic_table.proofs.Lists.{set_here, set_else, at_longer, at_set}
 use Rattle.atomic_table.specs.Table.{State, step, Me, Allows, keeps, opening, Splits, Joins}
 use Rattle.hibitset_atomic.specs.declared.shared.view.View.{View}
 use Rattle.hibitset_atomic.specs.Lists.{Has, Distinct, Apart}
-use Rattle.hibitset_atomic.specs.Rule.{Lit, above, Whole, Knows, Nonzero, Reported, Content, Late, Settled, Shares, Fair, Separate, Summed, Rooted, Holds, marks, seeing, reporting, Finds, Looks_at, Entered, Marked, Looked, nobody, opener, half, keeper, newcomer, together}
+use Rattle.hibitset_atomic.specs.Rule.{Lit, above, Whole, Knows, Nonzero, Reported, Content, Late, Settled, Shares, Fair, Separate, Summed, Rooted, Holds, marks, seeing, reporting, counting, loading, exchanging, Finds, Looks_at, Entered, Marked, Looked, nobody, opener, half, keeper, newcomer, together}
 use Rattle.hibitset_atomic.proofs.OrBits.{bit_cases}
 use Rattle.hibitset_atomic.proofs.Marks.{lit_grows, lit_new, lit_was, lit_at, at_lit, marks_stand}
 use Rattle.hibitset_atomic.proofs.Lists.{has_left, has_right, has_split, distinct_append, distinct_parts, fits, full, take_drop, below_less, below_distinct, has_take, has_drop}
@@ -80,14 +80,14 @@ content_grows old ws xs views id v w e same g back c = (
   λ i lt h. ⊎_elim (λ o. inl o) (λ r. inr (reported_set views id i v w e (within views id v e) (λ q. subst (λ rs. Has rs i) same q) r)) (c.1 i lt (back i lt h)),
 )
 
-sees_step : (old xs : List ℕ) (p n : ℕ) (id : ℕ) (v : View) (s : State (Unit {0}) View) → Holds old s → get_elem? s.views id ≡ some v
+sees_step : (old xs : List ℕ) (p n loads exchanges : ℕ) (id : ℕ) (v : View) (s : State (Unit {0}) View) → Holds old s → get_elem? s.views id ≡ some v
     → Grows s.words xs → ((i : ℕ) → i < 16777216 → Lit xs i → Lit s.words i) → slice_index xs p ≡ n → length xs ≡ 266305 → Summed xs
-    → Holds old record { words = xs; homes = s.homes; views = set s.views id (seeing p n v) }
-sees_step old xs p n id v s h e g back en el sm = (
+    → Holds old record { words = xs; homes = s.homes; views = set s.views id (seeing p n (counting loads exchanges v)) }
+sees_step old xs p n loads exchanges id v s h e g back en el sm = (
   el,
-  content_grows old s.words xs s.views id v (seeing p n v) e refl g back h.1,
-  each_set (Fair old xs) s.views id (seeing p n v) (each_map (Fair old s.words) (Fair old xs) s.views (grown old s.words xs g) h.2) (seeing_fair old xs p n v en (grown old s.words xs g v (h.2 id v e))),
-  pairs_set Separate separate_sym s.views id (seeing p n v) h.3 (λ j u ne eu. h.3 id j v u e eu (λ z. ne (sym z))),
+  content_grows old s.words xs s.views id v (seeing p n (counting loads exchanges v)) e refl g back h.1,
+  each_set (Fair old xs) s.views id (seeing p n (counting loads exchanges v)) (each_map (Fair old s.words) (Fair old xs) s.views (grown old s.words xs g) h.2) (seeing_fair old xs p n (counting loads exchanges v) en (grown old s.words xs g v (h.2 id v e))),
+  pairs_set Separate separate_sym s.views id (seeing p n (counting loads exchanges v)) h.3 (λ j u ne eu. h.3 id j v u e eu (λ z. ne (sym z))),
   rooted_grows old s.words xs g h.4,
   sm,
 )
@@ -101,11 +101,11 @@ finds old p id v s h e some_share = (s.words, refl, subst (λ o. Fair o s.words 
 
 pub looks : (old : List ℕ) (slots id p : ℕ) (me : Me (Unit {0}) View) → 0 < length me.0.shares → Allows (Holds old) slots id me p (λ n. n) (Looked (step slots p 0 0 none) me)
 looks old slots id p me some_share s h ls e lt = (
-  seeing p (slice_index s.words p) me.0,
+  seeing p (slice_index s.words p) (loading me.0),
   keeps,
   tt,
-  subst (λ xs. Holds old record { words = xs; homes = s.homes; views = set s.views id (seeing p (slice_index s.words p) me.0) }) (sym (same_words s.words p))
-      (sees_step old s.words p (slice_index s.words p) id me.0 s h e (λ m k. k) (λ i l k. k) refl h.0 h.5),
+  subst (λ xs. Holds old record { words = xs; homes = s.homes; views = set s.views id (seeing p (slice_index s.words p) (loading me.0)) }) (sym (same_words s.words p))
+      (sees_step old s.words p (slice_index s.words p) (me.0.loads + 1) me.0.exchanges id me.0 s h e (λ m k. k) (λ i l k. k) refl h.0 h.5),
   (refl, refl, finds old p id me.0 s h e some_share),
 )
 
@@ -121,10 +121,10 @@ pub marks' : (old : List ℕ) (slots id p b c : ℕ) (me : Me (Unit {0}) View) �
     → Allows (Holds old) slots id me p (λ n. bit_or n (2 ^ b)) (Marked (step slots p (2 ^ b) 0 none) me)
 marks' old slots id p b c me lp lb under up s h ls e lt =
     let inside : p < length s.words = subst (λ l. p < l) (sym h.0) lp in (
-      seeing p (bit_or (slice_index s.words p) (2 ^ b)) me.0,
+      seeing p (bit_or (slice_index s.words p) (2 ^ b)) (exchanging me.0),
       keeps,
       tt,
-      sees_step old (set s.words p (bit_or (slice_index s.words p) (2 ^ b))) p (bit_or (slice_index s.words p) (2 ^ b)) id me.0 s h e
+      sees_step old (set s.words p (bit_or (slice_index s.words p) (2 ^ b))) p (bit_or (slice_index s.words p) (2 ^ b)) me.0.loads (me.0.exchanges + 1) id me.0 s h e
           (lit_grows s.words p b inside lb)
           (λ i l k. ⊎_elim (λ z. z) (λ q. absurd (omega (arith, up, l, q))) (lit_was s.words p b inside lb i k))
           (get_or-set_same s.words p (bit_or (slice_index s.words p) (2 ^ b)) 0 inside)
@@ -146,8 +146,8 @@ module _ (old : List ℕ) (id p b : ℕ) (v : View) (s : State (Unit {0}) View) 
 
   -- the bit stands already
   enter_there : bit_at (slice_index s.words p) b ≡ 1
-      → Holds old record { words = set s.words p (bit_or (slice_index s.words p) (2 ^ b)); homes = s.homes; views = set s.views id (seeing p (bit_or (slice_index s.words p) (2 ^ b)) v) }
-  enter_there one = sees_step old (set s.words p (bit_or (slice_index s.words p) (2 ^ b))) p (bit_or (slice_index s.words p) (2 ^ b)) id v s h e
+      → Holds old record { words = set s.words p (bit_or (slice_index s.words p) (2 ^ b)); homes = s.homes; views = set s.views id (seeing p (bit_or (slice_index s.words p) (2 ^ b)) (exchanging v)) }
+  enter_there one = sees_step old (set s.words p (bit_or (slice_index s.words p) (2 ^ b))) p (bit_or (slice_index s.words p) (2 ^ b)) v.loads (v.exchanges + 1) id v s h e
       (lit_grows s.words p b inside lb)
       (λ i l k. ⊎_elim (λ z. z) (λ q. subst (Lit s.words) (sym q) (lit_at s.words p b lb one)) (lit_was s.words p b inside lb i k))
       (get_or-set_same s.words p (bit_or (slice_index s.words p) (2 ^ b)) 0 inside)
@@ -179,21 +179,21 @@ module _ (old : List ℕ) (id p b : ℕ) (v : View) (s : State (Unit {0}) View) 
   )
 
   enter_new : bit_at (slice_index s.words p) b ≡ 0 → Settled v → 0 < length v.shares
-      → Holds old record { words = set s.words p (bit_or (slice_index s.words p) (2 ^ b)); homes = s.homes; views = set s.views id (seeing p (bit_or (slice_index s.words p) (2 ^ b)) (reporting (p * 64 + b) v)) }
+      → Holds old record { words = set s.words p (bit_or (slice_index s.words p) (2 ^ b)); homes = s.homes; views = set s.views id (seeing p (bit_or (slice_index s.words p) (2 ^ b)) (reporting (p * 64 + b) (exchanging v))) }
   enter_new z settled some_share = (
     length-set s.words p (bit_or (slice_index s.words p) (2 ^ b)) ∙ h.0,
     (
       (λ i o. lit_grows s.words p b inside lb i (h.1.0 i o)),
       λ i l k. ⊎_elim
-          (λ k'. ⊎_elim (λ o. inl o) (λ r. inr (reported_set s.views id i v (seeing p (bit_or (slice_index s.words p) (2 ^ b)) (reporting (p * 64 + b) v)) e (within s.views id v e) (λ q. inr q) r)) (h.1.1 i l k'))
-          (λ q. inr (id, seeing p (bit_or (slice_index s.words p) (2 ^ b)) (reporting (p * 64 + b) v), set_here s.views id (seeing p (bit_or (slice_index s.words p) (2 ^ b)) (reporting (p * 64 + b) v)) (within s.views id v e), inl q))
+          (λ k'. ⊎_elim (λ o. inl o) (λ r. inr (reported_set s.views id i v (seeing p (bit_or (slice_index s.words p) (2 ^ b)) (reporting (p * 64 + b) (exchanging v))) e (within s.views id v e) (λ q. inr q) r)) (h.1.1 i l k'))
+          (λ q. inr (id, seeing p (bit_or (slice_index s.words p) (2 ^ b)) (reporting (p * 64 + b) (exchanging v)), set_here s.views id (seeing p (bit_or (slice_index s.words p) (2 ^ b)) (reporting (p * 64 + b) (exchanging v))) (within s.views id v e), inl q))
           (lit_was s.words p b inside lb i k),
     ),
-    each_set (Fair old (set s.words p (bit_or (slice_index s.words p) (2 ^ b)))) s.views id (seeing p (bit_or (slice_index s.words p) (2 ^ b)) (reporting (p * 64 + b) v))
+    each_set (Fair old (set s.words p (bit_or (slice_index s.words p) (2 ^ b)))) s.views id (seeing p (bit_or (slice_index s.words p) (2 ^ b)) (reporting (p * 64 + b) (exchanging v)))
         (each_map (Fair old s.words) (Fair old (set s.words p (bit_or (slice_index s.words p) (2 ^ b)))) s.views (grown old s.words (set s.words p (bit_or (slice_index s.words p) (2 ^ b))) (lit_grows s.words p b inside lb)) h.2)
-        (seeing_fair old (set s.words p (bit_or (slice_index s.words p) (2 ^ b))) p (bit_or (slice_index s.words p) (2 ^ b)) (reporting (p * 64 + b) v)
+        (seeing_fair old (set s.words p (bit_or (slice_index s.words p) (2 ^ b))) p (bit_or (slice_index s.words p) (2 ^ b)) (reporting (p * 64 + b) (exchanging v))
         (get_or-set_same s.words p (bit_or (slice_index s.words p) (2 ^ b)) 0 inside) (reporting_fair z settled some_share)),
-    pairs_set Separate separate_sym s.views id (seeing p (bit_or (slice_index s.words p) (2 ^ b)) (reporting (p * 64 + b) v)) h.3
+    pairs_set Separate separate_sym s.views id (seeing p (bit_or (slice_index s.words p) (2 ^ b)) (reporting (p * 64 + b) (exchanging v))) h.3
         (λ j u ne eu. let q = h.3 id j v u e eu (λ r. ne (sym r)) in
         ((λ x k k'. ⊎_elim (λ (r : x ≡ p * 64 + b). unknown z j u eu (subst (Has u.reports) r k')) (λ k''. q.0 x k'' k') k), q.1)),
     rooted_grows old s.words (set s.words p (bit_or (slice_index s.words p) (2 ^ b))) (lit_grows s.words p b inside lb) h.4,
@@ -207,7 +207,7 @@ pub enters : (old : List ℕ) (slots id p b : ℕ) (me : Me (Unit {0}) View) →
     → Allows (Holds old) slots id me p (λ n. bit_or n (2 ^ b)) (Entered (step slots p (2 ^ b) 0 none) me)
 enters old slots id p b me lp lb settled some_share s h ls e lt = ⊎_elim
     (λ z. (
-      seeing p (bit_or (slice_index s.words p) (2 ^ b)) (reporting (p * 64 + b) me.0),
+      seeing p (bit_or (slice_index s.words p) (2 ^ b)) (reporting (p * 64 + b) (exchanging me.0)),
       keeps,
       tt,
       enter_new old id p b me.0 s h e lp lb z settled some_share,
@@ -216,7 +216,7 @@ enters old slots id p b me lp lb settled some_share s h ls e lt = ⊎_elim
         λ c lc q. let same = same_bit b c q in (
           λ o. absurd (no_both (slice_index s.words p) b z (subst (λ x. bit_at (slice_index s.words p) x ≡ 1) same o)),
           λ _. (
-            ap (λ (x : ℕ). seeing p (bit_or (slice_index s.words p) (2 ^ b)) (reporting (p * 64 + x) me.0)) (sym same),
+            ap (λ (x : ℕ). seeing p (bit_or (slice_index s.words p) (2 ^ b)) (reporting (p * 64 + x) (exchanging me.0))) (sym same),
             subst (λ x. ¬ Lit me.0.old (p * 64 + x)) (sym same) (subst (λ o. ¬ Lit o (p * 64 + b)) (sym ((h.2 id me.0 e).4.1 some_share)) (not_old old id p b me.0 s h e lp lb z)),
             subst (λ x. ¬ Has me.0.seen (p * 64 + x)) (sym same) (unseen old id p b me.0 s h e lp lb z),
           ),
@@ -224,7 +224,7 @@ enters old slots id p b me lp lb settled some_share s h ls e lt = ⊎_elim
       ),
     ))
     (λ o. (
-      seeing p (bit_or (slice_index s.words p) (2 ^ b)) me.0,
+      seeing p (bit_or (slice_index s.words p) (2 ^ b)) (exchanging me.0),
       keeps,
       tt,
       enter_there old id p b me.0 s h e lp lb o,
@@ -378,6 +378,12 @@ module _ (old : List ℕ) (id : ℕ) (v : View) (ws front : List ℕ) (s : State
 
   pub front_whole : length v.shares ≡ 65536 → (i : ℕ) → i < 16777216 → Lit front i → ((i < 16777216) × Lit old i) ⊎ Has v.reports i
   front_whole all i lt k = ⊎_elim (λ o. inl (lt, o)) (λ r. inr r) (whole old s id v h e all i lt (from_front i lt k))
+
+  pub front_all : (i : ℕ) → i < 16777216 → Lit front i → ((i < 16777216) × Lit old i) ⊎ Reported s.views i
+  front_all i lt k = ⊎_elim (λ o. inl (lt, o)) (λ r. inr r) (h.1.1 i lt (from_front i lt k))
+
+  pub front_any : (i : ℕ) → Reported s.views i → (i < 16777216) × Lit front i
+  front_any i r = let t = (h.2 r.0 r.1 r.2).0.0 i r.3 in (t.2, to_front i t.2 t.0)
 
 -- an empty set
 module _ (ws : List ℕ) (zeros : (k : ℕ) → slice_index ws k ≡ 0) where

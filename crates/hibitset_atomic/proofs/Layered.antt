@@ -1,18 +1,18 @@
 -- The words of an atomic set.
-use Rattle.std.proofs.Common.{◌≡◌, ◌≢◌, ℕ, zero, suc, ◌+◌, ◌*◌, ◌/◌, ◌%◌, ◌^◌, ◌<◌, ◌≤◌, true, List, [], get_or, length, arith, inl, inr, refl, sym, ap, ◌∙◌}
+use Rattle.std.proofs.Common.{◌≡◌, ◌≢◌, ℕ, zero, suc, ◌+◌, ◌*◌, ◌/◌, ◌%◌, ◌^◌, ◌<◌, ◌≤◌, ◌==◌, not, true, List, [], ◌∷◌, get_or, length, arith, inl, inr, refl, sym, ap, ◌∙◌}
 use Rattle.std.specs.Int.{bit_at}
 use Rattle.std.proofs.Math.ListN.{set}
 use Rattle.std.proofs.lemmas.Bool.{cases_lt}
 use Rattle.std.proofs.lemmas.List.{get_or_past, get_or-set_same}
+use Rattle.hibitset_base.specs.Sets.{bit_of}
 use Rattle.hibitset_base.specs.Words.{holds_at}
 use Rattle.hibitset_atomic.specs.Placed.{IsPlaced, placed_word}
 use Rattle.hibitset_atomic.specs.Layers.{layer_word, word_over}
 use Rattle.hibitset_atomic.specs.declared.layers.Layers.{Layers}
 use Rattle.hibitset_base.proofs.Holding.{some_word}
-use Rattle.hibitset_base.proofs.LayerByLayer.{Puts, SetsBit}
 use Rattle.hibitset_base.specs.Mended.{MendedUpTo}
 use Rattle.hibitset_base.proofs.Mending.{mended_first, mended_next, other_layer}
-use Rattle.hibitset_base.proofs.Shapes.{get_or_any}
+use Rattle.hibitset_base.proofs.Lists.{get_or_any}
 
 pub layers_fit : (layers : Layers) (l p : ℕ) → layer_word layers l p < 2 ^ 64
 layers_fit layers zero p = layers.layer0.placed.fits (64 * get_or layers.layer0.places.items (p / 64) 0 + p % 64)
@@ -54,6 +54,30 @@ module _ (bottom : ℕ → ℕ) (upper : List (List ℕ)) (k : ℕ) (xs : List �
 
   over_here : k < length upper → (p : ℕ) → word_over bottom (set upper k xs) (k + 1) p ≡ get_or xs p 0
   over_here there p = let s : k + 1 ≡ suc k = omega arith in rw s (ap (λ ys. get_or ys p 0) (get_or-set_same upper k xs [] there))
+
+-- a word put into a layer, whose other words stay
+pub record Puts (xs ys : List ℕ) (place x : ℕ) : Type 0 where
+  pub long : length ys ≡ length xs
+  pub here : get_or ys place 0 ≡ x
+  pub others : (p : ℕ) → p ≢ place → get_or ys p 0 ≡ get_or xs p 0
+
+pub puts : {xs ys : List ℕ} {place x : ℕ} → length ys ≡ length xs → get_or ys place 0 ≡ x → ((p : ℕ) → p ≢ place → get_or ys p 0 ≡ get_or xs p 0) → Puts xs ys place x
+puts long here others = record { long = long; here = here; others = others }
+
+-- the top layer has one word
+pub puts_top : (x y : ℕ) → Puts (x ∷ []) (y ∷ []) 0 y
+puts_top x y = puts refl refl others where
+  others : (p : ℕ) → p ≢ 0 → get_or (y ∷ []) p 0 ≡ get_or (x ∷ []) p 0
+  others zero other = absurd (other refl)
+  others (suc p) other = refl
+
+-- the word of a layer with the bit that tells whether the word below is 0
+pub record SetsBit (before x bit below : ℕ) : Type 0 where
+  pub same : (b : ℕ) → b < 64 → b ≢ bit → bit_at x b ≡ bit_at before b
+  pub here : bit_at x bit ≡ bit_of (not (below == 0))
+
+pub sets_bit : {before x bit below : ℕ} → ((b : ℕ) → b < 64 → b ≢ bit → bit_at x b ≡ bit_at before b) → bit_at x bit ≡ bit_of (not (below == 0)) → SetsBit before x bit below
+sets_bit same here = record { same = same; here = here }
 
 -- the word of an upper layer is put in, with the bit that tells whether the word below is 0, one layer over what was put in so far
 pub over_up : {q : ℕ} {old : ℕ → ℕ → ℕ} {xs : List ℕ} {place x before bit below : ℕ} (k : ℕ) (bottom : ℕ → ℕ) (upper : List (List ℕ)) → MendedUpTo k old (word_over bottom upper) q → k < length upper → Puts (get_or upper k []) xs place x

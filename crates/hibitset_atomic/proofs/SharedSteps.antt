@@ -134,6 +134,8 @@ module _ (old new : SharedWalk) (name : lender new ≡ lender old) (set : set_of
     first = let few = goes.few in let most = few_first in omega (arith, few, most);
     later = λ some. let few = goes.few in let most = few_later some in omega (arith, few, most);
     begun = goes.stands.fresh (rw end (All-nil IsLow));
+    loaded = goes.loaded;
+    exchanged = goes.keeps.exchanged;
   }
 
   rest_stands : (x : ℕ) → MayStand (view_of (seat_of new)) (loads_of new) ((record { layer = 0; position = x }) ∷ left new.cursor) → MayStand (view_of (seat_of new)) (loads_of new) (left new.cursor)
@@ -163,6 +165,8 @@ module _ (old new : SharedWalk) (name : lender new ≡ lender old) (set : set_of
         first = let few = goes.few in let most = few_first in omega (arith, few, most);
         later = λ some. let few = goes.few in let most = few_later some in omega (arith, few, most);
         begun = goes.stands.fresh (All-cons IsLow (record { layer = 0; position = x }) (left new.cursor) (omega arith) goes.stands.rest);
+        loaded = goes.loaded;
+        exchanged = goes.keeps.exchanged;
       }
 
   pub shared_steps : (item : Option ℕ) → (item ≡ None → left new.cursor ≡ []) → MatchOption item (GoesTo (left new.cursor)) (λ x. GoesTo ((record { layer = 0; position = x }) ∷ left new.cursor)) → IfSome item (λ x. MayGoOn new.cursor 0 x)

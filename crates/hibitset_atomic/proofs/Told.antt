@@ -9,7 +9,7 @@ use Rattle.std.proofs.lemmas.Nat.Bits.{shr_and_one}
 use Rattle.atomic_table.specs.Table.{step, Me, Allows}
 use Rattle.hibitset_atomic.specs.declared.shared.view.View.{View}
 use Rattle.hibitset_atomic.specs.Lists.{Has, Distinct}
-use Rattle.hibitset_atomic.specs.Rule.{Gap, Lit, above, Knows, Settled, Holds, marks, seeing, reporting, Enters_at, Marks_at, Looks_at, Entered, Marked, Grew, together}
+use Rattle.hibitset_atomic.specs.Rule.{Gap, Lit, above, Knows, Settled, Holds, marks, seeing, reporting, loading, exchanging, Enters_at, Marks_at, Looks_at, Entered, Marked, Grew, together}
 use Rattle.hibitset_atomic.proofs.OrBits.{bit_cases, sets}
 use Rattle.hibitset_atomic.proofs.Marks.{has_marks, mark_of}
 use Rattle.hibitset_atomic.proofs.Lists.{has_left, has_right, has_split}
@@ -46,17 +46,17 @@ grew_to p n v w u e f o s g = (e, ap (λ (x : View). x.old) f ∙ o, ap (λ (x :
 pub entered : (i n : ℕ) (v w : Me (Unit {0}) View) → Enters_at (i / 64) (1 * 2 ^ (i % 64) % 18446744073709551616) v n w → Grew v w × Has w.0.seen i
 entered i n v w t = let q = t.1 (i % 64) (omega arith) (mask_is i) in ⊎_elim
     (λ z. let e = (q.1 z).0 in (
-      grew_to (i / 64) (bit_or n (1 * 2 ^ (i % 64) % 18446744073709551616)) v w (reporting (i / 64 * 64 + i % 64) v.0) t.0 e refl refl (λ m h. h),
-      subst (λ x. Has x.seen i) (sym e) (mark_seen i n (reporting (i / 64 * 64 + i % 64) v.0)),
+      grew_to (i / 64) (bit_or n (1 * 2 ^ (i % 64) % 18446744073709551616)) v w (reporting (i / 64 * 64 + i % 64) (exchanging v.0)) t.0 e refl refl (λ m h. h),
+      subst (λ x. Has x.seen i) (sym e) (mark_seen i n (reporting (i / 64 * 64 + i % 64) (exchanging v.0))),
     ))
-    (λ o. let e = q.0 o in (grew_to (i / 64) (bit_or n (1 * 2 ^ (i % 64) % 18446744073709551616)) v w v.0 t.0 e refl refl (λ m h. h), subst (λ x. Has x.seen i) (sym e) (mark_seen i n v.0)))
+    (λ o. let e = q.0 o in (grew_to (i / 64) (bit_or n (1 * 2 ^ (i % 64) % 18446744073709551616)) v w (exchanging v.0) t.0 e refl refl (λ m h. h), subst (λ x. Has x.seen i) (sym e) (mark_seen i n (exchanging v.0))))
     (bit_cases n (i % 64))
 
 pub marked : (m n : ℕ) (v w : Me (Unit {0}) View) → Marks_at (m / 64) (1 * 2 ^ (m % 64) % 18446744073709551616) v n w → Grew v w × (w.0.reports ≡ v.0.reports) × Has w.0.seen m
-marked m n v w t = (grew_to (m / 64) (bit_or n (1 * 2 ^ (m % 64) % 18446744073709551616)) v w v.0 t.0 t.1 refl refl (λ x h. h), ap (λ (x : View). x.reports) t.1, subst (λ x. Has x.seen m) (sym t.1) (mark_seen m n v.0))
+marked m n v w t = (grew_to (m / 64) (bit_or n (1 * 2 ^ (m % 64) % 18446744073709551616)) v w (exchanging v.0) t.0 t.1 refl refl (λ x h. h), ap (λ (x : View). x.reports) t.1, subst (λ x. Has x.seen m) (sym t.1) (mark_seen m n (exchanging v.0)))
 
 pub looked : (p n : ℕ) (v w : Me (Unit {0}) View) → Looks_at p v n w → Grew v w × (w.0.reports ≡ v.0.reports)
-looked p n v w t = (grew_to p n v w v.0 t.0 t.1 refl refl (λ x h. h), ap (λ (x : View). x.reports) t.1)
+looked p n v w t = (grew_to p n v w (loading v.0) t.0 t.1 refl refl (λ x h. h), ap (λ (x : View). x.reports) t.1)
 
 -- a load tells a seat that its reports are each once
 pub looked_once : (p n : ℕ) (v w : Me (Unit {0}) View) → Looks_at p v n w → Distinct w.0.reports
@@ -72,13 +72,29 @@ new_report i n v w t z = let q = (t.1 (i % 64) (omega arith) (mask_is i)).1 z in
 pub old_report : (i n : ℕ) (v w : Me (Unit {0}) View) → Enters_at (i / 64) (1 * 2 ^ (i % 64) % 18446744073709551616) v n w → bit_at n (i % 64) ≡ 1 → w.0.reports ≡ v.0.reports
 old_report i n v w t o = ap (λ (x : View). x.reports) ((t.1 (i % 64) (omega arith) (mask_is i)).0 o)
 
+-- how many loads and exchanges a step makes: one
+pub looked_counts : (p n : ℕ) (v w : Me (Unit {0}) View) → Looks_at p v n w → (w.0.loads ≡ v.0.loads + 1) × (w.0.exchanges ≡ v.0.exchanges)
+looked_counts p n v w t = (ap (λ (x : View). x.loads) t.1, ap (λ (x : View). x.exchanges) t.1)
+
+pub marked_counts : (m n : ℕ) (v w : Me (Unit {0}) View) → Marks_at (m / 64) (1 * 2 ^ (m % 64) % 18446744073709551616) v n w → (w.0.loads ≡ v.0.loads) × (w.0.exchanges ≡ v.0.exchanges + 1)
+marked_counts m n v w t = (ap (λ (x : View). x.loads) t.1, ap (λ (x : View). x.exchanges) t.1)
+
+pub entered_counts : (i n : ℕ) (v w : Me (Unit {0}) View) → Enters_at (i / 64) (1 * 2 ^ (i % 64) % 18446744073709551616) v n w → (w.0.loads ≡ v.0.loads) × (w.0.exchanges ≡ v.0.exchanges + 1)
+entered_counts i n v w t = let q = t.1 (i % 64) (omega arith) (mask_is i) in ⊎_elim
+    (λ z. let e = (q.1 z).0 in (ap (λ (x : View). x.loads) e, ap (λ (x : View). x.exchanges) e))
+    (λ o. let e = q.0 o in (ap (λ (x : View). x.loads) e, ap (λ (x : View). x.exchanges) e))
+    (bit_cases n (i % 64))
+
 -- after a join and a load
 module _ (p n : ℕ) (a b : View) (l : List (ℕ × Unit {0})) (v w : Me (Unit {0}) View) (t : Looks_at p v n w) (e : v ≡ (together a b, l)) (sa : Settled a) (sb : Settled b) where
-  united : w.0 ≡ seeing p n (together a b)
-  united = t.1 ∙ ap (λ (m : Me (Unit {0}) View). seeing p n m.0) e
+  united : w.0 ≡ seeing p n (loading (together a b))
+  united = t.1 ∙ ap (λ (m : Me (Unit {0}) View). seeing p n (loading m.0)) e
 
   pub united_parts : (w.1 ≡ l) × (w.0.old ≡ a.old) × (w.0.shares ≡ a.shares ++ b.shares) × (w.0.reports ≡ a.reports ++ b.reports)
   united_parts = (t.0 ∙ ap (λ (m : Me (Unit {0}) View). m.1) e, ap (λ (x : View). x.old) united, ap (λ (x : View). x.shares) united, ap (λ (x : View). x.reports) united)
+
+  pub united_counts : (w.0.loads ≡ a.loads + b.loads + 1) × (w.0.exchanges ≡ a.exchanges + b.exchanges)
+  united_counts = (ap (λ (x : View). x.loads) united, ap (λ (x : View). x.exchanges) united)
 
   pub united_knows : (i : ℕ) → Knows a i ⊎ Knows b i → Knows w.0 i
   united_knows i k = subst (λ x. Knows x i) (sym united) (knows_more (together a b) (seeing p n (together a b)) (sees_more p n (together a b)) i

@@ -3,7 +3,7 @@ use Rattle.std.specs.Prelude.{◌≡◌, ◌≢◌, ℕ, ◌-◌, ◌/◌, ◌%�
 use Rattle.std.proofs.Common.{arith}
 use Rattle.hibitset_base.specs.Deciding.{no_bit}
 use Rattle.hibitset_base.specs.Sets.{IsLawful}
-use Rattle.hibitset_atomic.specs.Blocks.{block_word, IsUnmade}
+use Rattle.hibitset_atomic.specs.Blocks.{block_word, IsUnmade, HasRoom}
 use Rattle.hibitset_base.specs.Members.{members_below}
 use Rattle.hibitset_base.specs.declared.util.TheConstants.{LAYERS}
 use Rattle.hibitset_atomic.specs.declared.atomic.TheConstants.{ATOMIC_MAX_EID}
@@ -46,6 +46,26 @@ HasNoNear set i = (j : ℕ) → has set j ≡ true → j / 4096 ≢ i / 4096
 -- The block of 4,096 indices that has the number is not made, so that an addition there needs memory. Where some member is near, it is made.
 unfoldable pub LacksBlock : AtomicBitSet → ℕ → Type 0
 LacksBlock set i = IsUnmade set.layers.layer0 (i / 4096)
+
+-- There is room for all blocks, so that no addition needs memory.
+unfoldable pub HasAllRoom : AtomicBitSet → Type 0
+HasAllRoom set = HasRoom set.layers.layer0
+
+-- The same blocks are made as before, and room for all stays.
+pub record KeepsBlocks (old new : AtomicBitSet) : Type 0 where
+  pub keeps : (i : ℕ) → LacksBlock new i → LacksBlock old i
+  pub most : (i : ℕ) → LacksBlock old i → LacksBlock new i
+  pub room : HasAllRoom old → HasAllRoom new
+
+pub keeps_own_blocks : (set : AtomicBitSet) → KeepsBlocks set set
+keeps_own_blocks set = record { keeps = λ i lacks. lacks; most = λ i lacks. lacks; room = λ all. all }
+
+pub keeps_blocks_twice : (a b c : AtomicBitSet) → KeepsBlocks a b → KeepsBlocks b c → KeepsBlocks a c
+keeps_blocks_twice a b c first second = record {
+  keeps = λ i lacks. first.keeps i (second.keeps i lacks);
+  most = λ i lacks. second.most i (first.most i lacks);
+  room = λ all. second.room (first.room all);
+}
 
 pub block_apart : (set : AtomicBitSet) (i j : ℕ) → has set i ≡ true → LacksBlock set j → i / 4096 ≢ j / 4096
 unfolding has word_of LacksBlock

@@ -88,10 +88,22 @@ marks p n (suc k) = pick (bit_at n k) (p * 64 + k) (marks p n k)
 
 -- the seat has seen the number n in the word p
 abbrev pub seeing : ℕ → ℕ → View → View
-seeing p n v = record { old = v.old; shares = v.shares; reports = v.reports; seen = marks p n 64 ++ v.seen }
+seeing p n v = record { old = v.old; shares = v.shares; reports = v.reports; seen = marks p n 64 ++ v.seen; loads = v.loads; exchanges = v.exchanges }
 
 abbrev pub reporting : ℕ → View → View
-reporting i v = record { old = v.old; shares = v.shares; reports = i ∷ v.reports; seen = v.seen }
+reporting i v = record { old = v.old; shares = v.shares; reports = i ∷ v.reports; seen = v.seen; loads = v.loads; exchanges = v.exchanges }
+
+-- the seat has made so many loads and exchanges
+abbrev pub counting : ℕ → ℕ → View → View
+counting loads exchanges v = record { old = v.old; shares = v.shares; reports = v.reports; seen = v.seen; loads = loads; exchanges = exchanges }
+
+-- one load more
+abbrev pub loading : View → View
+loading v = counting (v.loads + 1) v.exchanges v
+
+-- one exchange more
+abbrev pub exchanging : View → View
+exchanging v = counting v.loads (v.exchanges + 1) v
 
 -- what the rule tells a seat that finds n in the word p
 abbrev pub Finds : ℕ → ℕ → View → Type 0
@@ -100,16 +112,16 @@ Finds p n v = (words : List ℕ) × (slice_index words p ≡ n) × Fair v.old wo
 -- the exchange at layer 0: the index is reported where its bit was clear
 abbrev pub Enters_at : ℕ → ℕ → Me (Unit {0}) View → ℕ → Me (Unit {0}) View → Type 0
 Enters_at p mask v n w = (w.1 ≡ v.1) × ((b : ℕ) → b < 64 → mask ≡ 2 ^ b
-    → (bit_at n b ≡ 1 → w.0 ≡ seeing p (bit_or n mask) v.0)
-    × (bit_at n b ≡ 0 → (w.0 ≡ seeing p (bit_or n mask) (reporting (p * 64 + b) v.0)) × ¬ Lit v.0.old (p * 64 + b) × ¬ Has v.0.seen (p * 64 + b)))
+    → (bit_at n b ≡ 1 → w.0 ≡ seeing p (bit_or n mask) (exchanging v.0))
+    × (bit_at n b ≡ 0 → (w.0 ≡ seeing p (bit_or n mask) (reporting (p * 64 + b) (exchanging v.0))) × ¬ Lit v.0.old (p * 64 + b) × ¬ Has v.0.seen (p * 64 + b)))
 
 -- an exchange above layer 0
 abbrev pub Marks_at : ℕ → ℕ → Me (Unit {0}) View → ℕ → Me (Unit {0}) View → Type 0
-Marks_at p mask v n w = (w.1 ≡ v.1) × (w.0 ≡ seeing p (bit_or n mask) v.0)
+Marks_at p mask v n w = (w.1 ≡ v.1) × (w.0 ≡ seeing p (bit_or n mask) (exchanging v.0))
 
 -- a load
 abbrev pub Looks_at : ℕ → Me (Unit {0}) View → ℕ → Me (Unit {0}) View → Type 0
-Looks_at p v n w = (w.1 ≡ v.1) × (w.0 ≡ seeing p n v.0) × Finds p n v.0
+Looks_at p v n w = (w.1 ≡ v.1) × (w.0 ≡ seeing p n (loading v.0)) × Finds p n v.0
 
 abbrev pub Entered : Step (Unit {0}) → Me (Unit {0}) View → ℕ → Me (Unit {0}) View → Type 0
 Entered step = Enters_at step.word step.first
@@ -121,22 +133,22 @@ abbrev pub Looked : Step (Unit {0}) → Me (Unit {0}) View → ℕ → Me (Unit 
 Looked step = Looks_at step.word
 
 abbrev pub opener : List ℕ → View
-opener old = record { old = old; shares = below 65536; reports = []; seen = [] }
+opener old = record { old = old; shares = below 65536; reports = []; seen = []; loads = 0; exchanges = 0 }
 
 abbrev pub nobody : View
-nobody = record { old = []; shares = []; reports = []; seen = [] }
+nobody = record { old = []; shares = []; reports = []; seen = []; loads = 0; exchanges = 0 }
 
 abbrev pub half : View → ℕ
 half v = length v.shares / 2
 
 abbrev pub keeper : View → View
-keeper v = record { old = v.old; shares = drop (half v) v.shares; reports = v.reports; seen = v.seen }
+keeper v = record { old = v.old; shares = drop (half v) v.shares; reports = v.reports; seen = v.seen; loads = v.loads; exchanges = v.exchanges }
 
 abbrev pub newcomer : View → View
-newcomer v = record { old = v.old; shares = take (half v) v.shares; reports = []; seen = v.seen }
+newcomer v = record { old = v.old; shares = take (half v) v.shares; reports = []; seen = v.seen; loads = 0; exchanges = 0 }
 
 abbrev pub together : View → View → View
-together v w = record { old = v.old; shares = v.shares ++ w.shares; reports = v.reports ++ w.reports; seen = v.seen ++ w.seen }
+together v w = record { old = v.old; shares = v.shares ++ w.shares; reports = v.reports ++ w.reports; seen = v.seen ++ w.seen; loads = v.loads + w.loads; exchanges = v.exchanges + w.exchanges }
 
 -- between two steps of one seat
 abbrev pub Grew : Me (Unit {0}) View → Me (Unit {0}) View → Type 0

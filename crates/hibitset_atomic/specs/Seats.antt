@@ -1,8 +1,10 @@
 -- What callers see of a shared set and of its seats.
-use Rattle.std.specs.Prelude.{◌≡◌, ℕ, ◌<◌, List}
+use Rattle.std.specs.Prelude.{◌≡◌, ◌⊎◌, ◌↔◌, ℕ, ◌<◌, Bool, true, List}
+use Rattle.atomic_table.specs.Table.{State, Seen}
+use Rattle.hibitset_atomic.specs.declared.shared.view.View.{View}
 use Rattle.hibitset_atomic.specs.declared.shared.parts.Seat.{Seat}
 use Rattle.hibitset_atomic.specs.declared.shared.parts.SharedBitSet.{SharedBitSet}
-use Rattle.hibitset_atomic.specs.Rule.{Lit, Knows, Settled}
+use Rattle.hibitset_atomic.specs.Rule.{Lit, Knows, Settled, Reported, Holds}
 
 -- the index was there when the set was shared
 unfoldable pub IsOld : SharedBitSet → ℕ → Type 0
@@ -14,6 +16,13 @@ weight_of s = s.weight
 unfoldable pub reports_of : Seat → List ℕ
 reports_of s = s.pass.me.0.reports
 
+-- how many words the seat has loaded, and how many it has exchanged
+unfoldable pub loads_by : Seat → ℕ
+loads_by s = s.pass.me.0.loads
+
+unfoldable pub exchanges_by : Seat → ℕ
+exchanges_by s = s.pass.me.0.exchanges
+
 -- the seat knows the index
 unfoldable pub Known : Seat → ℕ → Type 0
 Known s i = (i < 16777216) × Knows s.pass.me.0 i
@@ -21,3 +30,11 @@ Known s i = (i < 16777216) × Knows s.pass.me.0 i
 -- the seat came from this set, and knows its reports
 unfoldable pub Came : SharedBitSet → Seat → Type 0
 Came set s = (s.pass.table_id ≡ set.table.shared.table_id) × (s.pass.me.0.old ≡ set.table.shared.key.value.items) × Settled s.pass.me.0
+
+-- A state of the set's words and of all its seats, dropped ones too, in which the rule holds and this seat is as it is now.
+abbrev pub IsStateOf : SharedBitSet → Seat → State (Unit {0}) View → Type 0
+IsStateOf set s = Seen (Holds set.table.shared.key.value.items) s.pass.id s.pass.me.0
+
+-- These are exactly the old indices and those that some seat of the set reported, the given one or another.
+unfoldable pub HasAllReports : SharedBitSet → Seat → (ℕ → Bool) → Type 0
+HasAllReports set s members = (state : State (Unit {0}) View) × IsStateOf set s state × ((i : ℕ) → (members i ≡ true) ↔ (IsOld set i ⊎ Reported state.views i))

@@ -12,7 +12,7 @@ use Rattle.hibitset_atomic.specs.declared.atomic.TheConstants.{ATOMIC_MAX_EID}
 use Rattle.hibitset_atomic.specs.declared.layers.TheConstants.{ATOMIC_LAYERS}
 use Rattle.hibitset_atomic.specs.Lists.{Has}
 use Rattle.hibitset_atomic.specs.Levels.{first_mark}
-use Rattle.hibitset_atomic.specs.Seats.{IsOld, Came, Known, weight_of, reports_of}
+use Rattle.hibitset_atomic.specs.Seats.{IsOld, Came, Known, weight_of, reports_of, loads_by, exchanges_by}
 
 -- ---- places among words that others write
 
@@ -61,6 +61,7 @@ pub record Keeps (set : SharedBitSet) (old new : Seat) : Type 0 where
   pub weight : weight_of new ≡ weight_of old
   pub reports : reports_of new ≡ reports_of old
   pub seen : (m : ℕ) → Has (view_of old).seen m → Has (view_of new).seen m
+  pub exchanged : exchanges_by new ≡ exchanges_by old
 
 -- A walk that had made so many loads, with the places ps left, has come to the later count and the places qs without giving an item.
 pub record Goes (set : SharedBitSet) (old new : Seat) (loads : ℕ) (ps : List Place) (later : ℕ) (qs : List Place) : Type 0 where
@@ -69,6 +70,7 @@ pub record Goes (set : SharedBitSet) (old new : Seat) (loads : ℕ) (ps : List P
   pub due : (i : ℕ) → IsSure set old i → IsUnder ps i → IsUnder qs i
   pub from : lowest ps ≤ lowest qs
   pub few : later + depth qs ≤ loads + depth ps
+  pub loaded : loads_by new + loads ≡ loads_by old + later
 
 -- ---- the walk, as its users see it
 
@@ -114,3 +116,5 @@ pub record SharedSteps (old : SharedWalk) (item : Option ℕ) (new : SharedWalk)
   pub first : loads_of new ≤ loads_of old + ATOMIC_LAYERS
   pub later : 0 < loads_of old → loads_of new ≤ loads_of old + (ATOMIC_LAYERS - 1)
   pub begun : 0 < loads_of new
+  pub loaded : loads_by (seat_of new) + loads_of old ≡ loads_by (seat_of old) + loads_of new
+  pub exchanged : exchanges_by (seat_of new) ≡ exchanges_by (seat_of old)

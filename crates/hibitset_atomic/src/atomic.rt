@@ -1,5 +1,5 @@
 //! The set that can be shared, held alone.
-#![tactic(auto, unfolding(crate::specs::AtomicBitSet::has, crate::specs::AtomicBitSet::word_of, crate::specs::AtomicBitSet::LacksBlock))]
+#![tactic(auto, unfolding(crate::specs::AtomicBitSet::has, crate::specs::AtomicBitSet::word_of, crate::specs::AtomicBitSet::LacksBlock, crate::specs::AtomicBitSet::HasAllRoom))]
 
 ghost use Rattle.std.specs.Prelude.{◌≡◌, ◌≢◌, ℕ, ◌+◌, ◌-◌, ◌*◌, ◌/◌, ◌%◌, ◌<◌, ◌≤◌, ◌==◌, ◌||◌, ◌&&◌, not, if◌then◌else◌, Bool, true, false, OnOk, OnErr, IfOk, IsOk};
 ghost use Rattle.hibitset_base.specs.Words.{IsSummed, holds_at};
@@ -12,6 +12,7 @@ use hibitset_base::bits::with_bit;
 use hibitset_base::like::{BitSetLike, DrainableBitSet};
 use hibitset_base::util::{BITS, Index};
 use std::alloc::{AllocError, Global};
+use std::fmt::{self, Debug, Formatter};
 
 /// Members of an atomic set lie below this bound. It keeps four layers, whatever the number of layers of a `BitSet` is.
 pub const ATOMIC_MAX_EID: usize = 1 << (BITS * ATOMIC_LAYERS);
@@ -19,7 +20,7 @@ pub const ATOMIC_MAX_EID: usize = 1 << (BITS * ATOMIC_LAYERS);
 /// A set of indices below `ATOMIC_MAX_EID`, kept as words in four layers, that can be shared between threads.
 ///
 /// A bit of a layer above the lowest stands exactly over a word that is not 0, at all times. The fifth layer, which every set has, is not kept: its one word is 1 where there is a member, and else 0.
-#[derive(Debug, Drop)]
+#[derive(Drop)]
 pub struct AtomicBitSet {
     pub(crate) layers: Layers,
     ghost summed: { IsSummed ATOMIC_LAYERS (layer_word layers) },
@@ -27,7 +28,7 @@ pub struct AtomicBitSet {
 
 impl AtomicBitSet {
     ghost use Rattle.hibitset_atomic.specs.Blocks.{IsMade, HasRoom};
-    ghost use Rattle.hibitset_atomic.specs.AtomicBitSet.{has, word_of, HasNear, LacksBlock};
+    ghost use Rattle.hibitset_atomic.specs.AtomicBitSet.{has, word_of, HasNear, LacksBlock, HasAllRoom};
 
     /// The empty set.
     pub fn new(alloc: Global) -> Result<AtomicBitSet, AllocError>
@@ -92,6 +93,7 @@ impl AtomicBitSet {
         ensures was { result ≡ has self.old id }
         ensures put { (i : ℕ) → has self.new i ≡ (if i == id then stands else has self.old i) }
         ensures blocks { self.new.layers.layer0.places.items ≡ self.old.layers.layer0.places.items }
+        ensures room { HasRoom self.old.layers.layer0 → HasRoom self.new.layers.layer0 }
     {
         let place = id as usize / 64;
         let before = self.layers.layer0(place);
@@ -105,7 +107,7 @@ impl AtomicBitSet {
 
     /// Adds an index below `ATOMIC_MAX_EID`, and tells whether it was there. Where memory is refused the members stay.
     ///
-    /// It needs no memory where some member `j` has the same `j / 4096`, nor where the block of those 4,096 indices was made before: once made it stays. It makes no other block.
+    /// It needs no memory where some member `j` has the same `j / 4096`, nor where the block of those 4,096 indices was made before: once made it stays. It makes no other block. A set that `settle` made has room for all blocks, and needs memory for none.
     #[inline]
     pub fn add(&mut self, id: Index) -> Result<bool, AllocError>
         requires { id < ATOMIC_MAX_EID }
@@ -117,17 +119,20 @@ impl AtomicBitSet {
         ensures keeps { (i : ℕ) → LacksBlock self.new i → LacksBlock self.old i }
         ensures most { (i : ℕ) → i / 4096 ≢ id / 4096 → LacksBlock self.old i → LacksBlock self.new i }
         ensures stays { OnErr result ((i : ℕ) → LacksBlock self.old i → LacksBlock self.new i) }
+        ensures room { HasAllRoom self.old → IsOk result × HasAllRoom self.new }
     {
         self.layers.make(id as usize / 64)?;
         Ok(self.put(id, true))
     }
 
-    /// Takes an index out, and tells whether it was there. Blocks that were made stay.
+    /// Takes an index out, and tells whether it was there. Blocks that were made stay, and none is made.
     #[inline]
     pub fn remove(&mut self, id: Index) -> bool
         ensures was { result ≡ has self.old id }
         ensures removed { (i : ℕ) → has self.new i ≡ (has self.old i && not (i == id)) }
         ensures keeps { (i : ℕ) → LacksBlock self.new i → LacksBlock self.old i }
+        ensures most { (i : ℕ) → LacksBlock self.old i → LacksBlock self.new i }
+        ensures room { HasAllRoom self.old → HasAllRoom self.new }
     {
         if !self.contains(id) {
             return false;
@@ -144,10 +149,12 @@ impl AtomicBitSet {
         self.layers.layer0(index / 64) >> (index % 64) & 1 == 1
     }
 
-    /// Takes all members out, and keeps the memory: blocks that were made stay.
+    /// Takes all members out, and keeps the memory: blocks that were made stay, and none is made.
     pub fn clear(&mut self)
         ensures empty { (i : ℕ) → has self.new i ≡ false }
         ensures keeps { (i : ℕ) → LacksBlock self.new i → LacksBlock self.old i }
+        ensures most { (i : ℕ) → LacksBlock self.old i → LacksBlock self.new i }
+        ensures room { HasAllRoom self.old → HasAllRoom self.new }
     {
         self.layers.clear();
     }
@@ -199,16 +206,23 @@ impl BitSetLike for AtomicBitSet {
 }
 
 impl DrainableBitSet for AtomicBitSet {
-    ghost use Rattle.hibitset_atomic.specs.AtomicBitSet.{LacksBlock};
+    ghost use Rattle.hibitset_atomic.specs.AtomicBitSet.{KeepsBlocks, keeps_own_blocks, keeps_blocks_twice};
 
-    ghost keeps_room = { λ old new. (i : ℕ) → LacksBlock new i → LacksBlock old i };
+    ghost keeps_room = { KeepsBlocks };
 
-    ghost keeps_own = { λ s i lacks. lacks };
+    ghost keeps_own = { keeps_own_blocks };
 
-    ghost keeps_both = { λ a b c first second i lacks. first i (second i lacks) };
+    ghost keeps_both = { keeps_blocks_twice };
 
     #[inline]
     fn remove(&mut self, i: Index) -> bool {
         AtomicBitSet::remove(self, i)
+    }
+}
+
+/// It prints the members, in ascending order: `{5, 70000}`.
+impl Debug for AtomicBitSet {
+    fn fmt<W: fmt::Write>(&self, f: &mut Formatter<W>) -> fmt::Result {
+        f.debug_set().entries(self.iter()).finish()
     }
 }

@@ -10,7 +10,7 @@ const BLOCKS: usize = 4_096;
 /// 262,144 words in blocks of 64, each of which is made when it is first needed. The words of blocks that are not made are 0.
 ///
 /// One vector has all blocks, so a block is a request for memory only where the vector has to grow. Its first block has no bits: there the places of blocks that are not made lie, and reading needs no test.
-#[derive(Debug, Drop)]
+#[derive(Drop)]
 pub(crate) struct Blocks {
     pub(crate) places: Vec<u16>,
     pub(crate) words: Vec<usize>,
@@ -40,6 +40,7 @@ fn wipe_block(words: &mut Vec<usize>, start: usize)
     ensures inside { (p : ℕ) → start ≤ p → p < start + 64 → get_or words.new.items p 0 ≡ 0 }
     ensures before { (p : ℕ) → p < start → get_or words.new.items p 0 ≡ get_or words.old.items p 0 }
     ensures after { (p : ℕ) → start + 64 ≤ p → get_or words.new.items p 0 ≡ get_or words.old.items p 0 }
+    ensures room { vec_capacity words.new ≡ vec_capacity words.old }
 {
     for i in start..start + 64 {
         words[i] = 0;
@@ -146,6 +147,7 @@ impl Blocks {
         ensures inside { (p : ℕ) → p / 64 ≡ block → block_word self.new p ≡ 0 }
         ensures outside { (p : ℕ) → p / 64 ≢ block → block_word self.new p ≡ block_word self.old p }
         ensures made { self.new.places.items ≡ self.old.places.items }
+        ensures room { vec_capacity self.new.words ≡ vec_capacity self.old.words }
     {
         let place = self.places[block];
         wipe_block(&mut self.words, place as usize * 64);

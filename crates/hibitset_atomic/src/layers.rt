@@ -1,5 +1,5 @@
 //! The words of an atomic set: four layers, of which the lowest is made block by block.
-ghost use Rattle.std.specs.Prelude.{◌≡◌, ◌≢◌, ℕ, ◌+◌, ◌*◌, ◌/◌, ◌%◌, ◌^◌, ◌<◌, ◌≤◌, ◌↔◌, ◌-◌, ◌==◌, ◌&&◌, cond, bit_or, get_or, length, OnOk, OnErr, IfOk, IsOk};
+ghost use Rattle.std.specs.Prelude.{◌≡◌, ◌≢◌, ℕ, ◌+◌, ◌*◌, ◌/◌, ◌%◌, ◌^◌, ◌<◌, ◌≤◌, ◌↔◌, ◌-◌, ◌==◌, ◌&&◌, cond, bit_or, get_or, length, OnOk, OnErr, IfOk, IsOk, vec_capacity};
 ghost use Rattle.hibitset_base.specs.Words.{IsSummed};
 ghost use Rattle.hibitset_atomic.specs.Clearing.{IsCovered, IsClearUnder, IsSameBeside};
 ghost use Rattle.hibitset_atomic.specs.declared.layers.TheConstants.{ATOMIC_LAYERS};
@@ -14,7 +14,7 @@ pub(crate) const ATOMIC_LAYERS: usize = 4;
 /// The words of an atomic set. A set with one member takes some 42 KB: 32,768 bytes for layer 1, 8,192 for the places of the blocks, and two blocks of 512.
 ///
 /// It says nothing of summaries: an `AtomicBitSet` has these words with exact summaries.
-#[derive(Debug, Drop)]
+#[derive(Drop)]
 pub(crate) struct Layers {
     pub(crate) layer3: usize,
     pub(crate) layer2: Vec<usize>,
@@ -84,6 +84,7 @@ impl Layers {
         ensures outside { IsSameBeside (layer_word self.old) (layer_word self.new) place }
         ensures top { self.new.layer3 ≡ self.old.layer3 }
         ensures blocks { self.new.layer0.places.items ≡ self.old.layer0.places.items }
+        ensures room { vec_capacity self.new.layer0.words ≡ vec_capacity self.old.layer0.words }
     {
         let mut left = self.layer2[place];
         self.layer2[place] = 0;
@@ -99,6 +100,7 @@ impl Layers {
         requires { IsSummed ATOMIC_LAYERS (layer_word self.old) }
         ensures zero { (l p : ℕ) → layer_word self.new l p ≡ 0 }
         ensures blocks { self.new.layer0.places.items ≡ self.old.layer0.places.items }
+        ensures room { vec_capacity self.new.layer0.words ≡ vec_capacity self.old.layer0.words }
     {
         let mut left = self.layer3;
         self.layer3 = 0;

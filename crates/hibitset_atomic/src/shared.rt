@@ -1,17 +1,17 @@
 //! A set that threads add to.
 //!
-//! `AtomicBitSet::share` gives the set and a seat; `divide` gives seats for further threads, each of which adds and asks with its own; `join` puts seats together, and `settle` ends it. A call on the shared set takes no lock and tries nothing again: it makes at most eleven atomic steps, each of them sequentially consistent.
+//! `AtomicBitSet::share` gives the set and a seat; `divide` gives seats for further threads, each of which adds and asks with its own; `join` puts seats together, and `settle` ends it. A call on the shared set takes no lock and tries nothing again: it makes at most eleven atomic steps, each of them sequentially consistent. Loads and exchanges are counted where the words are touched, and its seat tells how many it has made (`loads_by`, `exchanges_by`).
 
-ghost use Rattle.std.specs.Prelude.{◌≡◌, ◌≢◌, ℕ, ◌+◌, ◌-◌, ◌/◌, ◌<◌, ◌≤◌, ◌⊎◌, true, false, [], ◌∷◌, ◌++◌, length, slice_index, IsOk, IfOk, IfSome, IsNone, IfErr, ◌↔◌};
+ghost use Rattle.std.specs.Prelude.{◌≡◌, ◌≢◌, ℕ, ◌+◌, ◌-◌, ◌*◌, ◌/◌, ◌<◌, ◌≤◌, ◌⊎◌, true, false, [], ◌∷◌, ◌++◌, length, slice_index, IsOk, IfOk, IfSome, IsNone, IfErr, ◌↔◌};
 ghost use Rattle.std.specs.Slots.{slots_items, slots_len, IsFull};
 ghost use Rattle.hibitset_atomic.specs.Lists.{Has, Apart, Distinct};
-ghost use Rattle.hibitset_atomic.specs.AtomicBitSet.{has, word_of};
+ghost use Rattle.hibitset_atomic.specs.AtomicBitSet.{has, word_of, HasAllRoom};
 ghost use Rattle.hibitset_atomic.specs.Blocks.{HasRoom};
 ghost use Rattle.hibitset_atomic.specs.Row.{word_in_row};
 ghost use Rattle.hibitset_base.specs.Words.{IsSummed};
 ghost use Rattle.hibitset_atomic.specs.declared.layers.TheConstants.{ATOMIC_LAYERS};
 ghost use Rattle.hibitset_atomic.specs.declared.atomic.TheConstants.{ATOMIC_MAX_EID};
-ghost use Rattle.hibitset_atomic.specs.Seats.{IsOld, Came, Known, weight_of, reports_of};
+ghost use Rattle.hibitset_atomic.specs.Seats.{IsOld, Came, Known, weight_of, reports_of, loads_by, exchanges_by, HasAllReports};
 
 use crate::atomic::{ATOMIC_MAX_EID, AtomicBitSet};
 use crate::layers::ATOMIC_LAYERS;
@@ -65,7 +65,8 @@ fn fill(closed: &Closed<(), Global>, set: &mut AtomicBitSet)
     requires closed { (slots_len closed.now.words ≡ 266305) × IsFull closed.now.words }
     requires empty { (p : ℕ) → word_of set.old 0 p ≡ 0 }
     requires room { HasRoom set.old.layers.layer0 }
-    ensures { (p : ℕ) → p < 262144 → word_of set.new 0 p ≡ slice_index (slots_items closed.now.words) p }
+    ensures words { (p : ℕ) → p < 262144 → word_of set.new 0 p ≡ slice_index (slots_items closed.now.words) p }
+    ensures room { HasRoom set.new.layers.layer0 }
 {
     for place in 0..262_144 {
         let word = closed.word(place) as usize;
@@ -79,11 +80,12 @@ impl AtomicBitSet {
     /// Hands the set over to many threads: the set that they add to, and its opening seat. The indices that were members are old from then on.
     ///
     /// The opening seat has all shares, weight 65,536, no reports, and knows nothing. All words of the four layers are made here, 2 MB, so that no call on the shared set needs memory until `settle`. Where that memory is refused, the set comes back unchanged.
-    #[tactic(auto, unfolding(crate::specs::Seats::Came, crate::specs::Seats::Known, crate::specs::Seats::IsOld, crate::specs::Seats::weight_of, crate::specs::Seats::reports_of))]
+    #[tactic(auto, unfolding(crate::specs::Seats::Came, crate::specs::Seats::Known, crate::specs::Seats::IsOld, crate::specs::Seats::weight_of, crate::specs::Seats::reports_of, crate::specs::Seats::loads_by, crate::specs::Seats::exchanges_by))]
     pub fn share(self) -> Result<(SharedBitSet, Seat), AtomicBitSet>
         ensures back { IfErr result (λ set. set ≡ self) }
         ensures came { IfOk result (λ r. Came r.0 r.1) }
         ensures opening { IfOk result (λ r. (weight_of r.1 ≡ 65536) × (reports_of r.1 ≡ []) × ((i : ℕ) → ¬ Known r.1 i)) }
+        ensures steps { IfOk result (λ r. (loads_by r.1 ≡ 0) × (exchanges_by r.1 ≡ 0)) }
         ensures old { IfOk result (λ r. (i : ℕ) → (has self i ≡ true) ↔ IsOld r.0 i) }
     {
         let alloc = self.allocator();
@@ -107,11 +109,11 @@ impl AtomicBitSet {
 impl SharedBitSet {
     /// Adds an index below `ATOMIC_MAX_EID`, and tells whether it was there, as `AtomicBitSet::add_atomic` of the original does, which takes no seat.
     ///
-    /// It answers false exactly where its own exchange put the index in, which is then the newest of the seat's reports; over all seats of a set this happens once for an index, and never for one that was there before `share`. When it returns, the seat knows the index: all four bits on the way to it stand, and stay.
+    /// It answers false exactly where its own exchange put the index in, which is then the newest of the seat's reports. It never does so for an index that was there before `share`; and no two seats that are joined have a report in common, as `join` says. When it returns, the seat knows the index: all four bits on the way to it stand, and stay.
     ///
-    /// It reads those four bits first, and where they stand it writes nothing and answers true. Else it exchanges in layer 0, and above it, from the lowest up, in each layer whose bit does not stand yet. It takes no memory and waits for nobody.
+    /// It reads those four bits first, and where they stand, as for an index that is old or known to the seat, it writes nothing and answers true. Else it exchanges in layer 0, and above it, from the lowest up, in each layer whose bit does not stand yet: seven loads and four exchanges at most. It takes no memory and waits for nobody.
     #[inline]
-    #[tactic(auto, unfolding(crate::specs::Seats::Came, crate::specs::Seats::Known, crate::specs::Seats::IsOld, crate::specs::Seats::weight_of, crate::specs::Seats::reports_of))]
+    #[tactic(auto, unfolding(crate::specs::Seats::Came, crate::specs::Seats::Known, crate::specs::Seats::IsOld, crate::specs::Seats::weight_of, crate::specs::Seats::reports_of, crate::specs::Seats::loads_by, crate::specs::Seats::exchanges_by))]
     pub fn add_atomic(&self, seat: &mut Seat, id: Index) -> bool
         requires id { id < ATOMIC_MAX_EID }
         requires came { Came self.now seat.old }
@@ -120,6 +122,9 @@ impl SharedBitSet {
         ensures there { result ≡ true → reports_of seat.new ≡ reports_of seat.old }
         ensures new { result ≡ false → (reports_of seat.new ≡ id ∷ reports_of seat.old) × ¬ IsOld self.now id × ¬ Known seat.old id }
         ensures once { result ≡ false → ¬ Has (reports_of seat.old) id }
+        ensures loads { loads_by seat.new ≤ loads_by seat.old + (2 * ATOMIC_LAYERS - 1) }
+        ensures exchanges { exchanges_by seat.new ≤ exchanges_by seat.old + ATOMIC_LAYERS }
+        ensures still { IsOld self.now id ⊎ Known seat.old id → (loads_by seat.new ≤ loads_by seat.old + ATOMIC_LAYERS) × (exchanges_by seat.new ≡ exchanges_by seat.old) }
     {
         if self.contains(seat, id) {
             return true;
@@ -129,7 +134,7 @@ impl SharedBitSet {
 
     // The exchanges, from layer 0 up, for an index that is neither old nor known to the seat: that of layer 0 always, and above it those whose bits do not stand by then.
     #[inline(never)]
-    #[tactic(auto, unfolding(crate::specs::Seats::Came, crate::specs::Seats::Known, crate::specs::Seats::IsOld, crate::specs::Seats::weight_of, crate::specs::Seats::reports_of))]
+    #[tactic(auto, unfolding(crate::specs::Seats::Came, crate::specs::Seats::Known, crate::specs::Seats::IsOld, crate::specs::Seats::weight_of, crate::specs::Seats::reports_of, crate::specs::Seats::loads_by, crate::specs::Seats::exchanges_by))]
     fn exchange(&self, seat: &mut Seat, id: Index) -> bool
         requires id { id < ATOMIC_MAX_EID }
         requires came { Came self.now seat.old }
@@ -138,6 +143,8 @@ impl SharedBitSet {
         ensures known { Known seat.new id × ((i : ℕ) → Known seat.old i → Known seat.new i) }
         ensures there { result ≡ true → reports_of seat.new ≡ reports_of seat.old }
         ensures new { result ≡ false → reports_of seat.new ≡ id ∷ reports_of seat.old }
+        ensures loads { loads_by seat.new ≡ loads_by seat.old + (ATOMIC_LAYERS - 1) }
+        ensures exchanges { exchanges_by seat.new ≤ exchanges_by seat.old + ATOMIC_LAYERS }
     {
         let there = self.enter(&mut seat.pass, id);
         self.mark(&mut seat.pass, id, 0);
@@ -148,15 +155,16 @@ impl SharedBitSet {
 
     /// Tells whether an index is there, as `AtomicBitSet::contains` of the original does, which takes no seat.
     ///
-    /// It is true of each index from before `share`, and of each that the seat knows; of another it is true only where all four bits on the way to it were seen to stand, and the seat knows it from then on. It is false from `ATOMIC_MAX_EID` on. It takes no memory and waits for nobody.
+    /// It is true of each index from before `share`, and of each that the seat knows; of another it is true only where all four bits on the way to it were seen to stand, and the seat knows it from then on. It is false from `ATOMIC_MAX_EID` on. It makes at most four loads and writes nothing. It takes no memory and waits for nobody.
     #[inline]
-    #[tactic(auto, unfolding(crate::specs::Seats::Came, crate::specs::Seats::Known, crate::specs::Seats::IsOld, crate::specs::Seats::weight_of, crate::specs::Seats::reports_of))]
+    #[tactic(auto, unfolding(crate::specs::Seats::Came, crate::specs::Seats::Known, crate::specs::Seats::IsOld, crate::specs::Seats::weight_of, crate::specs::Seats::reports_of, crate::specs::Seats::loads_by, crate::specs::Seats::exchanges_by))]
     pub fn contains(&self, seat: &mut Seat, id: Index) -> bool
         requires came { Came self.now seat.old }
         ensures came { Came self.now seat.new × (weight_of seat.new ≡ weight_of seat.old) × (reports_of seat.new ≡ reports_of seat.old) }
         ensures known { (i : ℕ) → Known seat.old i → Known seat.new i }
         ensures yes { result ≡ true → (id < ATOMIC_MAX_EID) × Known seat.new id }
         ensures no { result ≡ false → ¬ IsOld self.now id × ¬ Known seat.new id }
+        ensures steps { (loads_by seat.new ≤ loads_by seat.old + ATOMIC_LAYERS) × (exchanges_by seat.new ≡ exchanges_by seat.old) }
     {
         if id as usize >= ATOMIC_MAX_EID {
             return false;
@@ -169,8 +177,8 @@ impl SharedBitSet {
 
     /// Makes two seats of one: of weight w, the first has weight w - w / 2 and the second w / 2, rounded down. There is no second exactly where w is 1.
     ///
-    /// The reports stay with the first, and both know what the seat knew. It takes no memory and waits for nobody.
-    #[tactic(auto, unfolding(crate::specs::Seats::Came, crate::specs::Seats::Known, crate::specs::Seats::IsOld, crate::specs::Seats::weight_of, crate::specs::Seats::reports_of))]
+    /// The reports stay with the first, and so does the count of its steps; both know what the seat knew. It makes no step, takes no memory and waits for nobody.
+    #[tactic(auto, unfolding(crate::specs::Seats::Came, crate::specs::Seats::Known, crate::specs::Seats::IsOld, crate::specs::Seats::weight_of, crate::specs::Seats::reports_of, crate::specs::Seats::loads_by, crate::specs::Seats::exchanges_by))]
     pub fn divide(&self, seat: Seat) -> (Seat, Option<Seat>)
         requires { Came self.now seat }
         ensures came { Came self.now result.0 × IfSome result.1 (λ second. Came self.now second) }
@@ -178,6 +186,7 @@ impl SharedBitSet {
         ensures reports { (reports_of result.0 ≡ reports_of seat) × IfSome result.1 (λ second. reports_of second ≡ []) }
         ensures known { (i : ℕ) → Known seat i → Known result.0 i × IfSome result.1 (λ second. Known second i) }
         ensures one { IsNone result.1 ↔ (weight_of seat ≡ 1) }
+        ensures steps { (loads_by result.0 ≡ loads_by seat) × (exchanges_by result.0 ≡ exchanges_by seat) × IfSome result.1 (λ second. (loads_by second ≡ 0) × (exchanges_by second ≡ 0)) }
     {
         let Seat { mut pass, weight } = seat;
         if weight == 1 {
@@ -199,8 +208,8 @@ impl SharedBitSet {
 
     /// Makes one seat of two seats of this set: their weights, their reports and what they know, together.
     ///
-    /// No index is reported by both, none that was there before `share` is reported, and the weight is at most 65,536. It takes no memory and waits for nobody.
-    #[tactic(auto, unfolding(crate::specs::Seats::Came, crate::specs::Seats::Known, crate::specs::Seats::IsOld, crate::specs::Seats::weight_of, crate::specs::Seats::reports_of))]
+    /// No index is reported by both, none that was there before `share` is reported, and the weight is at most 65,536. It makes one load, takes no memory and waits for nobody.
+    #[tactic(auto, unfolding(crate::specs::Seats::Came, crate::specs::Seats::Known, crate::specs::Seats::IsOld, crate::specs::Seats::weight_of, crate::specs::Seats::reports_of, crate::specs::Seats::loads_by, crate::specs::Seats::exchanges_by))]
     pub fn join(&self, a: Seat, b: Seat) -> Seat
         requires { Came self.now a × Came self.now b }
         ensures came { Came self.now result }
@@ -210,6 +219,7 @@ impl SharedBitSet {
         ensures once { Distinct (reports_of result) }
         ensures honest { (i : ℕ) → Has (reports_of result) i → ¬ IsOld self.now i }
         ensures known { (i : ℕ) → Known a i ⊎ Known b i → Known result i }
+        ensures steps { (loads_by result ≡ loads_by a + loads_by b + 1) × (exchanges_by result ≡ exchanges_by a + exchanges_by b) }
     {
         let Seat { mut pass, weight } = a;
         let Seat {
@@ -225,10 +235,12 @@ impl SharedBitSet {
         }
     }
 
-    /// The set held alone again, with exact summaries. It has each index from before `share`, and each that the seat knows or reported; with a whole seat it has no others, so it then has exactly the old and the reported ones.
+    /// The set held alone again, with exact summaries. It has exactly the indices from before `share` and those that some seat of the set reported, this one or another: each that this seat knows or reported is one of them, and with a whole seat there are no reports but its own.
+    ///
+    /// There is room for all its blocks, so no `add` to it needs memory.
     ///
     /// It is refused for memory alone, which it takes first: then both come back unchanged, and it can be called again. A seat that was dropped took its shares with it, so no seat is whole after that.
-    #[tactic(auto, unfolding(crate::specs::Seats::Came, crate::specs::Seats::Known, crate::specs::Seats::IsOld, crate::specs::Seats::weight_of, crate::specs::Seats::reports_of, crate::specs::AtomicBitSet::has, crate::specs::AtomicBitSet::word_of))]
+    #[tactic(auto, unfolding(crate::specs::Seats::Came, crate::specs::Seats::Known, crate::specs::Seats::IsOld, crate::specs::Seats::weight_of, crate::specs::Seats::reports_of, crate::specs::Seats::loads_by, crate::specs::Seats::exchanges_by, crate::specs::Seats::HasAllReports, crate::specs::AtomicBitSet::has, crate::specs::AtomicBitSet::word_of, crate::specs::AtomicBitSet::HasAllRoom))]
     pub fn settle(self, seat: Seat) -> Result<AtomicBitSet, (SharedBitSet, Seat)>
         requires { Came self seat }
         ensures back { IfErr result (λ r. (r.0 ≡ self) × (r.1 ≡ seat)) }
@@ -236,8 +248,10 @@ impl SharedBitSet {
         ensures old { IfOk result (λ set. (i : ℕ) → IsOld self i → has set i ≡ true) }
         ensures known { IfOk result (λ set. (i : ℕ) → Known seat i → has set i ≡ true) }
         ensures reported { IfOk result (λ set. (i : ℕ) → Has (reports_of seat) i → has set i ≡ true) }
+        ensures all { IfOk result (λ set. HasAllReports self seat (has set)) }
         ensures whole { IfOk result (λ set. weight_of seat ≡ 65536 → (i : ℕ) → has set i ≡ true → IsOld self i ⊎ Has (reports_of seat) i) }
         ensures once { IsOk result → Distinct (reports_of seat) × ((i : ℕ) → Has (reports_of seat) i → ¬ IsOld self i) }
+        ensures room { IfOk result (λ set. HasAllRoom set) }
     {
         let Ok(mut set) = AtomicBitSet::with_room(self.alloc) else {
             return Err((self, seat));
@@ -261,7 +275,7 @@ impl Seat {
         self.weight
     }
 
-    /// Tells whether the seat has all shares, so that no other seat of its set is left.
+    /// Tells whether the seat has all 65,536 shares of its set. A set that settles with such a seat has the old indices and this seat's reports, and no others.
     #[tactic(auto, unfolding(crate::specs::Seats::weight_of))]
     pub fn is_whole(&self) -> bool
         ensures yes { result ≡ true → weight_of self.now ≡ 65536 }

@@ -1,4 +1,5 @@
 //! Values from outside: worked rows, and each public call at least once.
+mod again;
 mod building;
 mod callers;
 mod held;

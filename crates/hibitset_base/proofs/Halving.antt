@@ -25,7 +25,7 @@ bit_past n (suc p) j =
     rw (halved, next) (bit_past (n / 2) p j ∙ sym (bit_at-suc n (p + j)))
 
 -- as many bits stand from p on where the same ones do
-same_ones : (r n p : ℕ) → ((j : ℕ) → p ≤ j → bit_at r j ≡ bit_at n j) → count_ones (r / 2 ^ p) ≡ count_ones (n / 2 ^ p)
+pub same_ones : (r n p : ℕ) → ((j : ℕ) → p ≤ j → bit_at r j ≡ bit_at n j) → count_ones (r / 2 ^ p) ≡ count_ones (n / 2 ^ p)
 same_ones r n p same = ap count_ones (same_from_bits (r / 2 ^ p) (n / 2 ^ p) (λ j. bit_past r p j ∙ (same (p + j) (omega arith) ∙ sym (bit_past n p j))))
 
 module _ (r : ℕ) (some : 0 < r) (fits : r < 2 ^ 64) where

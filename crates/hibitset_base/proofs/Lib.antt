@@ -22,10 +22,10 @@ pub mod Passing
 pub mod Running
 pub mod Splitting
 pub mod Folding
+pub mod Filling
+pub mod Crossing
 pub mod Given
 pub mod Mending
-pub mod Shapes
-pub mod LayerByLayer
 pub mod Holding
 pub mod Building
 pub mod CallerLemmas

@@ -1,9 +1,10 @@
 -- One word of layer 0 is changed, and the summaries over it are set right from the lowest up.
-use Rattle.std.proofs.Common.{◌≡◌, ◌≢◌, ℕ, suc, ◌+◌, ◌*◌, ◌/◌, ◌%◌, ◌^◌, ◌<◌, ◌==◌, not, ◌↔◌, List, [], get_or, sym, ◌∙◌, ap, arith, inl, inr}
+use Rattle.std.proofs.Common.{◌≡◌, ◌≢◌, ℕ, suc, ◌+◌, ◌-◌, ◌*◌, ◌/◌, ◌%◌, ◌^◌, ◌<◌, ◌==◌, not, ◌↔◌, List, [], get_or, sym, ◌∙◌, ap, arith, lit<, inl, inr}
 use Rattle.std.specs.Int.{bit_at}
 use Rattle.std.proofs.Math.ListN.{set}
-use Rattle.std.proofs.Math.Nat.{pow-suc, div-div-eq-div-mul, eq-or-lt_of_le}
+use Rattle.std.proofs.Math.Nat.{pow-suc, div-div-eq-div-mul, div-lt_iff_lt-mul, one-le-pow, eq-or-lt_of_le}
 use Rattle.std.proofs.lemmas.Bool.{cases_lt}
+use Rattle.std.proofs.lemmas.Nat.{pow-add}
 use Rattle.std.proofs.lemmas.List.{get_or-set_other}
 use Rattle.hibitset_base.specs.Deciding.{same_or_not, some_bit}
 use Rattle.hibitset_base.specs.Sets.{bit_of}
@@ -13,6 +14,18 @@ use Rattle.hibitset_base.specs.Mended.{MendedUpTo}
 -- the way up, one layer more
 pub way_up : (q l : ℕ) → q / 64 ^ (l + 1) ≡ q / 64 ^ l / 64
 way_up q l = let s : l + 1 ≡ suc l = omega arith in rw (s, pow-suc 64 l) (sym (div-div-eq-div-mul q (64 ^ l) 64))
+
+-- places above a place lie in their layers
+pub place_within : (n l p : ℕ) → l < n → p < 64 ^ (n - 1) → p / 64 ^ l < 64 ^ (n - 1 - l)
+place_within n l p below within =
+    let sum : n - 1 - l + l ≡ n - 1 = omega arith in
+    let e : 64 ^ (n - 1) ≡ 64 ^ (n - 1 - l) * 64 ^ l = ap (λ x. 64 ^ x) (sym sum) ∙ pow-add 64 (n - 1 - l) l in
+    let some : 0 < 64 ^ l = one-le-pow l 64 (lit< tt) in
+    (div-lt_iff_lt-mul some).1 (rw e at within)
+
+-- the same words have the same summaries
+pub summed_same : (n : ℕ) (w v : ℕ → ℕ → ℕ) → ((l p : ℕ) → v l p ≡ w l p) → IsSummed n w → IsSummed n v
+summed_same n w v same summed = record { summed = λ l p b below small. rw (same (l + 1) p, same l (64 * p + b)) (summed.summed l p b below small) }
 
 pub mended_first : (w v : ℕ → ℕ → ℕ) (q : ℕ) → ((l p : ℕ) → l ≢ 0 → v l p ≡ w l p) → ((p : ℕ) → p ≢ q → v 0 p ≡ w 0 p) → MendedUpTo 0 w v q
 mended_first w v q layers others = record {

@@ -19,6 +19,10 @@ IsIntersection set other result = (i : ℕ) → result i ≡ (set i && other i)
 abbrev pub IsUnion : (ℕ → Bool) → (ℕ → Bool) → (ℕ → Bool) → Type 0
 IsUnion set other result = (i : ℕ) → result i ≡ (set i || other i)
 
+-- the result has exactly the numbers of the set that the other lacks
+abbrev pub IsDifference : (ℕ → Bool) → (ℕ → Bool) → (ℕ → Bool) → Type 0
+IsDifference set other result = (i : ℕ) → result i ≡ (set i && not (other i))
+
 -- the result has exactly the numbers that are in one of the two alone
 abbrev pub IsExclusive : (ℕ → Bool) → (ℕ → Bool) → (ℕ → Bool) → Type 0
 IsExclusive set other result = (i : ℕ) → result i ≡ differ (set i) (other i)

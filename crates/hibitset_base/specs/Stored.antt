@@ -1,10 +1,10 @@
 -- A set that keeps its words has exact summaries, and so it is lawful.
-use Rattle.std.specs.Prelude.{◌≡◌, ℕ, zero, suc, ◌+◌, ◌*◌, ◌/◌, ◌%◌, ◌<◌, ◌==◌, List, refl}
+use Rattle.std.specs.Prelude.{◌≡◌, ℕ, zero, suc, ◌+◌, ◌*◌, ◌/◌, ◌%◌, ◌<◌, ◌==◌, refl}
 use Rattle.std.specs.Int.{bit_at}
 use Rattle.std.proofs.Common.{arith}
 use Rattle.std.proofs.lemmas.Nat.Bits.{bit_at-lt}
 use Rattle.hibitset_base.specs.Sets.{IsLawful, IsExact, bit_of}
-use Rattle.hibitset_base.specs.Words.{IsSummed, IsStored, word_at, holds_at}
+use Rattle.hibitset_base.specs.Words.{IsSummed, holds_at}
 
 test_of : (x : ℕ) → x < 2 → x ≡ bit_of (x == 1)
 test_of zero below = refl
@@ -25,9 +25,3 @@ summed_lawful n {w} exact = record {
 
 pub summed_exact : (n : ℕ) {w : ℕ → ℕ → ℕ} → IsSummed n w → IsExact n w
 summed_exact n sums = record { exact = λ l p b below within small. sums.summed l p b below small }
-
-pub stored_lawful : (n : ℕ) {layers : List (List ℕ)} → IsStored n layers → IsLawful n (holds_at (word_at layers)) (word_at layers)
-stored_lawful n stored = summed_lawful n stored.summed
-
-pub stored_exact : (n : ℕ) {layers : List (List ℕ)} → IsStored n layers → IsExact n (word_at layers)
-stored_exact n stored = summed_exact n stored.summed

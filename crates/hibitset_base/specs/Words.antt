@@ -19,8 +19,3 @@ pub record IsShaped (n : ℕ) (layers : List (List ℕ)) : Type 0 where
   pub words : (l p : ℕ) → word_at layers l p < 2 ^ 64
   pub short : (l : ℕ) → l < n → length (get_or layers l []) ≤ 64 ^ (n - 1 - l)
   pub covered : (l : ℕ) → l + 2 < n → length (get_or layers l []) ≤ 64 * length (get_or layers (l + 1) [])
-
--- what a set keeps of its words at all times
-pub record IsStored (n : ℕ) (layers : List (List ℕ)) : Type 0 where
-  pub shaped : IsShaped n layers
-  pub summed : IsSummed n (word_at layers)

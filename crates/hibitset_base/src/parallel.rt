@@ -7,7 +7,7 @@ ghost use Rattle.hibitset_base.specs.Cursor.{IsAlone, IsOneBelow};
 ghost use Rattle.hibitset_base.specs.Cutting.{HasOneMask};
 ghost use Rattle.hibitset_base.specs.Walk.{set_of, items_left, masks_left, words_read, IsDrawn};
 ghost use Rattle.hibitset_base.specs.Dividing.{IsUndivided, IsDivided};
-ghost use Rattle.hibitset_base.specs.Splits.{range_size, LieInOneRange, ShareNoRange, AreWords, part_set, part_items, other_items, PartIsDrawn, PartHasOneMask, IsOfTheSame, part_reads, SplitReads};
+ghost use Rattle.hibitset_base.specs.Splits.{range_size, LieInOneRange, ShareNoRange, AreWords, part_set, part_items, other_items, PartIsDrawn, PartHasOneMask, AreHalves, IsOfTheSame, part_reads, SplitReads};
 ghost use Rattle.std.specs.List.{FoldsTo};
 ghost use Rattle.hibitset_base.specs.declared.util.TheConstants.{LAYERS};
 
@@ -19,6 +19,7 @@ use std::fmt::Debug;
 
 mod driver;
 mod par_iter;
+mod pieces;
 mod size;
 
 use self::driver::fold_walk;
@@ -75,13 +76,14 @@ fn divide<'a, T: BitSetLike>(walk: &mut BitIter<&'a T>, looks: usize) -> Option<
 impl<'a, T: BitSetLike + Send + Sync> BitProducer<'a, T> {
     /// Splits the work in two, the lower items and the higher ones. The number of layers to look at is at most 4.
     ///
-    /// Where more than one mask has bits, it answers none and the producer unchanged. Else it looks at the layers from the top one on: the first that has two bits or more is cut at its halving bit, and under one bit it goes down. So it may answer none and still have gone down.
+    /// Where more than one mask has bits, it answers none and the producer unchanged. Else it looks at the layers from the top one on: under one bit it goes down, and the first layer that has two bits or more is cut at its halving bit. Both parts then have as many bits left to visit, or the first one more. So it may answer none and still have gone down. How many items lie under each half is not said.
     pub fn split(self) -> (Self, Option<Self>)
         requires { self.1 < LAYERS }
         ensures items { part_items T.holds self.entry ≡ part_items T.holds result.0 ++ other_items T.holds result.1 }
         ensures more_masks { ¬ PartHasOneMask LAYERS self.entry → (result.0 ≡ self.entry) × (result.1 ≡ None) }
         ensures none { PartHasOneMask LAYERS self.entry → result.1 ≡ None → LieInOneRange (range_size LAYERS self.entry.1) (part_items T.holds self.entry) }
         ensures apart { IfSome result.1 (λ other. ShareNoRange (range_size LAYERS self.entry.1) (part_items T.holds result.0) (part_items T.holds other)) }
+        ensures half { IfSome result.1 (AreHalves result.0) }
         ensures some { IsExact LAYERS (T.word (part_set self.entry)) → AreWords (T.word (part_set self.entry)) → PartIsDrawn T.word self.entry → IfSome result.1 (λ other. (0 < length (part_items T.holds result.0)) × (0 < length (part_items T.holds other))) }
         ensures same { IsOfTheSame self.entry result.0 × IfSome result.1 (IsOfTheSame self.entry) }
         ensures drawn { PartIsDrawn T.word self.entry → PartIsDrawn T.word result.0 × IfSome result.1 (PartIsDrawn T.word) }

@@ -1,5 +1,5 @@
 //! Values from outside: the arithmetic of indices.
-use crate::laws::laws;
+use crate::laws::virtual_laws;
 use crate::util::{Index, Row, SHIFT0, SHIFT1, SHIFT2, SHIFT3, SHIFT4, offsets};
 use crate::virt::BitSetAll;
 
@@ -36,5 +36,5 @@ fn index_vectors(rt: HostRuntime) {
         );
         assert_eq!(rt; index.offset(SHIFT0), index as usize);
     }
-    laws::<BitSetAll, BitSetAll, BitSetAll>();
+    virtual_laws::<BitSetAll, BitSetAll, BitSetAll>();
 }

@@ -15,7 +15,7 @@ use std::alloc::AllocError;
 pub struct BitSetAnd<A: BitSetLike, B: BitSetLike>(pub A, pub B);
 
 impl<A: BitSetLike + Clone, B: BitSetLike + Clone> BitSetAnd<A, B> {
-    /// The same set over clones of the operands. It takes no memory but what cloning them takes.
+    /// The same set over clones of the operands. It can't be refused memory where no clone of an operand can be.
     ///
     /// A clone of an operand is the same set.
     pub fn clone(&self) -> Result<Self, AllocError>
@@ -98,7 +98,7 @@ impl<A: DrainableBitSet, B: DrainableBitSet> DrainableBitSet for BitSetAnd<A, B>
 pub struct BitSetOr<A: BitSetLike, B: BitSetLike>(pub A, pub B);
 
 impl<A: BitSetLike + Clone, B: BitSetLike + Clone> BitSetOr<A, B> {
-    /// The same set over clones of the operands. It takes no memory but what cloning them takes.
+    /// The same set over clones of the operands. It can't be refused memory where no clone of an operand can be.
     ///
     /// A clone of an operand is the same set.
     pub fn clone(&self) -> Result<Self, AllocError>
@@ -178,7 +178,7 @@ impl<A: DrainableBitSet, B: DrainableBitSet> DrainableBitSet for BitSetOr<A, B> 
 pub struct BitSetXor<A: BitSetLike, B: BitSetLike>(pub A, pub B);
 
 impl<A: BitSetLike + Clone, B: BitSetLike + Clone> BitSetXor<A, B> {
-    /// The same set over clones of the operands. It takes no memory but what cloning them takes.
+    /// The same set over clones of the operands. It can't be refused memory where no clone of an operand can be.
     ///
     /// A clone of an operand is the same set.
     pub fn clone(&self) -> Result<Self, AllocError>
@@ -236,7 +236,7 @@ impl<A: BitSetLike, B: BitSetLike> BitSetLike for BitSetXor<A, B> {
 pub struct BitSetNot<A: BitSetLike>(pub A);
 
 impl<A: BitSetLike + Clone> BitSetNot<A> {
-    /// The same set over a clone of the operand. It takes no memory but what cloning it takes.
+    /// The same set over a clone of the operand. It can't be refused memory where no clone of the operand can be.
     ///
     /// A clone of the operand is the same set.
     pub fn clone(&self) -> Result<Self, AllocError>
@@ -292,7 +292,7 @@ impl<A: BitSetLike> BitSetLike for BitSetNot<A> {
 pub struct BitSetAll;
 
 impl BitSetAll {
-    /// The same set. It takes no memory.
+    /// The same set. It can't be refused memory.
     pub fn clone(&self) -> Result<Self, AllocError>
         ensures { IsOk result }
     {

@@ -2,6 +2,7 @@
 #![tactic(auto, unfolding(crate::specs::Walk::items_left, crate::specs::Walk::set_of))]
 
 ghost use Rattle.std.specs.Prelude.{◌≡◌, ℕ, List, ◌+◌, ◌-◌, ◌%◌, ◌^◌, ◌<◌, ◌≤◌, ◌++◌, [], length, take, MatchOption, IfSome, IfOk, None};
+ghost use Rattle.std.specs.Int.RustNames.{count_ones};
 ghost use Rattle.hibitset_base.specs.Members.{members_below};
 ghost use Rattle.hibitset_base.specs.Sets.{IsExact};
 ghost use Rattle.hibitset_base.specs.First.{IsFirst, HasNone};
@@ -234,14 +235,58 @@ pub(crate) fn list_members<T: BitSetLike>(set: &T, alloc: Global) -> Result<Vec<
 }
 
 // How many items a walk has left.
-pub(crate) fn count_walk<T: BitSetLike>(walk: BitIter<T>) -> usize
-    requires { length (items_left T.holds walk) < 2 ^ 64 }
-    ensures { result ≡ length (items_left T.holds walk) }
+pub(crate) fn count_walk<T: BitSetLike>(walk: &BitIter<T>) -> usize
+    requires { length (items_left T.holds walk.now) < 2 ^ 64 }
+    ensures { result ≡ length (items_left T.holds walk.now) }
 {
-    let BitIter {
-        set,
-        mut cursor,
-        mut reads,
-    } = walk;
-    count_left(&set, &mut cursor, &mut reads)
+    let mut reads = Reads::none();
+    let mut cursor = walk.cursor.copied();
+    count_left(&walk.set, &mut cursor, &mut reads)
+}
+
+// Writes the indices of a word's bits into a list one by one, from a place on, and answers the place after them.
+#[inline]
+fn write_exactly(list: &mut [Index], at: usize, start: Index, word: usize) -> usize
+    requires room { at + count_ones word ≤ length list.old }
+    requires aligned { start % 64 ≡ 0 }
+    ensures written { take result list.new ≡ take at list.old ++ bits_from start word }
+    ensures within { result ≤ length list.new }
+{
+    let mut rest = word;
+    let mut end = at;
+    'bits: while rest != 0 {
+        rest = write_bit(list, end, start, rest);
+        end += 1;
+    }
+    at + word.count_ones() as usize
+}
+
+// The same, where there is room for the word's bits, and mostly for more.
+#[inline]
+fn write_word(list: &mut [Index], at: usize, start: Index, word: usize) -> usize
+    requires room { at + count_ones word ≤ length list.old }
+    requires aligned { start % 64 ≡ 0 }
+    requires within { start < MAX_EID }
+    ensures written { take result list.new ≡ take at list.old ++ bits_from start word }
+    ensures within { result ≤ length list.new }
+{
+    if list.len() - at < 68 {
+        return write_exactly(list, at, start, word);
+    }
+    write_bits(list, at, start, word)
+}
+
+// Writes the items that a walk has left into a list, from a place on, and answers the place after them.
+pub(crate) fn write_walk<T: BitSetLike>(walk: &BitIter<T>, list: &mut [Index], at: usize) -> usize
+    requires { at + length (items_left T.holds walk.now) ≤ length list.old }
+    ensures written { take result list.new ≡ take at list.old ++ items_left T.holds walk.now }
+    ensures within { result ≤ length list.new }
+{
+    let mut reads = Reads::none();
+    let mut cursor = walk.cursor.copied();
+    let mut end = at;
+    'words: while let Some((start, word)) = step_word(&walk.set, &mut cursor, &mut reads) {
+        end = write_word(list, end, start, word);
+    }
+    end
 }

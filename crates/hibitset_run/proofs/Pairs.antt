@@ -7,7 +7,7 @@ use Rattle.std.proofs.lemmas.List.{nil_from_length}
 use Rattle.hibitset.specs.declared.set.BitSet.{BitSet}
 use Rattle.hibitset.specs.BitSet.{has}
 use Rattle.hibitset.proofs.Comparing.{same_of_test}
-use Rattle.hibitset.proofs.Within.{all_members}
+use Rattle.hibitset.proofs.Within.{has_is_member}
 use Rattle.hibitset.proofs.Equality.{same_list}
 use Rattle.hibitset_base.specs.Virtual.{differ}
 use Rattle.hibitset_base.specs.Connectives.{is_member, IsIntersection, IsUnion, IsExclusive}
@@ -90,10 +90,10 @@ module _ (kept : List BitSet) (slot other : Slot) (d e left new : BitSet) (long 
   and_two members = (refl, merged ◌&&◌ members)
 
   pub or_two : IsUnion (has ours) (is_member (has others)) (has new) → IsStep (command.Or slot other) (sets_of kept) done (sets_of (set (set kept (slot_number slot) left) (slot_number slot) new))
-  or_two members = (refl, merged ◌||◌ (λ i. members i ∙ ap (λ x. has ours i || x) (all_members others i)))
+  or_two members = (refl, merged ◌||◌ (λ i. members i ∙ ap (λ x. has ours i || x) (has_is_member others i)))
 
   pub xor_two : IsExclusive (has ours) (is_member (has others)) (has new) → IsStep (command.Xor slot other) (sets_of kept) done (sets_of (set (set kept (slot_number slot) left) (slot_number slot) new))
-  xor_two members = (refl, merged differ (λ i. members i ∙ ap (λ x. differ (has ours i) x) (all_members others i)))
+  xor_two members = (refl, merged differ (λ i. members i ∙ ap (λ x. differ (has ours i) x) (has_is_member others i)))
 
   put_back : ((i : ℕ) → has new i ≡ has ours i) → sets_of (set (set kept (slot_number slot) left) (slot_number slot) new) ≡ sets_of kept
   put_back same = sets_of-put_back_same kept slot d long left new same

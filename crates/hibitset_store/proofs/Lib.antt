@@ -4,5 +4,4 @@ pub mod Sizing
 pub mod Filling
 pub mod Joining
 pub mod Bounding
-pub mod Counting
 pub mod CallerLemmas

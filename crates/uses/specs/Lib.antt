@@ -1,4 +1,8 @@
+pub mod Budget
 pub mod Filter
 pub mod Ids
+pub mod Lists
 pub mod Pages
 pub mod Ready
+pub mod Turns
+pub mod Weights

@@ -31,7 +31,7 @@ impl Ids {
         self.used.contains(id)
     }
 
-    /// Gives the lowest free identifier, which is in use from then on, or `None` where all are in use. Where memory is refused nothing changes. To find it, a word is read for each 64 identifiers before it.
+    /// Gives the lowest free identifier, which is in use from then on, or `None` where all are in use. Where memory is refused nothing changes. To find it, the words of all identifiers before it are read, since a complement has every summary bit; no contract says how many these are.
     pub fn alloc(&mut self) -> Result<Option<Index>, AllocError>
         ensures lowest { IfOk result (λ given. MatchOption given (HasNone MAX_EID (is_free self.old)) (IsFirst MAX_EID (is_free self.old))) }
         ensures taken { IfOk result (λ given. MatchOption given

@@ -1,11 +1,15 @@
 //! Callers of `hibitset`, each with a contract of its own that is proved from the public contracts alone.
 #![tactic(auto)]
 
+pub mod budget;
 pub mod filter;
 pub mod ids;
+pub mod lists;
 pub mod pages;
 pub mod ready;
+pub mod room;
 pub mod shared_ids;
 #[cfg(test)]
 mod tests;
 pub mod walks;
+pub mod weights;

@@ -1,5 +1,5 @@
 //! Tasks that are ready to run, the lowest first.
-ghost use Rattle.std.specs.Prelude.{◌≡◌, ℕ, ◌/◌, ◌<◌, ◌≤◌, ◌==◌, ◌||◌, ◌&&◌, not, false, OnErr, IfOk, IsOk, OnOk, MatchOption};
+ghost use Rattle.std.specs.Prelude.{◌≡◌, ℕ, ◌/◌, ◌<◌, ◌≤◌, ◌==◌, ◌||◌, ◌&&◌, not, true, false, OnErr, IfOk, IsOk, OnOk, MatchOption};
 ghost use Rattle.hibitset_base.specs.First.{IsFirst, HasNone};
 ghost use Rattle.hibitset_base.specs.declared.util.TheConstants.{MAX_EID};
 ghost use Rattle.hibitset.specs.BitSet.{slice_len};
@@ -53,6 +53,15 @@ impl Ready {
         let task = self.tasks.first()?;
         self.tasks.remove(task);
         Some(task)
+    }
+
+    /// No task below this one is ready. It is the first that is, or `MAX_EID` where none is.
+    pub fn idle_below(&self) -> Index
+        ensures idle { (task : ℕ) → task < result → is_ready self.now task ≡ false }
+        ensures ready { result < MAX_EID → is_ready self.now result ≡ true }
+        ensures within { result ≤ MAX_EID }
+    {
+        self.tasks.first().unwrap_or(MAX_EID as Index)
     }
 
     /// Takes the first ready task from `start` on, or none where none is ready there. A caller that goes on after the task that it was given, and from 0 where it was given none, gives each task its turn.

@@ -1,5 +1,5 @@
 //! Identifiers that many threads take from one set, none of them twice.
-ghost use Rattle.std.specs.Prelude.{◌≡◌, ℕ, ◌+◌, ◌<◌, ◌≤◌, ◌∷◌, [], IfSome, IfNone, length, reverse};
+ghost use Rattle.std.specs.Prelude.{◌≡◌, ◌⊎◌, ℕ, ◌+◌, ◌<◌, ◌≤◌, ◌∷◌, [], true, IfSome, IfNone, length, reverse};
 ghost use Rattle.hibitset_atomic.specs.declared.atomic.TheConstants.{ATOMIC_MAX_EID};
 ghost use Rattle.hibitset_atomic.specs.Lists.{Has};
 ghost use Rattle.hibitset_atomic.specs.Seats.{IsOld, Came, Known, weight_of, reports_of};
@@ -7,16 +7,17 @@ ghost use Rattle.hibitset_atomic.specs.Seats.{IsOld, Came, Known, weight_of, rep
 use hibitset::{ATOMIC_MAX_EID, Index, Seat, SharedBitSet};
 use std::alloc::Global;
 
-/// The identifiers that a thread took, in the order in which it took them, with its seat.
+/// The identifiers that a thread took, in the order in which it took them, with its seat, and whether it was refused memory for more.
 #[derive(Drop)]
 pub struct Taken {
     pub seat: Seat,
     pub ids: Vec<Index>,
+    pub refused: bool,
 }
 
 /// Takes a fresh identifier: the first from `start` on that the seat's own exchange puts in, of so many tries below `ATOMIC_MAX_EID`, or none where all of these were there.
 ///
-/// It was not there when the set was shared, nor did the seat know it, and it is the newest of the seat's reports from then on. No two seats of a set have a report in common, as `join` and `settle` say, so no other seat is given it, whatever the other threads do.
+/// It was not there when the set was shared, nor did the seat know it, and it is the newest of the seat's reports from then on. No two seats that are joined have a report in common, as `join` says, so no other of them is given it, whatever the threads do.
 pub fn take_fresh(set: &SharedBitSet, seat: &mut Seat, start: Index, tries: u32) -> Option<Index>
     requires { Came set.now seat.old }
     ensures came { Came set.now seat.new × (weight_of seat.new ≡ weight_of seat.old) }
@@ -37,25 +38,39 @@ pub fn take_fresh(set: &SharedBitSet, seat: &mut Seat, start: Index, tries: u32)
     None
 }
 
-/// Takes so many fresh identifiers with a new seat, or fewer where no more are found or memory is refused. Room is made before one is taken, so that none is lost.
+// Takes so many fresh identifiers into a list, or fewer where no more are found, or where memory is refused, which it tells.
+fn take_into(set: &SharedBitSet, seat: &mut Seat, ids: &mut Vec<Index>, count: usize) -> bool
+    requires came { Came set.now seat.old }
+    requires none { (reports_of seat.old ≡ []) × (ids.old.items ≡ []) }
+    ensures came { Came set.now seat.new × (weight_of seat.new ≡ weight_of seat.old) }
+    ensures taken { reports_of seat.new ≡ reverse ids.new.items }
+    ensures count { length ids.new.items ≤ count }
+    ensures short { (length ids.new.items ≡ count) ⊎ (result ≡ true) ⊎ ((i : ℕ) → i < ATOMIC_MAX_EID → Known seat.new i) }
+{
+    let mut start = 0;
+    for _ in 0..count {
+        if ids.reserve(1).is_err() {
+            return true;
+        }
+        let Some(id) = take_fresh(set, seat, start, u32::MAX) else {
+            return false;
+        };
+        ids.push(id).unwrap();
+        start = id + 1;
+    }
+    false
+}
+
+/// Takes so many fresh identifiers with a new seat. It takes fewer only where memory for the list is refused, as `refused` tells, and where each index below `ATOMIC_MAX_EID` is there, as the seat then knows. Room is made before one is taken, so that none is lost.
 pub fn take_many(alloc: Global, set: &SharedBitSet, seat: Seat, count: usize) -> Taken
     requires { Came set.now seat × (reports_of seat ≡ []) }
     ensures came { Came set.now result.seat × (weight_of result.seat ≡ weight_of seat) }
     ensures taken { reports_of result.seat ≡ reverse result.ids.items }
     ensures count { length result.ids.items ≤ count }
+    ensures short { (length result.ids.items ≡ count) ⊎ (result.refused ≡ true) ⊎ ((i : ℕ) → i < ATOMIC_MAX_EID → Known result.seat i) }
 {
     let mut seat = seat;
     let mut ids = Vec::new(alloc);
-    let mut start = 0;
-    for _ in 0..count {
-        if ids.reserve(1).is_err() {
-            break;
-        }
-        let Some(id) = take_fresh(set, &mut seat, start, u32::MAX) else {
-            break;
-        };
-        ids.push(id).unwrap();
-        start = id + 1;
-    }
-    Taken { seat, ids }
+    let refused = take_into(set, &mut seat, &mut ids, count);
+    Taken { seat, ids, refused }
 }

@@ -7,8 +7,11 @@ use crate::walks::{first, indices};
 use hibitset::{AtomicBitSet, Index, Seat, SharedBitSet};
 use std::test::Fail;
 
+mod atomic_lists;
 mod held;
+mod rows;
 mod shared;
+mod turns;
 
 // Adds the indices below a count, and counts the answers false.
 fn add_below(set: &SharedBitSet, seat: &mut Seat, count: u32) -> u32

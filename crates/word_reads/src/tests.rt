@@ -1,7 +1,10 @@
 //! Values from outside: walks and assignments over types of the tests' own, which count or list the words that are read, or have all bits in the layers above the lowest.
+mod clones;
+mod parts;
 mod reach;
 mod reads;
 mod strangers;
+mod virtual_sets;
 mod words;
 
 use hibitset::util::MAX_EID;

@@ -139,3 +139,53 @@ fn room_for_words_alone(rt: HostRuntime) -> Result<(), Fail> {
     assert_eq!(rt; five.layer0_as_slice().len(), 1);
     Ok(())
 }
+
+#[test]
+fn differences(rt: HostRuntime) -> Result<(), Fail> {
+    let rows: [(&[Index], &[Index], &[Index], usize); 8] = [
+        (
+            &[1, 3, 5, 15, 200, 50001],
+            &[1, 3, 50000, 50001],
+            &[5, 15, 200],
+            1,
+        ),
+        (&[0, 262144], &[0], &[262144], 2),
+        (&[0, 262144], &[262144], &[0], 1),
+        (&[63, 64, 4095, 4096], &[64, 4095], &[63, 4096], 1),
+        (&[1073741823], &[1073741822], &[1073741823], 0),
+        (&[5], &[5, 1073741823], &[], 0),
+        (&[], &[5], &[], 0),
+        (&[5, 300000], &[], &[5, 300000], 3),
+    ];
+    for (ours, theirs, left, layer3) in rows {
+        let mut set = set_of(rt.alloc(), ours)?;
+        let words = set.layer0_as_slice().len();
+        let other = set_of(rt.alloc(), theirs)?;
+        set.subtract_assign(&other);
+        assert_eq!(rt;
+            list(rt.alloc(), &set)?.as_slice(),
+            left,
+            "{ours:?} without {theirs:?}"
+        );
+        assert_eq!(rt; set.layer3(0), layer3, "{ours:?} without {theirs:?}");
+        assert_eq!(rt; set.is_empty(), left.is_empty(), "{ours:?} without {theirs:?}");
+        assert_eq!(rt; set.layer0_as_slice().len(), words, "{ours:?} without {theirs:?}");
+        let once = set.clone()?;
+        set.subtract_assign(&other);
+        assert!(rt; set == once, "{ours:?} without {theirs:?}, twice");
+    }
+    Ok(())
+}
+
+#[test]
+fn differences_with_virtual_sets(rt: HostRuntime) -> Result<(), Fail> {
+    let a = set_of(rt.alloc(), &[4, 4096, 300_000])?;
+    let b = set_of(rt.alloc(), &[4097, 300_000])?;
+    let mut set = a.clone()?;
+    set.subtract_assign(&BitSetAnd(&a, &b));
+    assert_eq!(rt; list(rt.alloc(), &set)?.as_slice(), [4, 4096].as_slice());
+    let mut set = a.clone()?;
+    set.subtract_assign(&!&b);
+    assert_eq!(rt; list(rt.alloc(), &set)?.as_slice(), [300_000].as_slice());
+    Ok(())
+}

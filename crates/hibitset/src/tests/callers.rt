@@ -1,10 +1,11 @@
 //! What callers know of walks and assignments, from the public contracts alone.
-ghost use Rattle.std.specs.Prelude.{◌≡◌, ℕ, ◌+◌, ◌-◌, ◌≤◌, ◌&&◌, length, IfOk, OnOk, OnErr};
+ghost use Rattle.std.specs.Prelude.{◌≡◌, ℕ, ◌+◌, ◌-◌, ◌*◌, ◌^◌, ◌<◌, ◌≤◌, ◌&&◌, true, length, IfOk, OnOk, OnErr};
 ghost use Rattle.hibitset_base.specs.Connectives.{IsIntersection, IsUnion, IsExclusive};
 ghost use Rattle.hibitset_base.specs.Members.{members, members_below};
 ghost use Rattle.hibitset_base.specs.Walk.{IsDrawn, words_read, words_ahead, items_left};
 ghost use Rattle.hibitset_base.specs.declared.util.TheConstants.{LAYERS, MAX_EID};
-ghost use Rattle.hibitset.specs.BitSet.{has, word_of};
+ghost use Rattle.hibitset.specs.BitSet.{has, word_of, slice_len};
+ghost use Rattle.hibitset.specs.Merging.{NoWordsFrom};
 
 use crate::laws::laws;
 use crate::tests::set_of;
@@ -100,6 +101,48 @@ fn exchange(set: &mut BitSet, other: &BitSet) -> Result<(), AllocError>
 {
     laws();
     set.bitxor_assign(other)
+}
+
+// A set of one index below 64, which takes one word of each layer and no more.
+fn alone(alloc: Global, id: Index) -> Result<BitSet, AllocError>
+    requires { id < 64 }
+    ensures member { IfOk result (λ set. has set id ≡ true) }
+    ensures words { IfOk result (λ set. (l : ℕ) → l < LAYERS - 1 → slice_len set l ≤ 1) }
+{
+    let mut set = BitSet::new(alloc);
+    set.add(id)?;
+    Ok(set)
+}
+
+// Room for the indices below 4,096, which are 64 words of layer 0 and one of each layer above.
+fn room_for_a_block(alloc: Global) -> Result<BitSet, AllocError>
+    ensures lowest { IfOk result (λ set. slice_len set 0 ≡ 64) }
+    ensures above { IfOk result (λ set. (slice_len set 1 ≤ 1) × (slice_len set 2 ≤ 1) × (slice_len set 3 ≤ 1)) }
+{
+    let set = BitSet::with_capacity(alloc, 4_096)?;
+    Ok(set)
+}
+
+// Adds a set without words from `end` on, in the words of layer 3.
+fn widen_within(set: &mut BitSet, other: &BitSet, end: usize) -> Result<(), AllocError>
+    requires ours { slice_len set.old 3 ≤ end }
+    requires theirs { NoWordsFrom (word_of other.now) (64 ^ 3 * end) }
+    ensures { slice_len set.new 3 ≤ end }
+{
+    set.bitor_assign(other)
+}
+
+#[test]
+fn rooms_of_callers(rt: HostRuntime) -> Result<(), Fail> {
+    let set = alone(rt.alloc(), 5)?;
+    assert_eq!(rt; set.layer3_as_slice(), [1].as_slice());
+    let room = room_for_a_block(rt.alloc())?;
+    assert_eq!(rt; room.layer0_as_slice().len(), 64);
+    assert_eq!(rt; room.layer1_as_slice().len(), 1);
+    let mut wide = alone(rt.alloc(), 6)?;
+    widen_within(&mut wide, &set, 64)?;
+    assert_eq!(rt; wide.layer0_as_slice(), [96].as_slice());
+    Ok(())
 }
 
 #[test]

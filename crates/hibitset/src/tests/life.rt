@@ -51,6 +51,62 @@ fn words_of_one_index(rt: HostRuntime) -> Result<(), Fail> {
 }
 
 #[test]
+fn slices_are_as_long_as_one_index_needs(rt: HostRuntime) -> Result<(), Fail> {
+    let mut set = set_of(rt.alloc(), &[12345])?;
+    assert!(rt; set.layer3_as_slice().len() >= 1);
+    assert!(rt; set.layer2_as_slice().len() >= 1);
+    assert!(rt; set.layer1_as_slice().len() >= 4);
+    assert!(rt; set.layer0_as_slice().len() >= 193);
+    set.clear();
+    assert_eq!(rt; set.layer3_as_slice().len(), 0);
+    assert_eq!(rt; set.layer2_as_slice().len(), 0);
+    assert_eq!(rt; set.layer1_as_slice().len(), 0);
+    assert_eq!(rt; set.layer0_as_slice().len(), 0);
+    Ok(())
+}
+
+// The memory that is kept had the old words, which do not come back.
+#[test]
+fn cleared_words_stay_away(rt: HostRuntime) -> Result<(), Fail> {
+    let mut set = set_of(rt.alloc(), &[0, 70, 4100, 9000])?;
+    set.clear();
+    assert!(rt; !set.add(4200)?);
+    assert_eq!(rt; list(rt.alloc(), &set)?.as_slice(), [4200].as_slice());
+    assert!(rt; !set.add(9100)?);
+    assert_eq!(rt; list(rt.alloc(), &set)?.as_slice(), [4200, 9100].as_slice());
+    assert!(rt; !set.add(100_000)?);
+    assert_eq!(rt;
+        list(rt.alloc(), &set)?.as_slice(),
+        [4200, 9100, 100_000].as_slice()
+    );
+    assert_eq!(rt;
+        (set.layer0(0), set.layer1(0), set.layer2(0), set.layer3(0)),
+        (0, 0, 6 | 1 << 24, 1)
+    );
+    Ok(())
+}
+
+// Each index lies past the room of those before, so that the layers above the lowest are moved.
+#[test]
+fn words_stay_as_the_set_grows(rt: HostRuntime) -> Result<(), Fail> {
+    let mut set = BitSet::new(rt.alloc());
+    let ids = [3, 300, 5_000, 70_000, 300_000, 20_000_000];
+    for known in 0..ids.len() {
+        assert!(rt; !set.add(ids[known])?);
+        assert_eq!(rt; list(rt.alloc(), &set)?.as_slice(), &ids[..known + 1]);
+        assert_eq!(rt;
+            list(rt.alloc(), &set.clone()?)?.as_slice(),
+            &ids[..known + 1]
+        );
+    }
+    assert_eq!(rt; (set.layer1(0), set.layer1(1)), (1 | 1 << 4, 1 << 14));
+    assert_eq!(rt; (set.layer2(0), set.layer2(1)), (3 | 1 << 17, 1 << 9));
+    assert_eq!(rt; (set.layer3(0), set.layer3(1)), (3, 1 << 12));
+    assert_eq!(rt; set.layer4(), 3);
+    Ok(())
+}
+
+#[test]
 fn border_indices(rt: HostRuntime) -> Result<(), Fail> {
     let mut set = BitSet::new(rt.alloc());
     for id in [
@@ -157,5 +213,19 @@ fn words_of_a_copy(rt: HostRuntime) -> Result<(), Fail> {
     assert_eq!(rt; copy.layer2_as_slice(), set.layer2_as_slice());
     assert_eq!(rt; copy.layer3_as_slice(), set.layer3_as_slice());
     assert_eq!(rt; copy.layer0_as_slice().len(), 10_938);
+    Ok(())
+}
+
+#[test]
+fn a_set_prints_its_members(rt: HostRuntime) -> Result<(), Fail> {
+    let mut set = set_of(rt.alloc(), &[70_000, 5, 300_000])?;
+    assert!(rt; set.remove(300_000));
+    let text = format!(in rt.alloc(); "{set:?}")?;
+    assert_eq!(rt; text.as_str(), "{5, 70000}");
+    let pretty = format!(in rt.alloc(); "{set:#?}")?;
+    assert_eq!(rt; pretty.as_str(), "{\n    5,\n    70000,\n}");
+    set.clear();
+    let text = format!(in rt.alloc(); "{set:?}")?;
+    assert_eq!(rt; text.as_str(), "{}");
     Ok(())
 }

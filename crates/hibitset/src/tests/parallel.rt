@@ -9,7 +9,7 @@ use hibitset_base::util::MAX_EID;
 use std::alloc::{AllocError, Global};
 use std::sync::atomic::{AtomicUsize, Ordering};
 use std::test::Fail;
-use std::thread::Threads;
+use std::thread::{Threads, available_parallelism};
 
 // How many members there are, counted in parts that are cut in two layers.
 fn count_members<T: BitSetLike + Send + Sync>(
@@ -20,6 +20,30 @@ fn count_members<T: BitSetLike + Send + Sync>(
     ensures { IfOk result (λ n. n ≡ length (members_below MAX_EID (T.holds set.now))) }
 {
     set.par_iter().layers_split(2).count(rt, alloc)
+}
+
+// How often `for_each` called its closure, and the sum of what it called it with.
+#[derive(Drop)]
+struct Visits {
+    times: usize,
+    sum: usize,
+}
+
+fn visits_of<T: BitSetLike + Send + Sync>(
+    rt: &(impl Threads + Sync),
+    alloc: Global,
+    walk: BitParIter<T>,
+) -> Result<Visits, AllocError> {
+    let times = AtomicUsize::new(0);
+    let sum = AtomicUsize::new(0);
+    walk.for_each(rt, alloc, |index: Index| {
+        times.fetch_add(1, Ordering::SeqCst);
+        sum.fetch_add(index as usize, Ordering::SeqCst);
+    })?;
+    Ok(Visits {
+        times: times.load(Ordering::SeqCst),
+        sum: sum.load(Ordering::SeqCst),
+    })
 }
 
 #[test]
@@ -34,15 +58,11 @@ fn clusters(rt: HostRuntime) -> Result<(), Fail> {
     }
     assert_eq!(rt; list(rt.alloc(), &set)?.len(), 512);
     assert_eq!(rt; (&set).par_iter().count(&rt, rt.alloc())?, 512);
-    let visited = AtomicUsize::new(0);
-    let sum = AtomicUsize::new(0);
-    (&set).par_iter().for_each(&rt, rt.alloc(), |index: Index| {
-        visited.fetch_add(1, Ordering::SeqCst);
-        sum.fetch_add(index as usize, Ordering::SeqCst);
-    })?;
-    assert_eq!(rt; visited.load(Ordering::SeqCst), 512);
-    assert_eq!(rt; sum.load(Ordering::SeqCst), 22_367_744);
+    let visits = visits_of(&rt, rt.alloc(), (&set).par_iter())?;
+    assert_eq!(rt; visits.times, 512);
+    assert_eq!(rt; visits.sum, 22_367_744);
     let none = BitSet::new(rt.alloc());
+    assert_eq!(rt; visits_of(&rt, rt.alloc(), (&none).par_iter())?.times, 0);
     assert_eq!(rt; (&none).par_iter().count(&rt, rt.alloc())?, 0);
     assert_eq!(rt; none.par_iter().collect(&rt, rt.alloc())?.len(), 0);
     Ok(())
@@ -102,7 +122,10 @@ fn folds_of_ten_and_of_many(rt: HostRuntime) -> Result<(), Fail> {
     assert_eq!(rt; sum_of(&rt, rt.alloc(), &ten)?, 45);
     let many = run_of(rt.alloc(), 524_288)?;
     assert_eq!(rt; sum_of(&rt, rt.alloc(), &many)?, 137_438_691_328);
-    for (layers, wanted) in [(1u8, 1), (2, 2), (3, 128), (4, 4_096)] {
+    // One processor alone walks over it whole.
+    let is_cut = available_parallelism(&rt)?.get() > 1;
+    for (layers, parts) in [(1u8, 1), (2, 2), (3, 128), (4, 4_096)] {
+        let wanted = if is_cut { parts } else { 1 };
         let pieces = BitParIter::new(&many).layers_split(layers).fold(
             &rt,
             rt.alloc(),
@@ -116,6 +139,22 @@ fn folds_of_ten_and_of_many(rt: HostRuntime) -> Result<(), Fail> {
 }
 
 #[test]
+fn lists_of_more_than_a_million(rt: HostRuntime) -> Result<(), Fail> {
+    let many = run_of(rt.alloc(), 1_100_000)?;
+    let listed = many.to_vec(rt.alloc())?;
+    let mut next = 0u32;
+    for index in &listed {
+        assert_eq!(rt; *index, next);
+        next = next.wrapping_add(1);
+    }
+    assert_eq!(rt; (listed.len(), listed.capacity()), (1_100_000, 1_100_000));
+    let collected = (&many).par_iter().collect(&rt, rt.alloc())?;
+    assert!(rt; collected == listed);
+    assert_eq!(rt; collected.capacity(), 1_100_000);
+    Ok(())
+}
+
+#[test]
 fn each_of_many(rt: HostRuntime) -> Result<(), Fail> {
     let many = run_of(rt.alloc(), 524_288)?;
     for layers in 1..5u8 {
@@ -124,15 +163,65 @@ fn each_of_many(rt: HostRuntime) -> Result<(), Fail> {
     }
     let all = (&many).par_iter().collect(&rt, rt.alloc())?;
     assert_eq!(rt; all.as_slice(), list(rt.alloc(), &many)?.as_slice());
-    let visited = AtomicUsize::new(0);
-    let sum = AtomicUsize::new(0);
-    (&many)
-        .par_iter()
-        .for_each(&rt, rt.alloc(), |index: Index| {
-            visited.fetch_add(1, Ordering::SeqCst);
-            sum.fetch_add(index as usize, Ordering::SeqCst);
-        })?;
-    assert_eq!(rt; visited.load(Ordering::SeqCst), 524_288);
-    assert_eq!(rt; sum.load(Ordering::SeqCst), 137_438_691_328);
+    let visits = visits_of(&rt, rt.alloc(), (&many).par_iter())?;
+    assert_eq!(rt; visits.times, 524_288);
+    assert_eq!(rt; visits.sum, 137_438_691_328);
+    Ok(())
+}
+
+// What `for_each` visits of a small set, which it walks over in one thread: each index by itself, up to the last.
+#[test]
+fn visits_of_border_indices(rt: HostRuntime) -> Result<(), Fail> {
+    for index in [
+        0,
+        63,
+        64,
+        4_095,
+        4_096,
+        262_143,
+        262_144,
+        16_777_215,
+        16_777_216,
+        1_073_741_823,
+    ] {
+        let set = set_of(rt.alloc(), &[index])?;
+        for layers in 1..5u8 {
+            let walk = (&set).par_iter().layers_split(layers);
+            let visits = visits_of(&rt, rt.alloc(), walk)?;
+            assert_eq!(rt; visits.times, 1);
+            assert_eq!(rt; visits.sum, index as usize);
+        }
+    }
+    Ok(())
+}
+
+// A run of 150,000 members in each of four regions of 2^24 indices, the last one up to the last index: enough for threads.
+fn four_runs(alloc: Global) -> Result<BitSet, AllocError> {
+    let mut set = BitSet::with_capacity(alloc, MAX_EID as Index)?;
+    for start in [0u32, 16_777_216, 520_093_696, 1_073_591_824] {
+        for place in 0..150_000u32 {
+            let id = start.wrapping_add(place);
+            if (id as usize) < MAX_EID {
+                set.add(id)?;
+            }
+        }
+    }
+    Ok(set)
+}
+
+#[test]
+fn visits_of_four_regions(rt: HostRuntime) -> Result<(), Fail> {
+    let set = four_runs(rt.alloc())?;
+    for layers in 1..5u8 {
+        let walk = (&set).par_iter().layers_split(layers);
+        let visits = visits_of(&rt, rt.alloc(), walk)?;
+        assert_eq!(rt; visits.times, 600_000);
+        assert_eq!(rt; visits.sum, 241_614_410_100_000);
+        let walk = (&set).par_iter().layers_split(layers);
+        assert_eq!(rt; walk.count(&rt, rt.alloc())?, 600_000);
+    }
+    let all = (&set).par_iter().collect(&rt, rt.alloc())?;
+    assert_eq!(rt; all.as_slice(), list(rt.alloc(), &set)?.as_slice());
+    assert_eq!(rt; sum_of(&rt, rt.alloc(), &set)?, 241_614_410_100_000);
     Ok(())
 }

@@ -1,5 +1,5 @@
 // One step each.
-ghost use Rattle.std.specs.Prelude.{◌≡◌, ℕ, ◌+◌, ◌-◌, ◌*◌, ◌/◌, ◌%◌, ◌^◌, ◌<◌, true, false, [], ◌∷◌, length};
+ghost use Rattle.std.specs.Prelude.{◌≡◌, ℕ, ◌+◌, ◌-◌, ◌*◌, ◌/◌, ◌%◌, ◌^◌, ◌<◌, ◌≤◌, true, false, [], ◌∷◌, length};
 ghost use Rattle.std.specs.Int.{bit_at};
 ghost use Rattle.hibitset_atomic.specs.Lists.{Has};
 ghost use Rattle.hibitset_atomic.specs.Levels.{first_mark};
@@ -48,6 +48,7 @@ impl SharedBitSet {
         ensures same { (pass.new.table_id ≡ pass.old.table_id) × (pass.new.id ≡ pass.old.id) × Grew pass.old.me pass.new.me × Has pass.new.me.0.seen id }
         ensures there { result ≡ true → pass.new.me.0.reports ≡ pass.old.me.0.reports }
         ensures new { result ≡ false → (pass.new.me.0.reports ≡ id ∷ pass.old.me.0.reports) × ¬ Lit pass.old.me.0.old id × ¬ Has pass.old.me.0.seen id }
+        ensures counts { (pass.new.me.0.loads ≡ pass.old.me.0.loads) × (pass.new.me.0.exchanges ≡ pass.old.me.0.exchanges + 1) }
     {
         let found = self
             .table
@@ -64,6 +65,7 @@ impl SharedBitSet {
         requires below { Has pass.old.me.0.seen (first_mark layer + id / 64 ^ layer) }
         ensures same { (pass.new.table_id ≡ pass.old.table_id) × (pass.new.id ≡ pass.old.id) × Grew pass.old.me pass.new.me × (pass.new.me.0.reports ≡ pass.old.me.0.reports) }
         ensures mark { Has pass.new.me.0.seen (first_mark (layer + 1) + id / 64 ^ (layer + 1)) }
+        ensures counts { (pass.new.me.0.loads ≡ pass.old.me.0.loads) × (pass.new.me.0.exchanges ≡ pass.old.me.0.exchanges + 1) }
     {
         let mark = mark_of(id, layer + 1);
         self.table
@@ -81,6 +83,7 @@ impl SharedBitSet {
         requires below { Has pass.old.me.0.seen (first_mark layer + id / 64 ^ layer) }
         ensures same { (pass.new.table_id ≡ pass.old.table_id) × (pass.new.id ≡ pass.old.id) × Grew pass.old.me pass.new.me × (pass.new.me.0.reports ≡ pass.old.me.0.reports) }
         ensures mark { Has pass.new.me.0.seen (first_mark (layer + 1) + id / 64 ^ (layer + 1)) }
+        ensures counts { (pass.new.me.0.loads ≡ pass.old.me.0.loads + 1) × (pass.new.me.0.exchanges ≤ pass.old.me.0.exchanges + 1) }
     {
         if !self.stands(pass, mark_of(id, layer + 1)) {
             self.raise(pass, id, layer);
@@ -93,6 +96,7 @@ impl SharedBitSet {
         requires place { place < 266305 }
         ensures same { (pass.new.table_id ≡ pass.old.table_id) × (pass.new.id ≡ pass.old.id) }
         ensures found { Looks_at place pass.old.me result pass.new.me }
+        ensures counts { (pass.new.me.0.loads ≡ pass.old.me.0.loads + 1) × (pass.new.me.0.exchanges ≡ pass.old.me.0.exchanges) }
     {
         self.table.shared.load::<Looks>(pass, place)
     }
@@ -104,6 +108,7 @@ impl SharedBitSet {
         ensures same { (pass.new.table_id ≡ pass.old.table_id) × (pass.new.id ≡ pass.old.id) × Grew pass.old.me pass.new.me × (pass.new.me.0.reports ≡ pass.old.me.0.reports) }
         ensures stands { result ≡ true → Has pass.new.me.0.seen mark }
         ensures gap { result ≡ false → Gap pass.new.me.0 mark }
+        ensures counts { (pass.new.me.0.loads ≡ pass.old.me.0.loads + 1) × (pass.new.me.0.exchanges ≡ pass.old.me.0.exchanges) }
     {
         let word = self.look(pass, (mark / 64) as usize);
         (word >> (mark % 64)) & 1 != 0
@@ -120,6 +125,7 @@ impl SharedBitSet {
         ensures seen { (b : ℕ) → b < 64 → bit_at result b ≡ 1 → Has pass.new.me.0.seen (first_mark layer + (64 * position + b)) }
         ensures known { (i : ℕ) → Knows pass.old.me.0 i → i / 64 ^ (layer + 1) ≡ position → bit_at result (i / 64 ^ layer % 64) ≡ 1 }
         ensures old { (i : ℕ) → i < 16777216 → Lit pass.old.me.0.old i → i / 64 ^ (layer + 1) ≡ position → bit_at result (i / 64 ^ layer % 64) ≡ 1 }
+        ensures counts { (pass.new.me.0.loads ≡ pass.old.me.0.loads + 1) × (pass.new.me.0.exchanges ≡ pass.old.me.0.exchanges) }
     {
         self.look(pass, first_word(layer) + position as usize)
     }

@@ -9,7 +9,7 @@ ghost use Rattle.hibitset_atomic.specs.Lists.{Has};
 ghost use Rattle.hibitset_atomic.specs.Levels.{first_mark};
 ghost use Rattle.hibitset_atomic.specs.declared.atomic.TheConstants.{ATOMIC_MAX_EID};
 ghost use Rattle.hibitset_atomic.specs.declared.layers.TheConstants.{ATOMIC_LAYERS};
-ghost use Rattle.hibitset_atomic.specs.Seats.{IsOld, Came, Known, weight_of, reports_of};
+ghost use Rattle.hibitset_atomic.specs.Seats.{IsOld, Came, Known, weight_of, reports_of, loads_by, exchanges_by};
 ghost use Rattle.hibitset_atomic.specs.SharedWalk.{view_of, IsSure, Keeps, Goes, MayStand, set_of, seat_of, lender, loads_of, next_from, IsReady, IsDue, SharedSteps};
 
 use crate::layers::ATOMIC_LAYERS;
@@ -51,7 +51,7 @@ impl Drop for SharedWalk<'_> {
 
 // Loads the word of a layer at a position. Each load of a walk is made here.
 #[inline]
-#[tactic(auto, unfolding(crate::specs::Seats::Came, crate::specs::Seats::Known, crate::specs::Seats::IsOld, crate::specs::Seats::weight_of, crate::specs::Seats::reports_of))]
+#[tactic(auto, unfolding(crate::specs::Seats::Came, crate::specs::Seats::Known, crate::specs::Seats::IsOld, crate::specs::Seats::weight_of, crate::specs::Seats::reports_of, crate::specs::Seats::loads_by, crate::specs::Seats::exchanges_by))]
 fn load(
     set: &SharedBitSet,
     seat: &mut Seat,
@@ -67,6 +67,7 @@ fn load(
     ensures seen { (b : ℕ) → b < 64 → bit_at result b ≡ 1 → Has (view_of seat.new).seen (first_mark layer + (64 * position + b)) }
     ensures due { (i : ℕ) → IsSure set.now seat.old i → i / 64 ^ (layer + 1) ≡ position → bit_at result (i / 64 ^ layer % 64) ≡ 1 }
     ensures reads { reads.new.count ≡ reads.old.count + 1 }
+    ensures counted { loads_by seat.new ≡ loads_by seat.old + 1 }
 {
     *reads = Reads::one_more(reads);
     set.word(&mut seat.pass, layer, position) as usize

@@ -58,7 +58,7 @@ impl Calls {
         requires { IsSome (call_in self.old number) }
         ensures { (c : ℕ) → call_in self.new c ≡ cond (number == c) (Some call) (call_in self.old c) }
     {
-        let _done = self.put(number, call);
+        self.put(number, call).unwrap();
     }
 
     /// Tells whether every call has passed `layers` layers.

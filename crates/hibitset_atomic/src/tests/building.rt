@@ -1,7 +1,9 @@
 //! Atomic sets made of the items of an iterator.
 use crate::AtomicBitSet;
 use crate::tests::{list, set_of};
-use hibitset_base::BuildError;
+use hibitset_base::util::Index;
+use hibitset_base::{BitSetLike, BuildError};
+use std::alloc::{AllocError, Global};
 use std::test::Fail;
 
 #[test]
@@ -21,7 +23,7 @@ fn building(rt: HostRuntime) -> Result<(), Fail> {
 #[test]
 fn building_past_the_range(rt: HostRuntime) {
     match AtomicBitSet::from_indices(rt.alloc(), [16777216u32].iter().copied()) {
-        Ok(_) => assert!(rt; false),
+        Ok(_) => assert!(rt; false, "an index past the range was taken"),
         Err(error) => assert_eq!(rt;
             error,
             BuildError::OutOfRange {
@@ -31,7 +33,7 @@ fn building_past_the_range(rt: HostRuntime) {
         ),
     }
     match AtomicBitSet::from_index_refs(rt.alloc(), &[7u32, 4294967295]) {
-        Ok(_) => assert!(rt; false),
+        Ok(_) => assert!(rt; false, "an index past the range was taken"),
         Err(error) => assert_eq!(rt;
             error,
             BuildError::OutOfRange {
@@ -100,5 +102,54 @@ fn no_item_is_drawn_after_one_out_of_range(rt: HostRuntime) -> Result<(), Fail> 
         Some(refused)
     );
     assert_eq!(rt; left.next(), Some(&4));
+    Ok(())
+}
+
+// So many indices of two blocks, one that is out of range, and one more.
+fn long_list(alloc: Global, count: u32) -> Result<Vec<Index>, AllocError> {
+    let mut items = Vec::new(alloc);
+    for index in 0..count {
+        items.push(index)?;
+    }
+    items.push(16_777_217)?;
+    items.push(3)?;
+    Ok(items)
+}
+
+#[test]
+fn far_from_the_first_place(rt: HostRuntime) -> Result<(), Fail> {
+    let items = long_list(rt.alloc(), 5_000)?;
+    let refused = BuildError::OutOfRange {
+        place: 5_000,
+        index: 16_777_217,
+    };
+    let mut left = items.iter().copied();
+    assert_eq!(rt;
+        AtomicBitSet::from_indices(rt.alloc(), &mut left).err(),
+        Some(refused)
+    );
+    assert_eq!(rt; left.next(), Some(3));
+    let mut left = items.iter();
+    assert_eq!(rt;
+        AtomicBitSet::from_index_refs(rt.alloc(), &mut left).err(),
+        Some(refused)
+    );
+    assert_eq!(rt; left.next(), Some(&3));
+    let mut set = AtomicBitSet::new(rt.alloc())?;
+    let mut left = items.iter().copied();
+    assert_eq!(rt; set.extend_indices(&mut left), Err(refused));
+    assert_eq!(rt; (left.next(), set.len()), (Some(3), 5_000));
+    set.clear();
+    let mut left = items.iter();
+    assert_eq!(rt; set.extend_index_refs(&mut left), Err(refused));
+    assert_eq!(rt; (left.next(), set.len()), (Some(&3), 5_000));
+    Ok(())
+}
+
+#[test]
+fn of_no_items(rt: HostRuntime) -> Result<(), Fail> {
+    let set = AtomicBitSet::from_indices(rt.alloc(), 0..0)?;
+    let refs = AtomicBitSet::from_index_refs(rt.alloc(), &[0u32; 0])?;
+    assert!(rt; set.is_empty() && refs.is_empty());
     Ok(())
 }

@@ -1,12 +1,13 @@
-//! A caller of the shared set, who proves what the contract says from the public clauses alone.
-ghost use Rattle.std.specs.Prelude.{◌≡◌, ℕ, ◌+◌, ◌≤◌, ◌⊎◌, ◌↔◌, [], true, length, IfSome};
+//! Callers of the shared set, who prove what their contracts say from the public clauses alone.
+ghost use Rattle.std.specs.Prelude.{◌≡◌, ℕ, ◌+◌, ◌≤◌, ◌⊎◌, ◌↔◌, [], true, length, IfSome, IfOk, IfErr, ◌<◌};
 ghost use Rattle.hibitset_atomic.specs.declared.atomic.TheConstants.{ATOMIC_MAX_EID};
 ghost use Rattle.hibitset_atomic.specs.AtomicBitSet.{has};
 ghost use Rattle.hibitset_atomic.specs.Lists.{Has, Distinct};
-ghost use Rattle.hibitset_atomic.specs.Seats.{IsOld, Came, reports_of};
+ghost use Rattle.hibitset_atomic.specs.Seats.{IsOld, Came, reports_of, loads_by, exchanges_by};
 
 use crate::tests::list;
 use crate::{AtomicBitSet, Seat, SharedBitSet};
+use hibitset_base::util::Index;
 use std::snapshot::Snapshot;
 use std::sync::Wait;
 use std::test::Fail;
@@ -124,6 +125,37 @@ pub fn add_from_two<R: Threads + Wait + Sync>(
     })
 }
 
+/// Settles, and puts one index more into the set, for which there is room by then.
+pub fn settle_with(
+    set: SharedBitSet,
+    seat: Seat,
+    id: Index,
+) -> Result<AtomicBitSet, (SharedBitSet, Seat)>
+    requires came { Came set seat }
+    requires id { id < ATOMIC_MAX_EID }
+    ensures added { IfOk result (λ r. has r id ≡ true) }
+    ensures old { IfOk result (λ r. (i : ℕ) → IsOld set i → has r i ≡ true) }
+    ensures back { IfErr result (λ r. (r.0 ≡ set) × (r.1 ≡ seat)) }
+{
+    let mut set = set.settle(seat)?;
+    set.remove(id);
+    set.add(id).unwrap();
+    Ok(set)
+}
+
+/// Adds an index twice. The second time it is read and nothing else, so there are no more exchanges than one add may make.
+pub fn add_again(set: &SharedBitSet, seat: &mut Seat, id: Index) -> bool
+    requires came { Came set.now seat.old }
+    requires id { id < ATOMIC_MAX_EID }
+    ensures came { Came set.now seat.new }
+    ensures there { result ≡ true }
+    ensures loads { loads_by seat.new ≤ loads_by seat.old + 11 }
+    ensures exchanges { exchanges_by seat.new ≤ exchanges_by seat.old + 4 }
+{
+    set.add_atomic(seat, id);
+    set.add_atomic(seat, id)
+}
+
 #[test]
 fn two_threads_add_the_same(rt: HostRuntime) -> Result<(), Fail> {
     let Ok((set, seat)) = AtomicBitSet::new(rt.alloc())?.share() else {
@@ -134,5 +166,18 @@ fn two_threads_add_the_same(rt: HostRuntime) -> Result<(), Fail> {
     };
     assert_eq!(rt; settled.new, 1000);
     assert_eq!(rt; list(rt.alloc(), &settled.set)?.len(), 1000);
+    Ok(())
+}
+
+#[test]
+fn one_more_after_settling(rt: HostRuntime) -> Result<(), Fail> {
+    let Ok((set, mut seat)) = AtomicBitSet::new(rt.alloc())?.share() else {
+        panic!(rt; "no memory")
+    };
+    assert!(rt; add_again(&set, &mut seat, 70_000));
+    let Ok(set) = settle_with(set, seat, 5) else {
+        panic!(rt; "no memory")
+    };
+    assert_eq!(rt; list(rt.alloc(), &set)?.as_slice(), [5, 70_000].as_slice());
     Ok(())
 }

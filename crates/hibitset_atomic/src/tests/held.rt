@@ -52,6 +52,23 @@ fn three_fillings(rt: HostRuntime) -> Result<(), Fail> {
     Ok(())
 }
 
+// 64 words of layer 2, 4,096 of layer 1 and two blocks of 64, of 8 bytes each, and 4,096 places of 2 bytes.
+#[test]
+fn bytes_of_one_member(rt: HostRuntime) -> Result<(), Fail> {
+    let set = set_of(rt.alloc(), &[5])?;
+    let layers = &set.layers;
+    assert_eq!(rt;
+        (layers.layer2.capacity(), layers.layer1.capacity()),
+        (64, 4_096)
+    );
+    let blocks = &layers.layer0;
+    assert_eq!(rt;
+        (blocks.words.capacity(), blocks.places.capacity()),
+        (128, 4_096)
+    );
+    Ok(())
+}
+
 #[test]
 fn one_of_two_blocks(rt: HostRuntime) -> Result<(), Fail> {
     let mut set = atomic_of(rt.alloc(), 0, 4096, 2)?;
@@ -88,13 +105,16 @@ fn a_drain(rt: HostRuntime) -> Result<(), Fail> {
     Ok(())
 }
 
-// One block has lost its members, and the others were never made.
+// One block has lost its members, and most were never made.
 #[test]
-fn blocks_without_bits_print(rt: HostRuntime) -> Result<(), Fail> {
-    let mut set = set_of(rt.alloc(), &[5])?;
-    assert!(rt; set.remove(5));
+fn a_set_prints_its_members(rt: HostRuntime) -> Result<(), Fail> {
+    let mut set = set_of(rt.alloc(), &[70_000, 5, 300_000])?;
+    assert!(rt; set.remove(300_000));
     let text = format!(in rt.alloc(); "{set:?}")?;
-    assert!(rt; text.as_str().starts_with("AtomicBitSet"));
+    assert_eq!(rt; text.as_str(), "{5, 70000}");
+    set.clear();
+    let text = format!(in rt.alloc(); "{set:?}")?;
+    assert_eq!(rt; text.as_str(), "{}");
     Ok(())
 }
 

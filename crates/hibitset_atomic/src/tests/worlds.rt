@@ -60,7 +60,7 @@ fn a_small_world(rt: HostRuntime) -> Result<(), Fail> {
         );
     }
     if !world.is_at_rest() {
-        assert!(rt; false);
+        assert!(rt; false, "a call has not passed all layers");
         return Ok(());
     }
     let set = world.settle();
@@ -135,7 +135,7 @@ fn a_walk_meets_a_call(rt: HostRuntime) -> Result<(), Fail> {
     }
     assert_eq!(rt; world.items(7), None);
     if !world.is_at_rest() {
-        assert!(rt; false);
+        assert!(rt; false, "a call has not passed all layers");
         return Ok(());
     }
     let set = world.settle();

@@ -10,6 +10,9 @@ use std::test::Fail;
 use std::thread;
 use std::thread::{Promise, Threads};
 
+// How often a thread looks for an index, at most.
+const TURNS: u32 = 200_000_000;
+
 // How a thread looks for an index.
 #[derive(Clone, Copy)]
 enum Look {
@@ -51,7 +54,7 @@ fn finds(set: &SharedBitSet, seat: &mut Seat, look: Look, id: Index) -> bool
     requires { Came set.now seat.old }
     ensures { Came set.now seat.new }
 {
-    for turn in 0..200_000_000u32 {
+    for turn in 0..TURNS {
         let found = match look {
             Look::Asks => set.contains(seat, id),
             Look::Walks => turn % 10 == 0 && walks_to(set, seat, id),

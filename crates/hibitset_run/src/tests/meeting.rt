@@ -1,8 +1,8 @@
 //! Parts of a walk that wait for one another, which only threads that run side by side get through.
-use hibitset::{BitSet, BitSetLike, Index};
+use hibitset::{BitParIter, BitSet, BitSetLike, Index};
 use rayon::prelude::*;
 use std::alloc::{AllocError, Global};
-use std::sync::atomic::{AtomicBool, Ordering};
+use std::sync::atomic::{AtomicU32, Ordering};
 use std::test::Fail;
 use std::thread::Threads;
 
@@ -12,21 +12,30 @@ const TURNS: u32 = 200_000_000;
 // How many indices the set has: the first ones, in 8,192 words of layer 0.
 const INDICES: Index = 524_288;
 
-// Two places where a thread shows itself and looks for the other.
+// The place of the last of these words.
+const LAST_WORD: usize = 8_191;
+
+// The sum of all these indices.
+const SUM: u64 = 137_438_691_328;
+
+// How many items meet through `rayon` alone.
+const ITEMS: usize = 4_096;
+
+// Two places where a thread shows itself and looks for the other: how often one came to each, and how often it found the other.
 #[derive(Drop)]
 struct Places {
-    first: AtomicBool,
-    last: AtomicBool,
-    first_found: AtomicBool,
-    last_found: AtomicBool,
+    first: AtomicU32,
+    last: AtomicU32,
+    first_found: AtomicU32,
+    last_found: AtomicU32,
 }
 
-// Shows itself, and looks for the other.
-fn meet(mine: &AtomicBool, other: &AtomicBool, found: &AtomicBool) {
-    mine.store(true, Ordering::SeqCst);
+// Shows itself, and looks for the other, which is to come as often.
+fn meet(mine: &AtomicU32, other: &AtomicU32, found: &AtomicU32) {
+    let times = mine.fetch_add(1, Ordering::SeqCst);
     for _ in 0..TURNS {
-        if other.load(Ordering::SeqCst) {
-            found.store(true, Ordering::SeqCst);
+        if other.load(Ordering::SeqCst) > times {
+            found.fetch_add(1, Ordering::SeqCst);
             return;
         }
     }
@@ -35,10 +44,10 @@ fn meet(mine: &AtomicBool, other: &AtomicBool, found: &AtomicBool) {
 impl Places {
     fn new() -> Places {
         Places {
-            first: AtomicBool::new(false),
-            last: AtomicBool::new(false),
-            first_found: AtomicBool::new(false),
-            last_found: AtomicBool::new(false),
+            first: AtomicU32::new(0),
+            last: AtomicU32::new(0),
+            first_found: AtomicU32::new(0),
+            last_found: AtomicU32::new(0),
         }
     }
 
@@ -50,8 +59,12 @@ impl Places {
         meet(&self.last, &self.first, &self.last_found);
     }
 
-    fn both_found(&self) -> bool {
-        self.first_found.load(Ordering::SeqCst) && self.last_found.load(Ordering::SeqCst)
+    // Both came so often, and found each other each time.
+    fn both_found(&self, times: u32) -> bool {
+        self.first.load(Ordering::SeqCst) == times
+            && self.last.load(Ordering::SeqCst) == times
+            && self.first_found.load(Ordering::SeqCst) == times
+            && self.last_found.load(Ordering::SeqCst) == times
     }
 }
 
@@ -104,7 +117,7 @@ impl BitSetLike for Meeting {
         if i == 0 {
             self.places.meet_first();
         }
-        if i == 8_191 {
+        if i == LAST_WORD {
             self.places.meet_last();
         }
         self.set.layer0(i)
@@ -115,22 +128,40 @@ impl BitSetLike for Meeting {
     }
 }
 
-// Tells whether the first and the last of 4,096 items meet through `rayon` alone. Where they don't, no walk can show it.
+// Tells whether the first and the last of `ITEMS` items meet through `rayon` alone. Where they don't, or there is one processor, no walk can show it.
 fn threads_meet(rt: &(impl Threads + Sync)) -> bool {
+    if rayon::current_num_threads(rt) == 1 {
+        return false;
+    }
     let control = Places::new();
     let places = &control;
-    (0..4_096usize)
+    (0..ITEMS)
         .into_par_iter()
         .with_min_len(1)
         .for_each(rt, |i: usize| {
             if i == 0 {
                 places.meet_first();
             }
-            if i == 4_095 {
+            if i == ITEMS - 1 {
                 places.meet_last();
             }
         });
-    control.both_found()
+    control.both_found(1)
+}
+
+// The sum of the items of a walk in parts.
+fn sum_of<T: BitSetLike + Send + Sync>(
+    rt: &(impl Threads + Sync),
+    alloc: Global,
+    walk: BitParIter<T>,
+) -> Result<u64, AllocError> {
+    walk.fold(
+        rt,
+        alloc,
+        || 0u64,
+        |sum: u64, index: Index| sum.wrapping_add(u64::from(index)),
+        |sum: u64, other: u64| sum.wrapping_add(other),
+    )
 }
 
 #[test]
@@ -139,26 +170,25 @@ fn parts_meet(rt: HostRuntime) -> Result<(), Fail> {
         return Ok(());
     }
     let set = Meeting::new(rt.alloc())?;
-    assert_eq!(rt; (&set).par_iter().count(&rt, rt.alloc())?, 524_288);
-    assert!(rt; set.places.both_found(), "count");
+    let count = (&set).par_iter().count(&rt, rt.alloc())?;
+    assert_eq!(rt; count, INDICES as usize);
+    assert!(rt; set.places.both_found(1), "count");
     let set = Meeting::new(rt.alloc())?;
-    assert_eq!(rt; (&set).par_iter().collect(&rt, rt.alloc())?.len(), 524_288);
-    assert!(rt; set.places.both_found(), "collect");
+    let all = (&set).par_iter().collect(&rt, rt.alloc())?;
+    assert_eq!(rt; all.len(), INDICES as usize);
+    assert!(rt;
+        set.places.both_found(2),
+        "collect, which counts and then writes"
+    );
     let set = Meeting::new(rt.alloc())?;
-    let sum = (&set).par_iter().fold(
-        &rt,
-        rt.alloc(),
-        || 0u64,
-        |sum: u64, index: Index| sum.wrapping_add(u64::from(index)),
-        |sum: u64, other: u64| sum.wrapping_add(other),
-    )?;
-    assert_eq!(rt; sum, 137_438_691_328);
-    assert!(rt; set.places.both_found(), "fold");
+    let sum = sum_of(&rt, rt.alloc(), (&set).par_iter())?;
+    assert_eq!(rt; sum, SUM);
+    assert!(rt; set.places.both_found(1), "fold");
     let set = Meeting::new(rt.alloc())?;
     (&set)
         .par_iter()
         .for_each(&rt, rt.alloc(), |_index: Index| {})?;
-    assert!(rt; set.places.both_found(), "for_each");
+    assert!(rt; set.places.both_found(1), "for_each");
     Ok(())
 }
 
@@ -170,7 +200,21 @@ fn few_heavy_parts_meet(rt: HostRuntime) -> Result<(), Fail> {
     }
     let set = Meeting::new(rt.alloc())?;
     let count = (&set).par_iter().layers_split(2).count(&rt, rt.alloc())?;
-    assert_eq!(rt; count, 524_288);
-    assert!(rt; set.places.both_found());
+    assert_eq!(rt; count, INDICES as usize);
+    assert!(rt; set.places.both_found(1), "count");
+    let set = Meeting::new(rt.alloc())?;
+    let all = (&set).par_iter().layers_split(2).collect(&rt, rt.alloc())?;
+    assert_eq!(rt; all.len(), INDICES as usize);
+    assert!(rt; set.places.both_found(2), "collect");
+    let set = Meeting::new(rt.alloc())?;
+    let sum = sum_of(&rt, rt.alloc(), (&set).par_iter().layers_split(2))?;
+    assert_eq!(rt; sum, SUM);
+    assert!(rt; set.places.both_found(1), "fold");
+    let set = Meeting::new(rt.alloc())?;
+    (&set)
+        .par_iter()
+        .layers_split(2)
+        .for_each(&rt, rt.alloc(), |_index: Index| {})?;
+    assert!(rt; set.places.both_found(1), "for_each");
     Ok(())
 }

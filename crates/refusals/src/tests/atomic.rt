@@ -1,6 +1,6 @@
 //! Sets that threads add to.
 use crate::tests::{ask, atomic_of, has_exactly, say, way};
-use hibitset::{AtomicBitSet, BuildError};
+use hibitset::{AtomicBitSet, BuildError, Index};
 use std::alloc::AllocError;
 use std::test::Fail;
 
@@ -34,58 +34,69 @@ fn add(rt: HostRuntime) -> Result<(), Fail> {
     Ok(())
 }
 
+// Indices of four blocks. The first of each of two blocks may find no memory, and one that is alone in the fourth.
+const SPREAD: [Index; 9] = [6, 7, 8, 9, 5_000_000, 10, 9_000_000, 13_000_000, 11];
+
+// Tells whether an error is want of memory for an item of `SPREAD` that can need some, and the next item that was left is the one after it.
+fn is_refused_there(error: BuildError, next: Option<Index>, places: &[usize]) -> bool {
+    match error {
+        BuildError::Memory { place } => {
+            places.contains(&place) && next == SPREAD.iter().copied().nth(place.wrapping_add(1))
+        }
+        BuildError::OutOfRange { place: _, index: _ } => false,
+    }
+}
+
 #[test]
 fn from_indices(rt: HostRuntime) -> Result<(), Fail> {
-    let items = [6u32, 5_000_000, 7];
     ask(&rt)?;
-    let mut left = items.iter().copied();
+    let mut left = SPREAD.iter().copied();
     let built = AtomicBitSet::from_indices(rt.alloc(), &mut left);
     say(&rt, built.is_err())?;
     ask(&rt)?;
     let set = match built {
         Ok(set) => set,
         Err(error) => {
-            let next = left.next();
-            assert!(rt;
-                error == (BuildError::Memory { place: 0 })
-                    && (next == Some(6) || next == Some(5_000_000))
-                    || error == (BuildError::Memory { place: 1 }) && next == Some(7)
-            );
-            AtomicBitSet::from_indices(rt.alloc(), items.iter().copied())?
+            assert!(rt; is_refused_there(error, left.next(), &[0, 4, 7]));
+            AtomicBitSet::from_indices(rt.alloc(), SPREAD.iter().copied())?
         }
     };
-    assert!(rt; has_exactly(&set, &[6, 7, 5_000_000]));
+    assert!(rt;
+        has_exactly(
+            &set,
+            &[6, 7, 8, 9, 10, 11, 5_000_000, 9_000_000, 13_000_000]
+        )
+    );
     Ok(())
 }
 
 #[test]
 fn from_index_refs(rt: HostRuntime) -> Result<(), Fail> {
-    let items = [6u32, 5_000_000, 7];
     ask(&rt)?;
-    let mut left = items.iter();
+    let mut left = SPREAD.iter();
     let built = AtomicBitSet::from_index_refs(rt.alloc(), &mut left);
     say(&rt, built.is_err())?;
     ask(&rt)?;
     let set = match built {
         Ok(set) => set,
         Err(error) => {
-            let next = left.next();
-            assert!(rt;
-                error == (BuildError::Memory { place: 0 })
-                    && (next == Some(&6) || next == Some(&5_000_000))
-                    || error == (BuildError::Memory { place: 1 }) && next == Some(&7)
-            );
-            AtomicBitSet::from_index_refs(rt.alloc(), &items)?
+            assert!(rt; is_refused_there(error, left.next().copied(), &[0, 4, 7]));
+            AtomicBitSet::from_index_refs(rt.alloc(), &SPREAD)?
         }
     };
-    assert!(rt; has_exactly(&set, &[6, 7, 5_000_000]));
+    assert!(rt;
+        has_exactly(
+            &set,
+            &[6, 7, 8, 9, 10, 11, 5_000_000, 9_000_000, 13_000_000]
+        )
+    );
     Ok(())
 }
 
-// Where the empty set is refused memory, no item is drawn.
+// Where the empty set is refused memory, the first item is drawn, and no other.
 #[test]
-fn from_indices_of_which_none_fits(rt: HostRuntime) -> Result<(), Fail> {
-    let items = [16_777_216u32, 7];
+fn from_indices_of_which_one_fits(rt: HostRuntime) -> Result<(), Fail> {
+    let items = [7u32, 16_777_216, 8];
     ask(&rt)?;
     let mut left = items.iter().copied();
     let error = AtomicBitSet::from_indices(rt.alloc(), &mut left).err();
@@ -93,13 +104,13 @@ fn from_indices_of_which_none_fits(rt: HostRuntime) -> Result<(), Fail> {
     say(&rt, refused)?;
     ask(&rt)?;
     let next = left.next();
-    assert!(rt; error.is_some() && next == Some(if refused { 16_777_216 } else { 7 }));
+    assert!(rt; error.is_some() && next == Some(if refused { 16_777_216 } else { 8 }));
     Ok(())
 }
 
 #[test]
-fn from_index_refs_of_which_none_fits(rt: HostRuntime) -> Result<(), Fail> {
-    let items = [16_777_216u32, 7];
+fn from_index_refs_of_which_one_fits(rt: HostRuntime) -> Result<(), Fail> {
+    let items = [7u32, 16_777_216, 8];
     ask(&rt)?;
     let mut left = items.iter();
     let error = AtomicBitSet::from_index_refs(rt.alloc(), &mut left).err();
@@ -107,43 +118,88 @@ fn from_index_refs_of_which_none_fits(rt: HostRuntime) -> Result<(), Fail> {
     say(&rt, refused)?;
     ask(&rt)?;
     let next = left.next();
-    assert!(rt; error.is_some() && next == Some(if refused { &16_777_216 } else { &7 }));
+    assert!(rt; error.is_some() && next == Some(if refused { &16_777_216 } else { &8 }));
+    Ok(())
+}
+
+// The empty set itself wants memory, also where there is no item.
+#[test]
+fn from_no_indices(rt: HostRuntime) -> Result<(), Fail> {
+    ask(&rt)?;
+    let built = AtomicBitSet::from_indices(rt.alloc(), 0..0);
+    say(&rt, built.is_err())?;
+    ask(&rt)?;
+    match built {
+        Ok(set) => assert!(rt; has_exactly(&set, &[])),
+        Err(error) => assert!(rt; error == BuildError::Memory { place: 0 }),
+    }
+    Ok(())
+}
+
+#[test]
+fn from_no_index_refs(rt: HostRuntime) -> Result<(), Fail> {
+    ask(&rt)?;
+    let built = AtomicBitSet::from_index_refs(rt.alloc(), &[0u32; 0]);
+    say(&rt, built.is_err())?;
+    ask(&rt)?;
+    match built {
+        Ok(set) => assert!(rt; has_exactly(&set, &[])),
+        Err(error) => assert!(rt; error == BuildError::Memory { place: 0 }),
+    }
     Ok(())
 }
 
 #[test]
 fn extend_indices(rt: HostRuntime) -> Result<(), Fail> {
-    let items = [6u32, 5_000_000, 7];
     let mut set = atomic_of(rt.alloc(), &[5])?;
     ask(&rt)?;
-    let mut left = items.iter().copied();
+    let mut left = SPREAD.iter().copied();
     let extended = set.extend_indices(&mut left);
     say(&rt, extended.is_err())?;
     ask(&rt)?;
     if let Err(error) = extended {
-        assert!(rt; error == (BuildError::Memory { place: 1 }) && left.next() == Some(7));
-        assert!(rt; has_exactly(&set, &[5, 6]) && way(&set, 5_000_000) == [1, 1, 0, 0, 0]);
-        set.extend_indices(items.iter().copied())?;
+        assert!(rt; is_refused_there(error, left.next(), &[4, 7]));
+        assert!(rt; set.contains(9) && !set.contains(13_000_000) && !set.contains(11));
+        if error == (BuildError::Memory { place: 4 }) {
+            assert!(rt;
+                has_exactly(&set, &[5, 6, 7, 8, 9]) && way(&set, 5_000_000) == [1, 1, 0, 0, 0]
+            );
+        }
+        set.extend_indices(SPREAD.iter().copied())?;
     }
-    assert!(rt; has_exactly(&set, &[5, 6, 7, 5_000_000]));
+    assert!(rt;
+        has_exactly(
+            &set,
+            &[5, 6, 7, 8, 9, 10, 11, 5_000_000, 9_000_000, 13_000_000]
+        )
+    );
     Ok(())
 }
 
 #[test]
 fn extend_index_refs(rt: HostRuntime) -> Result<(), Fail> {
-    let items = [6u32, 5_000_000, 7];
     let mut set = atomic_of(rt.alloc(), &[5])?;
     ask(&rt)?;
-    let mut left = items.iter();
+    let mut left = SPREAD.iter();
     let extended = set.extend_index_refs(&mut left);
     say(&rt, extended.is_err())?;
     ask(&rt)?;
     if let Err(error) = extended {
-        assert!(rt; error == (BuildError::Memory { place: 1 }) && left.next() == Some(&7));
-        assert!(rt; has_exactly(&set, &[5, 6]) && way(&set, 5_000_000) == [1, 1, 0, 0, 0]);
-        set.extend_index_refs(&items)?;
+        assert!(rt; is_refused_there(error, left.next().copied(), &[4, 7]));
+        assert!(rt; set.contains(9) && !set.contains(13_000_000) && !set.contains(11));
+        if error == (BuildError::Memory { place: 4 }) {
+            assert!(rt;
+                has_exactly(&set, &[5, 6, 7, 8, 9]) && way(&set, 5_000_000) == [1, 1, 0, 0, 0]
+            );
+        }
+        set.extend_index_refs(&SPREAD)?;
     }
-    assert!(rt; has_exactly(&set, &[5, 6, 7, 5_000_000]));
+    assert!(rt;
+        has_exactly(
+            &set,
+            &[5, 6, 7, 8, 9, 10, 11, 5_000_000, 9_000_000, 13_000_000]
+        )
+    );
     Ok(())
 }
 

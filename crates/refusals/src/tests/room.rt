@@ -1,12 +1,20 @@
 //! Calls that take no memory, or none as things stand, between two requests of the test's own.
+ghost use Rattle.std.specs.Prelude.{◌≡◌, ◌<◌};
+ghost use Rattle.hibitset_atomic.specs.Seats.{Came};
+ghost use Rattle.uses.specs.Filter.{tags_of};
+
 use crate::tests::{ask, atomic_of, column_of, has_exactly, has_values, set_of};
 use hibitset::{
-    BitParIter, BitProducer, BitSet, BitSetAll, BitSetLike, DrainableBitSet, Event, Index, Reply,
-    World,
+    BitParIter, BitProducer, BitSet, BitSetAll, BitSetLike, DrainableBitSet, Event, Index, Seat,
+    SharedBitSet, StepError, World, path,
 };
 use hibitset_store::{Column, join, join_masked};
-use std::alloc::AllocError;
+use std::alloc::{AllocError, Global};
 use std::test::Fail;
+use uses::filter::Tagged;
+use uses::ids::Ids;
+use uses::pages::Pages;
+use uses::ready::Ready;
 
 #[test]
 fn sets_with_room(rt: HostRuntime) -> Result<(), Fail> {
@@ -32,15 +40,18 @@ fn sets(rt: HostRuntime) -> Result<(), Fail> {
     ask(&rt)?;
     assert!(rt; set.remove(5) && !set.remove(5) && !set.remove(4_294_967_295));
     assert!(rt; set == other && set.contains_set(&other) && set.contains(70));
+    assert!(rt; !set.contains(6) && !set.contains(1_073_741_824) && !set.contains(4_294_967_295));
     assert!(rt;
         set.layer0_as_slice().len() + set.layer1_as_slice().len() + set.layer2_as_slice().len() > 0
             && set.layer3_as_slice().len() > 0
     );
     assert!(rt; set.len() == 2 && set.first() == Some(70) && !set.is_empty());
     assert!(rt; (&set).iter_from(71).next() == Some(300_000));
+    assert!(rt; (&set).iter().count() == 2 && (&set).iter_from(300_001).next().is_none());
     set &= &other;
     assert!(rt; has_exactly(&set, &[70, 300_000]));
     assert!(rt; set.drain().next() == Some(70));
+    assert!(rt; set.drain().count() == 1 && set.drain().next().is_none());
     set.clear();
     assert!(rt; has_exactly(&set, &[]) && set.to_vec(rt.alloc()).is_ok());
     assert!(rt; set.add(300_000) == Ok(false));
@@ -87,10 +98,31 @@ fn atomic_sets(rt: HostRuntime) -> Result<(), Fail> {
     assert!(rt; set.extend_indices(7..10) == Ok(()));
     assert!(rt; set.extend_index_refs(&[7, 300_001]) == Ok(()));
     assert!(rt; set.remove(300_001) && !set.remove(300_001) && set.contains(300_000));
+    assert!(rt; !set.contains(6) && !set.contains(16_777_216) && !set.contains(4_294_967_295));
     assert!(rt; has_exactly(&set, &[5, 7, 8, 9, 70, 4095, 300_000, 600_000]));
     assert!(rt; set.drain().next() == Some(5));
+    assert!(rt; set.drain().count() == 7 && set.drain().next().is_none());
     set.clear();
     assert!(rt; set.is_empty());
+    ask(&rt)
+}
+
+// A settled set has room for all blocks, and keeps it.
+#[test]
+fn settled_sets(rt: HostRuntime) -> Result<(), Fail> {
+    let Ok((shared, seat)) = atomic_of(rt.alloc(), &[7])?.share() else {
+        return Err(AllocError.into());
+    };
+    let Ok(mut set) = shared.settle(seat) else {
+        return Err(AllocError.into());
+    };
+    ask(&rt)?;
+    for block in 0..4_096u32 {
+        assert!(rt; set.add(4_096 * block) == Ok(false));
+    }
+    assert!(rt; set.remove(7) && set.drain().count() == 4_096);
+    set.clear();
+    assert!(rt; set.add(16_777_215) == Ok(false));
     ask(&rt)
 }
 
@@ -110,17 +142,75 @@ fn shared_sets(rt: HostRuntime) -> Result<(), Fail> {
     ask(&rt)
 }
 
+// A seat of the last share, where there is one: half of half, sixteen times.
+fn last_share(set: &SharedBitSet, seat: Seat) -> Seat
+    requires { Came set.now seat }
+    ensures { Came set.now result }
+{
+    let mut last = seat;
+    'halves: for _ in 0..16u32 {
+        let (kept, _) = set.divide(last);
+        last = kept;
+    }
+    last
+}
+
+#[test]
+fn last_shares(rt: HostRuntime) -> Result<(), Fail> {
+    let Ok((set, seat)) = atomic_of(rt.alloc(), &[7])?.share() else {
+        return Err(AllocError.into());
+    };
+    ask(&rt)?;
+    let (last, none) = set.divide(last_share(&set, seat));
+    assert!(rt; none.is_none() && last.weight() == 1);
+    ask(&rt)
+}
+
+#[test]
+fn new_worlds(rt: HostRuntime) -> Result<(), Fail> {
+    let set = atomic_of(rt.alloc(), &[7])?;
+    ask(&rt)?;
+    let world = World::new(set);
+    assert!(rt; world.is_at_rest() && world.items(1).is_none());
+    assert!(rt; world.stands(7) && !world.stands(8) && !world.stands(16_777_215));
+    assert!(rt; path(7)[3] == (3, 0, 1) && path(16_777_215)[3] == (3, 0, 1 << 63));
+    ask(&rt)
+}
+
+// A world in which a call has ended, and a walk that has given all.
+fn world_at_rest(alloc: Global) -> Result<World, AllocError> {
+    let mut world = World::new(atomic_of(alloc, &[7])?);
+    let (step, read) = (Event::Step { call: 1 }, Event::Read { walk: 1 });
+    let begin = Event::Begin { call: 1, id: 8 };
+    let open = Event::Open { walk: 1 };
+    for event in [begin, step, step, step, step, open, read, read, read, read] {
+        if world.apply(event).is_err() {
+            return Err(AllocError);
+        }
+    }
+    Ok(world)
+}
+
 #[test]
 fn worlds(rt: HostRuntime) -> Result<(), Fail> {
-    let mut world = World::new(atomic_of(rt.alloc(), &[7])?);
-    let opened = world.apply(Event::Open { walk: 1 });
-    if opened.is_err() {
-        return Err(AllocError.into());
-    }
+    let mut world = world_at_rest(rt.alloc())?;
+    let id = 16_777_216;
+    let refused = [
+        (Event::Begin { call: 1, id: 5 }, StepError::Used),
+        (Event::Begin { call: 2, id }, StepError::Range),
+        (Event::Step { call: 2 }, StepError::Unknown),
+        (Event::Step { call: 1 }, StepError::Ended),
+        (Event::Open { walk: 1 }, StepError::Used),
+        (Event::Read { walk: 2 }, StepError::Unknown),
+        (Event::Read { walk: 1 }, StepError::Ended),
+    ];
     ask(&rt)?;
-    assert!(rt; opened == Ok(Reply::Opened) && world.items(1) == Some(&[]) && world.stands(7));
+    for (event, error) in refused {
+        assert!(rt; world.apply(event) == Err(error));
+    }
+    assert!(rt; world.items(1) == Some(&[7, 8]) && world.items(2).is_none() && world.stands(8));
     if world.is_at_rest() {
-        assert!(rt; has_exactly(&world.settle(), &[7]));
+        assert!(rt; has_exactly(&world.settle(), &[7, 8]));
     }
     ask(&rt)
 }
@@ -130,11 +220,70 @@ fn parts(rt: HostRuntime) -> Result<(), Fail> {
     let set = set_of(rt.alloc(), &[1, 70, 300_000])?;
     ask(&rt)?;
     let _walk = BitParIter::new(&set).layers_split(2);
+    let _all = (&set).par_iter();
     let (first, second) = BitProducer((&set).iter(), 4).split();
     let add = |sum: u64, index: Index| sum.wrapping_add(u64::from(index));
     assert!(rt; first.fold_with(0u64, add) == 71);
     if let Some(second) = second {
         assert!(rt; second.fold_with(0u64, add) == 300_000);
     }
+    ask(&rt)
+}
+
+#[test]
+fn identifiers(rt: HostRuntime) -> Result<(), Fail> {
+    let mut ids = Ids::new(rt.alloc());
+    for _ in 0..65u32 {
+        ids.alloc()?;
+    }
+    ask(&rt)?;
+    assert!(rt; ids.is_used(64) && !ids.is_used(65) && !ids.free(65) && ids.free(3));
+    assert!(rt; ids.alloc() == Ok(Some(3)) && ids.alloc() == Ok(Some(65)));
+    assert!(rt; !Ids::new(rt.alloc()).free(0));
+    ask(&rt)
+}
+
+#[test]
+fn pages(rt: HostRuntime) -> Result<(), Fail> {
+    let mut pages = Pages::new(rt.alloc());
+    pages.mark(70_000)?;
+    let mut out = Vec::with_capacity(rt.alloc(), 2)?;
+    let mut none = Vec::new(rt.alloc());
+    ask(&rt)?;
+    assert!(rt; pages.mark(5) == Ok(false) && pages.mark(70_000) == Ok(true));
+    assert!(rt; pages.is_dirty(5) && !pages.is_dirty(6) && pages.flush(&mut out).is_ok());
+    assert!(rt; out.as_slice() == [5, 70_000].as_slice());
+    assert!(rt; pages.flush(&mut none).is_ok() && none.is_empty());
+    assert!(rt; Pages::new(rt.alloc()).flush(&mut none).is_ok());
+    ask(&rt)
+}
+
+#[test]
+fn tasks(rt: HostRuntime) -> Result<(), Fail> {
+    let mut ready = Ready::new(rt.alloc(), 100)?;
+    ask(&rt)?;
+    assert!(rt; ready.next_ready().is_none() && ready.next_from(7).is_none());
+    assert!(rt; ready.wake(99) == Ok(false) && ready.wake(0) == Ok(false));
+    assert!(rt; ready.next_from(1) == Some(99) && ready.next_ready() == Some(0));
+    assert!(rt; ready.wake(99) == Ok(false) && Ready::new(rt.alloc(), 0).is_ok());
+    ask(&rt)
+}
+
+#[test]
+fn tags(rt: HostRuntime) -> Result<(), Fail> {
+    let mut tagged = Tagged::new(rt.alloc());
+    tagged.new_tag()?;
+    tagged.new_tag()?;
+    tagged.new_tag()?;
+    tagged.tag(70, 0)?;
+    tagged.tag(70, 1)?;
+    tagged.tag(70, 2)?;
+    let more = set_of(rt.alloc(), &[70, 71])?;
+    ask(&rt)?;
+    assert!(rt; tagged.count(0, 1, 2) == 0 && tagged.find(rt.alloc(), 0, 1, 2).is_ok());
+    assert!(rt; tagged.tag(71, 0) == Ok(false) && tagged.widen(1, &more).is_ok());
+    assert!(rt; tagged.count(0, 1, 2) == 1 && tagged.records(1).len() == 2);
+    tagged.narrow(0, &BitSet::new(rt.alloc()));
+    assert!(rt; tagged.records(0).is_empty() && tagged.new_tag() == Ok(3));
     ask(&rt)
 }

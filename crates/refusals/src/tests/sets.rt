@@ -34,6 +34,21 @@ fn clone(rt: HostRuntime) -> Result<(), Fail> {
     Ok(())
 }
 
+// A copy has room for its own words alone.
+#[test]
+fn add_to_a_clone(rt: HostRuntime) -> Result<(), Fail> {
+    let mut copy = set_of(rt.alloc(), &[1, 70])?.clone()?;
+    ask(&rt)?;
+    let added = copy.add(128);
+    say(&rt, added.is_err())?;
+    ask(&rt)?;
+    if added.is_err() {
+        assert!(rt; has_exactly(&copy, &[1, 70]) && !copy.add(128)?);
+    }
+    assert!(rt; has_exactly(&copy, &[1, 70, 128]));
+    Ok(())
+}
+
 #[test]
 fn add(rt: HostRuntime) -> Result<(), Fail> {
     let mut set = set_of(rt.alloc(), &[5])?;
@@ -63,6 +78,21 @@ fn add_past_the_room_made_before(rt: HostRuntime) -> Result<(), Fail> {
         assert!(rt; !set.add(5_000_000)?);
     }
     assert!(rt; has_exactly(&set, &[998, 999, 5_000_000]));
+    Ok(())
+}
+
+// Room that was made before is for those words alone.
+#[test]
+fn add_past_the_last_word(rt: HostRuntime) -> Result<(), Fail> {
+    let mut set = BitSet::with_capacity(rt.alloc(), 320)?;
+    ask(&rt)?;
+    let added = set.add(320);
+    say(&rt, added.is_err())?;
+    ask(&rt)?;
+    if added.is_err() {
+        assert!(rt; has_exactly(&set, &[]) && !set.add(320)?);
+    }
+    assert!(rt; has_exactly(&set, &[320]));
     Ok(())
 }
 

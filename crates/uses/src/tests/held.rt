@@ -27,6 +27,19 @@ fn identifiers_come_back(rt: HostRuntime) -> Result<(), Fail> {
     Ok(())
 }
 
+// Words and summaries of every layer below the top are passed: the identifiers of 66 words of layer 0.
+#[test]
+fn identifiers_past_a_block(rt: HostRuntime) -> Result<(), Fail> {
+    let mut ids = Ids::new(rt.alloc());
+    for id in 0..4_224 {
+        assert_eq!(rt; ids.alloc()?, Some(id));
+    }
+    assert!(rt; ids.free(4_095) && ids.free(64));
+    assert_eq!(rt; (ids.alloc()?, ids.alloc()?), (Some(64), Some(4_095)));
+    assert_eq!(rt; ids.alloc()?, Some(4_224));
+    Ok(())
+}
+
 #[test]
 fn pages_are_flushed_in_order(rt: HostRuntime) -> Result<(), Fail> {
     let mut pages = Pages::new(rt.alloc());
@@ -43,6 +56,24 @@ fn pages_are_flushed_in_order(rt: HostRuntime) -> Result<(), Fail> {
     pages.mark(6)?;
     pages.flush(&mut out)?;
     assert_eq!(rt; out.as_slice(), [9, 5, 70_000, 16_777_215, 6].as_slice());
+    Ok(())
+}
+
+#[test]
+fn many_pages_are_flushed(rt: HostRuntime) -> Result<(), Fail> {
+    let mut pages = Pages::new(rt.alloc());
+    for page in 0..5_000u32 {
+        assert!(rt; !pages.mark(3 * page)?);
+    }
+    let mut out = Vec::new(rt.alloc());
+    pages.flush(&mut out)?;
+    let mut next = 0u32;
+    for page in &out {
+        assert_eq!(rt; *page, next);
+        next = next.wrapping_add(3);
+    }
+    assert_eq!(rt; (out.len(), out.capacity()), (5_000, 5_000));
+    assert!(rt; !pages.is_dirty(0) && !pages.is_dirty(14_997));
     Ok(())
 }
 
@@ -96,6 +127,18 @@ fn tags_are_given_and_taken_by_sets(rt: HostRuntime) -> Result<(), Fail> {
         [2].as_slice()
     );
     assert_eq!(rt; records.count(0, 1, 2), 0);
+    Ok(())
+}
+
+// It has no words but those of the tasks below the limit: its text shows them all, and is short.
+#[test]
+fn room_for_tasks_alone(rt: HostRuntime) -> Result<(), Fail> {
+    let ready = Ready::new(rt.alloc(), 100)?;
+    let text = format!(in rt.alloc(); "{ready:?}")?;
+    assert!(rt;
+        text.as_str().starts_with("Ready") && text.len() < 500,
+        "{text}"
+    );
     Ok(())
 }
 

@@ -4,7 +4,7 @@ use hibitset::{BitSet, BitSetLike, Index};
 use std::cell::Cell;
 use std::test::Fail;
 
-// A set that counts the calls of its layer functions.
+// A set that counts the calls of its layer functions and of `contains`.
 #[derive(Drop)]
 pub(super) struct Counting {
     pub(super) set: BitSet,
@@ -54,6 +54,7 @@ impl BitSetLike for Counting {
     }
 
     fn contains(&self, i: Index) -> bool {
+        self.count();
         self.set.contains(i)
     }
 }

@@ -1,20 +1,25 @@
 //! Which words are read, told by the set that is read.
 use crate::tests::set_of;
-use hibitset::{BitSet, BitSetAnd, BitSetLike, BitSetNot, BitSetOr, DrainableBitSet, Index};
+use hibitset::{
+    BitSet, BitSetAnd, BitSetLike, BitSetNot, BitSetOr, BitSetXor, DrainableBitSet, Index,
+};
 use std::alloc::{AllocError, Global};
 use std::cell::Cell;
 use std::test::Fail;
 
-// A set that keeps a list of the words that are read, each by its layer and its position.
+// In the place of a layer: the set was asked whether it has the index that stands in the place of the position.
+pub(super) const ASKED: usize = 8;
+
+// A set that keeps a list of the words that are read, each by its layer and its position, and of the indices that it was asked for.
 #[derive(Drop)]
-struct Logging {
+pub(super) struct Logging {
     set: BitSet,
     words: Cell<[(usize, usize); 32]>,
     count: Cell<usize>,
 }
 
 impl Logging {
-    fn over(alloc: Global, ids: &[Index]) -> Result<Logging, AllocError> {
+    pub(super) fn over(alloc: Global, ids: &[Index]) -> Result<Logging, AllocError> {
         Ok(Logging {
             set: set_of(alloc, ids)?,
             words: Cell::new([(0, 0); 32]),
@@ -33,7 +38,7 @@ impl Logging {
     }
 
     // The words that were read since this was last asked.
-    fn read(&self, alloc: Global) -> Result<Vec<(usize, usize)>, AllocError> {
+    pub(super) fn read(&self, alloc: Global) -> Result<Vec<(usize, usize)>, AllocError> {
         let words = self.words.get();
         let mut read = Vec::new(alloc);
         for n in 0..self.count.replace(0) {
@@ -81,6 +86,7 @@ impl BitSetLike for Logging {
     }
 
     fn contains(&self, i: Index) -> bool {
+        self.note(ASKED, i as usize);
         self.set.contains(i)
     }
 }
@@ -102,7 +108,7 @@ impl DrainableBitSet for Logging {
 }
 
 // The words over 64 and 300,000: the two at the top, and three on the way to each.
-const OVER_64_AND_300000: [(usize, usize); 8] = [
+pub(super) const OVER_64_AND_300000: [(usize, usize); 8] = [
     (4, 0),
     (3, 0),
     (2, 0),
@@ -240,6 +246,56 @@ fn a_drain(rt: HostRuntime) -> Result<(), Fail> {
     }
     assert_eq!(rt; set.read(alloc)?.as_slice(), OVER_64_AND_300000.as_slice());
     assert!(rt; set.set.is_empty());
+    Ok(())
+}
+
+// How often a word is among those that were read.
+fn times(read: &[(usize, usize)], word: (usize, usize)) -> usize {
+    let mut times = 0usize;
+    for other in read {
+        if *other == word {
+            times = times.wrapping_add(1);
+        }
+    }
+    times
+}
+
+// The way to the last word, which shows whether there is room.
+const TO_THE_END: [(usize, usize); 4] = [(4, 0), (3, 0), (2, 1), (1, 73)];
+
+// Tells whether of a set over 64 and 300,000 each word was read once, and those on the way to the last word once more.
+fn was_put_in_once(alloc: Global, set: &Logging) -> Result<bool, AllocError> {
+    let read = set.read(alloc)?;
+    for word in &OVER_64_AND_300000 {
+        let more = if TO_THE_END.contains(word) { 2 } else { 1 };
+        if times(read.as_slice(), *word) != more {
+            return Ok(false);
+        }
+    }
+    Ok(read.len() == OVER_64_AND_300000.len() + TO_THE_END.len())
+}
+
+// Where there is room, no word of the other set is read in vain.
+#[test]
+fn assignments_with_room(rt: HostRuntime) -> Result<(), Fail> {
+    let alloc = rt.alloc();
+    let other = Logging::over(alloc, &[64, 300_000])?;
+    let mut set = set_of(alloc, &[5, 300_001])?;
+    set.bitor_assign(&other)?;
+    assert!(rt; was_put_in_once(alloc, &other)?, "or");
+    set.bitxor_assign(&other)?;
+    assert!(rt; was_put_in_once(alloc, &other)?, "xor");
+    let more = Logging::over(alloc, &[65, 300_002])?;
+    set.bitor_assign(&BitSetOr(&other, &more))?;
+    assert!(rt;
+        was_put_in_once(alloc, &other)? && was_put_in_once(alloc, &more)?,
+        "or of a union"
+    );
+    set.bitxor_assign(&BitSetXor(&other, &more))?;
+    assert!(rt;
+        was_put_in_once(alloc, &other)? && was_put_in_once(alloc, &more)?,
+        "xor of one"
+    );
     Ok(())
 }
 

@@ -5,9 +5,11 @@ use Rattle.hibitset.proofs.assign.merge_words.Goals as goal
 pub loop-left-preserved : goal.loop-left-preserved
 loop-left-preserved g c =
     let bit = c.take_bit-bit.ensures in
+    let merged = c.merge_word-stands.ensures in
     record {
-      long = c.merge_word-stands.ensures.length ∙ c.loop-left.invariant.long;
-      words = past_step _ _ _ _ _ 1 _ _ _ _ _ bit.below bit.stood bit.gone bit.same c.loop-left.invariant.words c.merge_word-stands.ensures.words;
-      bounded = λ old. c.merge_word-stands.ensures.bounded (c.loop-left.invariant.bounded old);
-      exact = summary_step _ _ _ _ c.args.place _ _ _ _ bit.below c.merge_word-stands.ensures.words c.with_bit-above.ensures.same c.with_bit-above.ensures.here c.merge_word-stands.ensures.some c.loop-left.invariant.exact;
+      long = merged.length ∙ c.loop-left.invariant.long;
+      words = past_step _ _ _ _ _ 1 _ _ _ _ _ bit.below bit.stood bit.gone bit.same c.loop-left.invariant.words merged.words;
+      others = λ p past. merged.others p past ∙ c.loop-left.invariant.others p past;
+      bounded = λ old. merged.bounded (c.loop-left.invariant.bounded old);
+      exact = summary_step _ _ _ _ c.args.place _ _ _ _ bit.below merged.words c.with_bit-above.ensures.same c.with_bit-above.ensures.here merged.some c.loop-left.invariant.exact;
     }

@@ -1,14 +1,15 @@
-use Rattle.std.proofs.Common.{◌≡◌, get_or, length}
-use Rattle.hibitset.specs.Merging.{AreWords, Summarizes}
+use Rattle.std.proofs.Common.{◌≡◌, ℕ, ◌≤◌, get_or, length}
+use Rattle.hibitset.specs.Merging.{counted, AreWords, Summarizes}
 use Rattle.hibitset.proofs.Merging.{MergedPast}
 use Rattle.hibitset.proofs.assign.merge_words.Given as goal
 
 abbrev pub invariant-loop-left : goal.invariant-loop-left
 invariant-loop-left g l = record {
   long : length l.slice ≡ length l.initial.slice;
-  words : MergedPast (g.O.Operator.merged) (g.B.BitSetLike.word l.fn.other 0) (λ p. get_or l.initial.slice p 0) (λ p. get_or l.slice p 0) 1 l.fn.place l.fn.bits l.left;
+  words : MergedPast (g.O.Operator.merged) (g.B.BitSetLike.word l.fn.other 0) (counted l.fn.len l.initial.slice) (counted l.fn.len l.slice) 1 l.fn.place l.fn.bits l.left;
+  others : (p : ℕ) → l.fn.len ≤ p → get_or l.slice p 0 ≡ get_or l.initial.slice p 0;
   bounded : AreWords (λ p. get_or l.initial.slice p 0) → AreWords (λ p. get_or l.slice p 0);
-  exact : Summarizes (λ p. get_or l.slice p 0) l.fn.place l.above;
+  exact : Summarizes (counted l.fn.len l.slice) l.fn.place l.above;
 }
 
 abbrev pub decreases-loop-left : goal.decreases-loop-left

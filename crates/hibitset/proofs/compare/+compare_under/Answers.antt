@@ -7,6 +7,7 @@ use Rattle.hibitset_base.specs.declared.util.TheConstants.{LAYERS}
 use Rattle.hibitset.specs.BitSet.{has, word_of, has_is_lawful}
 use Rattle.hibitset.specs.declared.set.BitSet.{BitSet}
 use Rattle.hibitset.specs.Comparing.{BitsPass}
+use Rattle.hibitset.proofs.Layered.{shaped}
 use Rattle.hibitset.proofs.Merging.{our_word, covers_below, place_below, place_fits}
 use Rattle.hibitset.proofs.Comparing.{PassedPast, all_pass, passed_step, passed_under}
 use Rattle.hibitset.proofs.compare.+compare_under.Goals as goal
@@ -21,7 +22,7 @@ returns-then-misses-ne0-clause-no g t c = λ _ all.
     let x-is : c.get_from_layer.result ≡ word_of ours layer place = our_word (word_of ours) layer place c.get_from_layer.result c.requires.layer.1 c.requires.place c.get_from_layer.ensures.below c.get_from_layer.ensures.top in
     let y-is : c.get_from_layer-word.result ≡ word_of theirs layer place = our_word (word_of theirs) layer place c.get_from_layer-word.result c.requires.layer.1 c.requires.place c.get_from_layer-word.ensures.below c.get_from_layer-word.ensures.top in
     let here : BitsPass (g.C.Comparison.allowed) (word_of ours layer place) (word_of theirs layer place) =
-    all_pass LAYERS (g.C.Comparison.allowed) (g.met.C.Comparison.rises) (word_of ours) (word_of theirs) ours.stored.summed theirs.stored.summed ours.stored.shaped.words theirs.stored.shaped.words all layer place c.requires.layer.1 in
+    all_pass LAYERS (g.C.Comparison.allowed) (g.met.C.Comparison.rises) (word_of ours) (word_of theirs) ours.summed theirs.summed (shaped ours.layers).words (shaped theirs.layers).words all layer place c.requires.layer.1 in
     let none : c.misses.result ≡ 0 = c.misses.ensures.1 (rw (x-is, y-is) here) in
     let some = c.if-misses-ne0.true in
     absurd (grind (arith, nat_tests, none, some))
@@ -60,7 +61,7 @@ module _ (allowed : Bool → Bool → Bool) (alone : (a : Bool) (x b : ℕ) → 
   all_under : (left : ℕ) → left ≡ 0 → PassedPast (λ p. BitsPass allowed (word_of ours 0 p) (word_of theirs 0 p)) (64 ^ (layer - 1)) place y left → (p : ℕ) → p / 64 ^ layer ≡ place → BitsPass allowed (word_of ours 0 p) (word_of theirs 0 p)
   unfolding has word_of
   all_under left none past p e = passed_under LAYERS allowed alone (has ours) (has theirs) (word_of ours) (word_of theirs) (has_is_lawful ours) (has_is_lawful theirs) (layer - 1) place x y left
-      (rw above within) (rw above range) (covers_below (word_of ours) layer place x above within ours.stored.summed x-is) (covers_below (word_of theirs) layer place y above within theirs.stored.summed y-is) pass none past p
+      (rw above within) (rw above range) (covers_below (word_of ours) layer place x above within ours.summed x-is) (covers_below (word_of theirs) layer place y above within theirs.summed y-is) pass none past p
       (div-div-eq-div-mul p (64 ^ (layer - 1)) 64 ∙ (ap (λ z. p / z) (sym whole) ∙ e))
 
 -- where the words under the bits have been compared one by one

@@ -3,6 +3,7 @@ use Rattle.hibitset_base.specs.declared.util.TheConstants.{LAYERS}
 use Rattle.hibitset.specs.BitSet.{layers, word_of, has}
 use Rattle.hibitset_base.proofs.Holding.{end_of_words}
 use Rattle.hibitset.proofs.Comparing.{members_pass, words_pass, decided}
+use Rattle.hibitset.proofs.Layered.{shaped}
 use Rattle.hibitset.proofs.compare.compare.Goals as goal
 
 pub returns : goal.returns
@@ -11,4 +12,4 @@ returns g c =
     let ours = c.args.ours.now in
     let theirs = c.args.theirs.now in
     decided c.compare_under.result (λ e. members_pass LAYERS (g.C.Comparison.allowed) (word_of ours) (word_of theirs) (lit< tt) (c.compare_under.ensures.yes e)) c.compare_under.ensures.no
-    (words_pass LAYERS (g.C.Comparison.allowed) (word_of ours) (word_of theirs) g.met.C.Comparison.none (lit< tt) (end_of_words LAYERS (layers ours) (lit< tt) ours.stored.shaped) (end_of_words LAYERS (layers theirs) (lit< tt) theirs.stored.shaped))
+    (words_pass LAYERS (g.C.Comparison.allowed) (word_of ours) (word_of theirs) g.met.C.Comparison.none (lit< tt) (end_of_words LAYERS (layers ours) (lit< tt) (shaped ours.layers)) (end_of_words LAYERS (layers theirs) (lit< tt) (shaped theirs.layers)))

@@ -1,7 +1,6 @@
-use Rattle.std.proofs.Common.{◌≡◌, ℕ, ◌+◌, ◌*◌, ◌↔◌, ◌∙◌, arith}
+use Rattle.std.proofs.Common.{◌≡◌, ℕ, ◌+◌, ◌*◌, ◌↔◌, get_or, arith}
 use Rattle.hibitset.specs.BitSet.{word_of}
 use Rattle.hibitset.specs.Comparing.{BitsPass}
-use Rattle.hibitset_base.proofs.Shapes.{get_or_any}
 use Rattle.hibitset.proofs.Comparing.{unmissed_step}
 use Rattle.hibitset.proofs.compare.compare_block.Goals as goal
 
@@ -11,7 +10,7 @@ loop-bit-preserved g c =
     let ours = c.args.ours.now in
     let theirs = c.args.theirs.now in
     let at : ℕ = 64 * c.args.place + c.loop-bit.bit in
-    let x-is : c.index.result.now ≡ word_of ours 0 at = c.index.ensures ∙ get_or_any ours.layer0.items at c.index.result.now 0 (omega arith) in
-    let y-is : c.index-in-loop-bit.result.now ≡ word_of theirs 0 at = c.index-in-loop-bit.ensures ∙ get_or_any theirs.layer0.items at c.index-in-loop-bit.result.now 0 (omega arith) in
+    let x-is : get_or c.slice-ours.result.now at 0 ≡ word_of ours 0 at = c.slice-ours.ensures.words at in
+    let y-is : get_or c.slice-theirs.result.now at 0 ≡ word_of theirs 0 at = c.slice-theirs.ensures.words at in
     let here : (c.misses-missed.result ≡ 0) ↔ BitsPass (g.C.Comparison.allowed) (word_of ours 0 at) (word_of theirs 0 at) = rw (x-is, y-is) at c.misses-missed.ensures in
     unmissed_step (λ p. BitsPass (g.C.Comparison.allowed) (word_of ours 0 p) (word_of theirs 0 p)) c.args.place c.loop-bit.bit c.loop-bit.missed c.misses-missed.result (omega arith) here c.loop-bit.invariant

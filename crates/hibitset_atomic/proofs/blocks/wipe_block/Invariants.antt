@@ -1,4 +1,4 @@
-use Rattle.std.proofs.Common.{◌≡◌, ℕ, ◌<◌, ◌≤◌, get_or, length}
+use Rattle.std.proofs.Common.{◌≡◌, ℕ, ◌<◌, ◌≤◌, get_or, length, vec_capacity}
 use Rattle.hibitset_atomic.proofs.blocks.wipe_block.Given as goal
 
 abbrev pub invariant-loop-i : goal.invariant-loop-i
@@ -7,4 +7,5 @@ invariant-loop-i l = record {
   inside : (p : ℕ) → l.fn.start ≤ p → p < l.i → get_or l.words.items p 0 ≡ 0;
   before : (p : ℕ) → p < l.fn.start → get_or l.words.items p 0 ≡ get_or l.fn.words.items p 0;
   after : (p : ℕ) → l.i ≤ p → get_or l.words.items p 0 ≡ get_or l.fn.words.items p 0;
+  room : vec_capacity l.words ≡ vec_capacity l.fn.words;
 }

@@ -1,10 +1,10 @@
-use Rattle.std.proofs.Common.{◌≡◌, inl, inr, ⊎_elim, ℕ, ◌+◌, ◌-◌, ◌<◌, ◌≤◌, List, [], ◌∷◌, ◌++◌, Contains, length, slice_index, sym, ◌∙◌, subst, arith, length-append}
+use Rattle.std.proofs.Common.{◌≡◌, inl, inr, ⊎_elim, ℕ, ◌+◌, ◌-◌, ◌*◌, ◌<◌, ◌≤◌, List, [], ◌∷◌, ◌++◌, Contains, length, slice_index, sym, ◌∙◌, subst, arith, length-append}
 use Rattle.std.specs.List.Sorted.{IsStrictlyIncreasing}
 use Rattle.std.proofs.Math.Nat.{eq-or-lt_of_le}
 use Rattle.std.proofs.lemmas.List.{get_or_append_left, get_or-append_right}
 use Rattle.std.proofs.lemmas.List.Elements.{Contains-append_left, Contains-push, Contains-push_cases, Contains-get_or}
 use Rattle.hibitset_atomic.specs.Seats.{Known}
-use Rattle.hibitset_atomic.specs.SharedWalk.{seat_of, next_from}
+use Rattle.hibitset_atomic.specs.SharedWalk.{seat_of, loads_of, next_from}
 use Rattle.uses.proofs.walks.indices.Goals as goal
 
 -- a greater number at the end
@@ -24,6 +24,13 @@ increasing_push xs x up below k lt =
           let next : slice_index all (k + 1) ≡ slice_index xs (k + 1) = get_or_append_left xs (x ∷ []) 0 (k + 1) less in
           rw (here, next) (up k less)
     ]
+
+-- a step loads at most four words at first, and then three
+few_more : (old new n : ℕ) → new ≤ old + 4 → (0 < old → new ≤ old + 3) → old ≤ 3 * n + 1 → new ≤ 3 * (n + 1) + 1
+few_more old new n first later few = elim (eq-or-lt_of_le (let a : 0 ≤ old = omega arith in a)) [
+  | inl none ↦ omega (arith, none, first)
+  | inr some ↦ let next = later some in omega (arith, next, few)
+]
 
 pub loop-index-preserved : goal.loop-index-preserved
 loop-index-preserved c =
@@ -48,4 +55,7 @@ loop-index-preserved c =
           (λ e. subst (λ j. Known (seat_of c.next.new.self) j × (j < next_from c.next.new.self)) e (given.0, given.3))
           (Contains-push_cases c.loop-index.all.items x i (rw pushed at h));
       ascending = rw pushed (increasing_push c.loop-index.all.items x was.ascending (λ i h. let a = (was.items i h).1 in let b = given.2 in omega (arith, a, b)));
+      loaded = (let l = step.loaded in let w = was.loaded in omega (arith, l, w));
+      few = rw pushed (let l = length-append c.loop-index.all.items (x ∷ []) in let m = few_more (loads_of c.loop-index.index-iterator) (loads_of c.next.new.self) (length c.loop-index.all.items) step.first step.later was.few in omega (arith, l, m));
+      exchanged = step.exchanged ∙ was.exchanged;
     }

@@ -1,7 +1,7 @@
-use Rattle.std.proofs.Common.{◌≡◌, ◌⊎◌, ℕ, ◌<◌, Contains}
+use Rattle.std.proofs.Common.{◌≡◌, ◌⊎◌, ℕ, ◌+◌, ◌*◌, ◌<◌, ◌≤◌, Contains, length}
 use Rattle.std.specs.List.Sorted.{IsStrictlyIncreasing}
-use Rattle.hibitset_atomic.specs.Seats.{IsOld, Known, weight_of, reports_of}
-use Rattle.hibitset_atomic.specs.SharedWalk.{set_of, seat_of, lender, next_from, IsDue}
+use Rattle.hibitset_atomic.specs.Seats.{IsOld, Known, weight_of, reports_of, loads_by, exchanges_by}
+use Rattle.hibitset_atomic.specs.SharedWalk.{set_of, seat_of, lender, loads_of, next_from, IsDue}
 use Rattle.uses.proofs.walks.indices.Given as goal
 
 abbrev pub invariant-loop-index : goal.invariant-loop-index
@@ -15,4 +15,7 @@ invariant-loop-index l = record {
   due : (i : ℕ) → IsOld l.set i ⊎ Known l.fn.seat i → Contains l.all.items i ⊎ IsDue l.index-iterator i;
   items : (i : ℕ) → Contains l.all.items i → Known (seat_of l.index-iterator) i × (i < next_from l.index-iterator);
   ascending : IsStrictlyIncreasing l.all.items;
+  loaded : loads_by (seat_of l.index-iterator) ≡ loads_by l.fn.seat + loads_of l.index-iterator;
+  few : loads_of l.index-iterator ≤ 3 * length l.all.items + 1;
+  exchanged : exchanges_by (seat_of l.index-iterator) ≡ exchanges_by l.fn.seat;
 }

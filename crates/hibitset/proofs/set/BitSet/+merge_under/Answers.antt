@@ -46,7 +46,7 @@ returns-clause-words g t c =
     let ours-is : ours ≡ words layer place = our_word words layer place ours within c.requires.place c.get_from_layer-ours.ensures.below c.get_from_layer-ours.ensures.top in
     let range : place < 64 ^ (LAYERS - 1 - (layer - 1 + 1)) = rw above c.requires.place in
     let inner : layer - 1 + 1 < LAYERS = rw above within in
-    let covers : Covers (words (layer - 1)) place ours = covers_below words layer place ours above within self.stored.summed ours-is in
+    let covers : Covers (words (layer - 1)) place ours = covers_below words layer place ours above within self.summed ours-is in
     under_after _ _ _ _ (64 ^ (layer - 1)) (64 ^ layer) place c.visit-visited.result c.loop-left.left whole c.loop-left-test.false c.loop-left.invariant.words
     (λ p e off. g.met.O.Operator.keeps ours c.args.theirs (p / 64 ^ (layer - 1) % 64) (words 0 p) (g.B.BitSetLike.word c.args.other.now 0 p) (rw c.visit-visited.ensures at off)
     (λ some. bit_above LAYERS (has self) words (has_is_lawful self) (layer - 1) place p ours inner range e covers some)

@@ -6,14 +6,12 @@ use Rattle.hibitset_base.specs.Sets.{bit_of}
 use Rattle.hibitset.specs.BitSet.{word_of, has}
 use Rattle.hibitset.proofs.Merging.{some_word}
 use Rattle.hibitset_base.proofs.Holding.{bit_test, holds_put, turned}
-use Rattle.hibitset_base.proofs.Shapes.{get_or_any}
+use Rattle.hibitset.proofs.Layered.{shaped}
 use Rattle.hibitset.proofs.set.BitSet.put.Goals as goal
 
 pub put_word-requires-clause-before : goal.put_word-requires-clause-before
 unfolding word_of
-put_word-requires-clause-before c =
-    let self = c.args.self.now in
-    c.index-before.ensures ∙ get_or_any self.layer0.items (c.args.id / 64) c.index-before.result.now 0 c.requires
+put_word-requires-clause-before c = c.slice.ensures.words (c.args.id / 64)
 
 -- the tests of a bit and its word
 test_one : (x : ℕ) → (x == 1) ≡ true → x ≡ 1
@@ -25,15 +23,14 @@ put_word-requires-clause-set c set = some_word c.with_bit-word.result (c.args.id
 pub put_word-requires-clause-cleared : goal.put_word-requires-clause-cleared
 put_word-requires-clause-cleared c cleared =
     let self = c.args.self.now in
-    let before : c.index-before.result.now ≡ get_or self.layer0.items (c.args.id / 64) 0 = c.index-before.ensures ∙ get_or_any self.layer0.items (c.args.id / 64) c.index-before.result.now 0 c.requires in
-    let was = turned c.index-before.result.now c.with_bit-word.result (c.args.id % 64) c.args.stands (rw before (self.stored.shaped.words 0 (c.args.id / 64))) (omega arith) c.if-word-before.false c.with_bit-word.ensures.same c.with_bit-word.ensures.here in
-    some_word c.index-before.result.now (c.args.id % 64) (test_one _ (sym was ∙ ap not cleared))
+    let before = c.slice.ensures.words (c.args.id / 64) in
+    let was = turned (get_or c.slice.result.now (c.args.id / 64) 0) c.with_bit-word.result (c.args.id % 64) c.args.stands (rw before ((shaped self.layers).words 0 (c.args.id / 64))) (omega arith) c.if-word-before.false c.with_bit-word.ensures.same c.with_bit-word.ensures.here in
+    some_word (get_or c.slice.result.now (c.args.id / 64) 0) (c.args.id % 64) (test_one _ (sym was ∙ ap not cleared))
 
 pub returns-then-word-before-clause-was : goal.returns-then-word-before-clause-was
 unfolding has word_of
 returns-then-word-before-clause-was c =
-    let self = c.args.self.now in
-    let before : c.index-before.result.now ≡ get_or self.layer0.items (c.args.id / 64) 0 = c.index-before.ensures ∙ get_or_any self.layer0.items (c.args.id / 64) c.index-before.result.now 0 c.requires in
+    let before = c.slice.ensures.words (c.args.id / 64) in
     sym (bit_test c.args.stands) ∙ ap (λ x. x == 1) (sym c.with_bit-word.ensures.here ∙ ap (λ v. bit_at v (c.args.id % 64)) (c.if-word-before.true ∙ before))
 
 pub returns-then-word-before-clause-put : goal.returns-then-word-before-clause-put
@@ -46,15 +43,15 @@ pub returns-clause-was : goal.returns-clause-was
 unfolding has word_of
 returns-clause-was c =
     let self = c.args.self.now in
-    let before : c.index-before.result.now ≡ get_or self.layer0.items (c.args.id / 64) 0 = c.index-before.ensures ∙ get_or_any self.layer0.items (c.args.id / 64) c.index-before.result.now 0 c.requires in
-    turned c.index-before.result.now c.with_bit-word.result (c.args.id % 64) c.args.stands (rw before (self.stored.shaped.words 0 (c.args.id / 64))) (omega arith) c.if-word-before.false c.with_bit-word.ensures.same c.with_bit-word.ensures.here
+    let before = c.slice.ensures.words (c.args.id / 64) in
+    turned (get_or c.slice.result.now (c.args.id / 64) 0) c.with_bit-word.result (c.args.id % 64) c.args.stands (rw before ((shaped self.layers).words 0 (c.args.id / 64))) (omega arith) c.if-word-before.false c.with_bit-word.ensures.same c.with_bit-word.ensures.here
     ∙ ap (λ v. bit_at v (c.args.id % 64) == 1) before
 
 pub returns-clause-put : goal.returns-clause-put
 unfolding word_of has
 returns-clause-put c =
     let self = c.args.self.now in
-    let word : c.index-before.result.now ≡ get_or self.layer0.items (c.args.id / 64) 0 = c.index-before.ensures ∙ get_or_any self.layer0.items (c.args.id / 64) c.index-before.result.now 0 c.requires in
+    let word = c.slice.ensures.words (c.args.id / 64) in
     let put : word_of c.put_word.new.self 0 (c.args.id / 64) ≡ c.with_bit-word.result = c.put_word.ensures.here in
     holds_put (word_of self) (word_of c.put_word.new.self) c.args.id c.args.stands
     (ap (λ v. bit_at v (c.args.id % 64)) put ∙ c.with_bit-word.ensures.here)

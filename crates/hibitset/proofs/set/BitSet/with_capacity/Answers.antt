@@ -1,27 +1,16 @@
-use Rattle.std.proofs.Common.{◌≡◌, ◌∙◌, ap, arith}
-use Rattle.hibitset.specs.BitSet.{has, word_of, slice_len}
-use Rattle.hibitset_base.proofs.Holding.{holds_same}
-use Rattle.hibitset.proofs.set.BitSet.with_capacity.Goals.{then-max-gt0+in_ok-extend, else-max-gt0}
+use Rattle.hibitset_base.specs.declared.util.TheConstants.{LAYERS}
+use Rattle.hibitset_base.proofs.Holding.{holds_none, summed_none}
+use Rattle.hibitset.specs.BitSet.{has, word_of}
+use Rattle.hibitset.specs.Layers.{word_in}
+use Rattle.hibitset.proofs.Lengths.{limit_over}
 use Rattle.hibitset.proofs.set.BitSet.with_capacity.Goals as goal
 
-pub returns-clause-empty : goal.returns-clause-empty
-unfolding has
-returns-clause-empty c = λ i. elim c.if-max-gt0.branch [
-  | then-max-gt0+in_ok-extend w ↦ ap (λ s. has s i) w.set-is ∙ (holds_same (word_of c.new-set.result) (word_of w.extend.new.self) i w.extend.ensures.same ∙ c.new-set.ensures.empty i)
-  | else-max-gt0 w ↦ ap (λ s. has s i) w.set-is ∙ c.new-set.ensures.empty i
-]
+pub invariant_of-result : goal.invariant_of-result
+invariant_of-result c = record { summed = summed_none LAYERS (word_in c.in_ok-layers.layers) c.in_ok-layers.ensures.none }
 
-pub returns-clause-length : goal.returns-clause-length
-returns-clause-length c = elim c.if-max-gt0.branch [
-  | then-max-gt0+in_ok-extend w ↦
-      let some = w.if-max-gt0.true in
-      let none : slice_len c.new-set.result 0 ≡ 0 = c.new-set.ensures.lengths 0 (omega arith) in
-      let covers = w.in_ok-extend.ensures.covers in
-      let most = w.extend.ensures.most in
-      let is : slice_len c.if-max-gt0.set 0 ≡ slice_len w.extend.new.self 0 = ap (λ s. slice_len s 0) w.set-is in
-      is ∙ omega (arith, some, none, covers, most)
-  | else-max-gt0 w ↦
-      let none : slice_len c.new-set.result 0 ≡ 0 = c.new-set.ensures.lengths 0 (omega arith) in
-      let zero_max = w.if-max-gt0.false in
-      ap (λ s. slice_len s 0) w.set-is ∙ omega (arith, none, zero_max)
-]
+pub returns-clause-empty : goal.returns-clause-empty
+unfolding has word_of
+returns-clause-empty c = holds_none (word_in c.in_ok-layers.layers) c.in_ok-layers.ensures.none
+
+pub returns-clause-above : goal.returns-clause-above
+returns-clause-above c = λ l end below within. limit_over c.in_ok-layers.layers c.args.max l end below c.in_ok-layers.ensures.length within

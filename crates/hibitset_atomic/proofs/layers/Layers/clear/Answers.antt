@@ -15,6 +15,7 @@ loop-left-init c =
     record {
       top = refl;
       blocks = refl;
+      room = refl;
       fits = self.fits.2;
       covered = record { layer1 = covered.layer1; layer0 = covered.layer0 };
       clear = λ q off. (let clear = clear_if (layer_word self) q covered (none_under_top (layer_word self) q c.requires (single self) off) in record { layer2 = clear.layer2; layer1 = clear.layer1; layer0 = clear.layer0 });
@@ -28,6 +29,7 @@ loop-left-preserved c =
     record {
       top = e.top ∙ i.invariant.top;
       blocks = e.blocks ∙ i.invariant.blocks;
+      room = e.room ∙ i.invariant.room;
       fits = (let less = bit.less in let fits = i.invariant.fits in omega (arith, less, fits));
       covered = covered_more (layer_word i.self) (layer_word c.clear_under.new.self) c.take_bit.result e.inside e.outside i.invariant.covered;
       clear = clear_more (layer_word i.self) (layer_word c.clear_under.new.self) c.take_bit.result e.inside e.outside i.left c.take_bit.new.word i.invariant.fits bit.same i.invariant.clear;

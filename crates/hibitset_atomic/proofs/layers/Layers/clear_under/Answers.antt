@@ -23,6 +23,7 @@ loop-left-preserved c =
       outside = (let o = beside_more (layer_word self) v c.args.place c.take_bit.result i.left c.take_bit.new.word bit.below bit.same (λ k. refl) here others e.inside e.outside (layer_word c.args.self.now) i.invariant.outside in record { layer2 = o.layer2; layer1 = o.layer1; layer0 = o.layer0 });
       top = i.invariant.top;
       blocks = e.made ∙ i.invariant.blocks;
+      room = e.room ∙ i.invariant.room;
     }
 
 pub returns-clause-inside : goal.returns-clause-inside

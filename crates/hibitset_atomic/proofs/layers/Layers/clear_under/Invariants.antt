@@ -1,4 +1,4 @@
-use Rattle.std.proofs.Common.{◌≡◌, ℕ, ◌+◌, ◌*◌, ◌/◌, ◌<◌}
+use Rattle.std.proofs.Common.{◌≡◌, ℕ, ◌+◌, ◌*◌, ◌/◌, ◌<◌, vec_capacity}
 use Rattle.std.specs.Int.{bit_at}
 use Rattle.hibitset_atomic.specs.Layers.{layer_word}
 use Rattle.hibitset_atomic.specs.Clearing.{IsSameBeside}
@@ -12,6 +12,7 @@ invariant-loop-left l = record {
   outside : IsSameBeside (layer_word l.fn.self) (layer_word l.self) l.fn.place;
   top : l.self.layer3 ≡ l.fn.self.layer3;
   blocks : l.self.layer0.places.items ≡ l.fn.self.layer0.places.items;
+  room : vec_capacity l.self.layer0.words ≡ vec_capacity l.fn.self.layer0.words;
 }
 
 abbrev pub decreases-loop-left : goal.decreases-loop-left

@@ -4,11 +4,10 @@ use Rattle.hibitset_atomic.specs.declared.layers.TheConstants.{ATOMIC_LAYERS}
 use Rattle.hibitset_atomic.specs.declared.layers.Layers.{Layers}
 use Rattle.hibitset_atomic.specs.Layers.{upper_layers}
 use Rattle.hibitset_atomic.specs.Blocks.{block_word, IsMade}
-use Rattle.hibitset_base.proofs.LayerByLayer.{puts, puts_top, sets_bit}
 use Rattle.hibitset_base.proofs.Mending.{mended_last}
 use Rattle.hibitset_base.proofs.Holding.{same_test}
 use Rattle.hibitset_atomic.proofs.Placed.{made_within}
-use Rattle.hibitset_atomic.proofs.Layered.{over_first, over_up}
+use Rattle.hibitset_atomic.proofs.Layered.{over_first, over_up, puts, puts_top, sets_bit}
 use Rattle.hibitset_atomic.proofs.layers.Layers.put_word.Goals as goal
 
 -- the place of a word that is made lies in layer 0

@@ -1,7 +1,7 @@
 use Rattle.std.proofs.Common.{sym, ap, length, refl, ◌<◌, arith}
 use Rattle.hibitset_base.specs.declared.util.TheConstants.{MAX_EID}
 use Rattle.hibitset.specs.BitSet.{has}
-use Rattle.hibitset_store.proofs.Counting.{members-nowhere}
+use Rattle.hibitset.proofs.Sizes.{members-nowhere}
 use Rattle.hibitset_store.proofs.columns.Column.clear.Goals as goal
 
 pub invariant_of-self : goal.invariant_of-self

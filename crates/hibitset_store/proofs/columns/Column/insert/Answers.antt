@@ -7,7 +7,7 @@ use Rattle.hibitset_store.specs.Columns.{value_of}
 use Rattle.hibitset_store.specs.Pages.{value_at}
 use Rattle.hibitset_store.specs.Room.{places, words_len}
 use Rattle.hibitset_store.specs.declared.pages.TheConstants.{PAGE}
-use Rattle.hibitset_store.proofs.Counting.{at_most_one, count-with, members-few}
+use Rattle.hibitset.proofs.Sizes.{at_most_one, count-with, members-few}
 use Rattle.hibitset_store.proofs.Paging.{is_some-with}
 use Rattle.hibitset_store.proofs.Sizing.{AreWhole-kept, room-of_some, word-of_member}
 use Rattle.hibitset_store.proofs.columns.Column.insert.Goals as goal

@@ -3,7 +3,7 @@ use Rattle.hibitset.specs.BitSet.{has}
 use Rattle.hibitset.proofs.CallerLemmas.{has_within}
 use Rattle.hibitset_base.specs.declared.util.TheConstants.{MAX_EID}
 use Rattle.hibitset_store.specs.Columns.{value_of}
-use Rattle.hibitset_store.proofs.Counting.{members-without}
+use Rattle.hibitset.proofs.Sizes.{members-without}
 use Rattle.hibitset_store.proofs.Paging.{place_of-some, is_some-without}
 use Rattle.hibitset_store.proofs.Sizing.{AreWhole-kept, room-of_some}
 use Rattle.hibitset_store.specs.Room.{places, words_len}

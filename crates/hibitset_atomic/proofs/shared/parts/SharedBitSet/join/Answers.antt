@@ -1,8 +1,8 @@
 use Rattle.std.proofs.Common.{arith, refl, ap, inl, inr, ⊎_elim, ◌∙◌, length}
 use Rattle.std.proofs.lemmas.List.{nil_from_length, length-append}
 use Rattle.hibitset_atomic.proofs.Keeps.{joins, both_fit}
-use Rattle.hibitset_atomic.proofs.Told.{looked_once, united_parts, united_knows, united_settled}
-use Rattle.hibitset_atomic.specs.Seats.{Came, Known, IsOld, weight_of, reports_of}
+use Rattle.hibitset_atomic.proofs.Told.{looked_once, united_parts, united_knows, united_settled, united_counts}
+use Rattle.hibitset_atomic.specs.Seats.{Came, Known, IsOld, weight_of, reports_of, loads_by, exchanges_by}
 use Rattle.hibitset_atomic.proofs.shared.parts.SharedBitSet.join.Goals as goal
 
 pub join_seat-requires : goal.join_seat-requires
@@ -54,3 +54,7 @@ returns-clause-known c = λ i k. (
   ⊎_elim (λ x. x.0) (λ y. y.0) k,
   united_knows 266304 c.look.result c.args.a.pass.me.0 c.args.b.pass.me.0 c.args.a.pass.me.1 _ _ c.look.ensures.found c.join_seat.ensures.2 c.requires.0.2 c.requires.1.2 i (⊎_elim (λ x. inl x.1) (λ y. inr y.1) k),
 )
+
+pub returns-clause-steps : goal.returns-clause-steps
+unfolding Came Known IsOld weight_of reports_of loads_by exchanges_by
+returns-clause-steps c = united_counts 266304 c.look.result c.args.a.pass.me.0 c.args.b.pass.me.0 c.args.a.pass.me.1 _ _ c.look.ensures.found c.join_seat.ensures.2 c.requires.0.2 c.requires.1.2

@@ -1,6 +1,6 @@
 use Rattle.std.proofs.Common.{◌∙◌, sym, arith}
 use Rattle.hibitset_atomic.proofs.Levels.{mark_up, lower_mark-lt}
-use Rattle.hibitset_atomic.proofs.Told.{marks_, marked}
+use Rattle.hibitset_atomic.proofs.Told.{marks_, marked, marked_counts}
 use Rattle.hibitset_atomic.proofs.shared.parts.SharedBitSet.raise.Goals as goal
 
 pub fetch_or-requires : goal.fetch_or-requires
@@ -15,3 +15,6 @@ returns-clause-same c = let t = marked _ _ _ _ c.fetch_or.ensures.2 in (c.fetch_
 
 pub returns-clause-mark : goal.returns-clause-mark
 returns-clause-mark c = let t = marked _ _ _ _ c.fetch_or.ensures.2 in rw c.mark_of-mark.ensures.mark at t.2
+
+pub returns-clause-counts : goal.returns-clause-counts
+returns-clause-counts c = marked_counts c.mark_of-mark.result c.fetch_or.result _ _ c.fetch_or.ensures.2

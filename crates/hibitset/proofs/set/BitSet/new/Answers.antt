@@ -1,0 +1,12 @@
+use Rattle.hibitset_base.specs.declared.util.TheConstants.{LAYERS}
+use Rattle.hibitset_base.proofs.Holding.{holds_none, summed_none}
+use Rattle.hibitset.specs.BitSet.{has, word_of}
+use Rattle.hibitset.specs.Layers.{word_in}
+use Rattle.hibitset.proofs.set.BitSet.new.Goals as goal
+
+pub invariant_of-result : goal.invariant_of-result
+invariant_of-result c = record { summed = summed_none LAYERS (word_in c.new.result) c.new.ensures.none }
+
+pub returns-clause-empty : goal.returns-clause-empty
+unfolding has word_of
+returns-clause-empty c = holds_none (word_in c.new.result) c.new.ensures.none

@@ -1,0 +1,22 @@
+-- What a contract sees of `Layers`.
+use Rattle.std.specs.Prelude.{ℕ, ◌-◌, List, [], get_or, length}
+use Rattle.hibitset_base.specs.Words.{word_at}
+use Rattle.hibitset_base.specs.declared.util.TheConstants.{LAYERS}
+use Rattle.hibitset.specs.Laying.{parts, room_of, count_of}
+use Rattle.hibitset.specs.declared.layers.Layers.{Layers}
+
+-- how many words of layer 0 there is room for
+abbrev pub room_in : Layers → ℕ
+room_in layers = room_of layers.starts
+
+-- the words of the layers, from the lowest up
+unfoldable pub lists : Layers → List (List ℕ)
+lists layers = parts layers.words.items (room_of layers.starts) (count_of layers.lens) layers.top 0 (LAYERS - 1)
+
+-- the word of a layer at a position, which is 0 past the layer's end
+abbrev pub word_in : Layers → ℕ → ℕ → ℕ
+word_in layers = word_at (lists layers)
+
+-- how many words a layer has
+abbrev pub len_in : Layers → ℕ → ℕ
+len_in layers l = length (get_or (lists layers) l [])

@@ -1,0 +1,5 @@
+mod Bounding
+mod Listing
+mod Turning
+mod Walking
+mod Weighing

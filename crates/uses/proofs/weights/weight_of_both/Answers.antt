@@ -1,0 +1,10 @@
+use Rattle.std.proofs.Common.{ap, ◌∙◌, rules}
+use Rattle.hibitset.specs.BitSet.{has}
+use Rattle.uses.specs.Weights.{both}
+use Rattle.uses.proofs.Weighing.{total_of_parts, items_fit}
+use Rattle.uses.proofs.weights.weight_of_both.Goals as goal
+
+pub returns : goal.returns
+returns g c =
+    total_of_parts c.args.weights.now (has c.args.a.now) (has c.args.b.now) _ _ _ (λ e k. search rules) (λ a x b k. search rules) (λ a b r k. search rules)
+    (both c.par_iter.result.set) (λ i. ap (λ sets. both sets i) c.par_iter.ensures.set ∙ c.bitand.ensures.2 i) (items_fit c.args.weights.now c.type_inv.weights) c.fold.result c.fold.ensures

@@ -1,0 +1,48 @@
+-- How many words walks read in all.
+use Rattle.std.specs.Prelude.{ℕ, ◌+◌, ◌*◌, ◌^◌, min, Bool, List, length, filter, nat_lt, ◌&&◌, Option, Some, None}
+use Rattle.std.specs.Borrow.{Bor}
+use Rattle.hibitset_base.specs.Places.{Place}
+use Rattle.hibitset_base.specs.Splits.{part_words, part_reads}
+use Rattle.hibitset_base.specs.Walk.{words_read, words_ahead}
+use Rattle.hibitset_base.specs.declared.iter.BitIter.{BitIter}
+use Rattle.hibitset_base.specs.declared.parallel.BitProducer.{BitProducer}
+use Rattle.hibitset_base.specs.declared.virt.BitSetAnd.{BitSetAnd}
+use Rattle.hibitset.specs.BitSet.{has, members_of}
+use Rattle.hibitset.specs.Laws.{intersected}
+use Rattle.hibitset.specs.declared.set.BitSet.{BitSet}
+
+-- what two sets have in common, by reference
+abbrev pub Both : Type 0
+Both = BitSetAnd (Bor BitSet) (Bor BitSet)
+
+-- the members of both
+abbrev pub is_in_both : Both → ℕ → Bool
+is_in_both both i = has both.0.now i && has both.1.now i
+
+abbrev pub words_in_both : Both → ℕ → ℕ → ℕ
+words_in_both both = intersected both.0.now both.1.now
+
+-- four words for each member of the smaller set, and one
+abbrev pub budget : BitSet → BitSet → ℕ
+budget a b = 4 * min (length (members_of a)) (length (members_of b)) + 1
+
+-- how many words of each set a walk reads in all: those that it has read, and those ahead
+abbrev pub reads_in_all : BitIter Both → ℕ
+reads_in_all walk = words_read walk + length (words_ahead words_in_both walk)
+
+-- the same of a part
+abbrev pub part_reads_in_all : BitProducer Both → ℕ
+part_reads_in_all part = part_reads part + length (part_words words_in_both part)
+
+-- the same of a part that there may be
+abbrev pub other_reads_in_all : Option (BitProducer Both) → ℕ
+other_reads_in_all None = 0
+other_reads_in_all (Some part) = part_reads_in_all part
+
+-- the word at a place has only indices after this one
+abbrev pub is_after : ℕ → Place → Bool
+is_after index place = nat_lt index (place.position * 64 ^ (place.layer + 1))
+
+-- the words ahead of a walk that have only indices after this one
+abbrev pub ahead_after : ℕ → BitIter Both → List Place
+ahead_after index walk = filter (is_after index) (words_ahead words_in_both walk)

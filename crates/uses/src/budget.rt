@@ -1,0 +1,50 @@
+//! Walks over what two sets have in common, and how many words they read.
+ghost use Rattle.std.specs.Prelude.{◌≡◌, ◌+◌, ◌-◌, ◌≤◌, ◌&&◌, ◌++◌};
+ghost use Rattle.hibitset_base.specs.Members.{members, members_below};
+ghost use Rattle.hibitset_base.specs.Splits.{part_reads, part_items, other_items};
+ghost use Rattle.hibitset_base.specs.Walk.{words_ahead, items_left};
+ghost use Rattle.hibitset_base.specs.declared.util.TheConstants.{MAX_EID};
+ghost use Rattle.hibitset.specs.BitSet.{has};
+ghost use Rattle.uses.specs.Budget.{is_in_both, budget, reads_in_all, part_reads_in_all, other_reads_in_all, ahead_after, words_in_both};
+
+use hibitset::laws::laws;
+use hibitset::{BitIter, BitProducer, BitSet, BitSetAnd, BitSetLike, Index};
+
+/// What two sets have in common.
+pub type Both<'a> = BitSetAnd<&'a BitSet, &'a BitSet>;
+
+/// A walk over what both sets have. However far it goes, it reads at most four words of each for each member of the smaller one, and one.
+pub fn in_both<'a>(a: &'a BitSet, b: &'a BitSet) -> BitIter<Both<'a>>
+    ensures items { items_left is_in_both result ≡ members_below MAX_EID (λ i. has a.now i && has b.now i) }
+    ensures few { reads_in_all result ≤ budget a.now b.now }
+{
+    laws();
+    (a & b).into_iter()
+}
+
+/// A walk over what both sets have, and one from an index on. The later one reads no more words in all, and those ahead of it are the ones of the whole walk that have only indices after `start`.
+pub fn in_both_from<'a>(
+    a: &'a BitSet,
+    b: &'a BitSet,
+    start: Index,
+) -> (BitIter<Both<'a>>, BitIter<Both<'a>>)
+    ensures items { items_left is_in_both result.1 ≡ members (λ i. has a.now i && has b.now i) start (MAX_EID - start) }
+    ensures fewer { reads_in_all result.1 ≤ reads_in_all result.0 }
+    ensures ahead { words_ahead words_in_both result.1 ≡ ahead_after start result.0 }
+    ensures few { reads_in_all result.1 ≤ budget a.now b.now }
+{
+    laws();
+    ((a & b).iter(), (a & b).iter_from(start))
+}
+
+/// A walk over what both sets have in two parts, or in one where it can't be split. Together they read no more words than one walk may, and by now four at most were read.
+pub fn halves<'a>(
+    both: &'a Both<'a>,
+) -> (BitProducer<'a, Both<'a>>, Option<BitProducer<'a, Both<'a>>>)
+    ensures items { part_items is_in_both result.0 ++ other_items is_in_both result.1 ≡ members_below MAX_EID (is_in_both both.now) }
+    ensures few { part_reads_in_all result.0 + other_reads_in_all result.1 ≤ budget both.now.0.now both.now.1.now }
+    ensures by_now { part_reads result.0 ≤ 4 }
+{
+    laws();
+    BitProducer(both.iter(), 3).split()
+}

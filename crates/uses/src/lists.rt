@@ -1,0 +1,33 @@
+//! Sets made of lists, and extended by them.
+ghost use Rattle.std.specs.Prelude.{◌≡◌, ℕ, ◌/◌, ◌<◌, ◌≤◌, ◌↔◌, ◌⊎◌, true, length, take, IfOk, IfErr, OnOk, Contains};
+ghost use Rattle.hibitset_base.specs.declared.util.TheConstants.{MAX_EID};
+ghost use Rattle.hibitset.specs.BitSet.{has, slice_len};
+ghost use Rattle.uses.specs.Lists.{place_of, InRangeBefore, IsWhy, LacksRoom, LiesApartIn};
+
+use hibitset::{BitSet, BuildError, Index};
+use std::alloc::Global;
+
+/// The set of the indices of a list. Where one is refused, the error tells its place: it is the first out of range, or one for which there was no memory, and then its word lies past those of all before it.
+pub fn set_of(alloc: Global, list: &[Index]) -> Result<BitSet, BuildError>
+    ensures members { IfOk result (λ set. (i : ℕ) → (has set i ≡ true) ↔ Contains list.now i) }
+    ensures in_range { IfOk result (λ _. InRangeBefore MAX_EID list.now (length list.now)) }
+    ensures place { IfErr result (λ error. place_of error < length list.now) }
+    ensures before { IfErr result (λ error. InRangeBefore MAX_EID list.now (place_of error)) }
+    ensures why { IfErr result (IsWhy MAX_EID list.now) }
+    ensures apart { IfErr result (LiesApartIn (λ i j. i / 64 < j / 64) list.now) }
+{
+    BitSet::from_index_refs(alloc, list)
+}
+
+/// Adds the indices of a list to a set. Where one is refused, those before it are added: it is the first out of range, or one for which there was no memory, and then the set has no word for it.
+pub fn add_all(set: &mut BitSet, list: &[Index]) -> Result<(), BuildError>
+    ensures added { OnOk result ((i : ℕ) → (has set.new i ≡ true) ↔ ((has set.old i ≡ true) ⊎ Contains list.now i)) }
+    ensures in_range { OnOk result (InRangeBefore MAX_EID list.now (length list.now)) }
+    ensures some { IfErr result (λ error. (i : ℕ) → (has set.new i ≡ true) ↔ ((has set.old i ≡ true) ⊎ Contains (take (place_of error) list.now) i)) }
+    ensures place { IfErr result (λ error. place_of error < length list.now) }
+    ensures before { IfErr result (λ error. InRangeBefore MAX_EID list.now (place_of error)) }
+    ensures why { IfErr result (IsWhy MAX_EID list.now) }
+    ensures lacks { IfErr result (LacksRoom (λ i. slice_len set.new 0 ≤ i / 64) list.now) }
+{
+    set.extend_index_refs(list)
+}

@@ -1,0 +1,42 @@
+//! Additions that need no memory.
+ghost use Rattle.std.specs.Prelude.{◌≡◌, ℕ, ◌/◌, ◌<◌, ◌==◌, ◌||◌, true, length, slice_index, IfOk};
+ghost use Rattle.hibitset_base.specs.declared.util.TheConstants.{MAX_EID};
+ghost use Rattle.hibitset.specs.BitSet.{has, word_of, slice_len};
+ghost use Rattle.hibitset_atomic.specs.AtomicBitSet.{has as has_atomic};
+
+use hibitset::laws::atomic_laws;
+use hibitset::{AtomicBitSet, BitSet, Index};
+use std::alloc::{AllocError, Global};
+
+/// A copy with one index more, for which the set has a word: only the copy itself can be refused memory, and it has as many words.
+pub fn with_one_more(set: &BitSet, id: Index) -> Result<BitSet, AllocError>
+    requires id { id < MAX_EID }
+    requires room { id / 64 < slice_len set.now 0 }
+    ensures members { IfOk result (λ copy. (i : ℕ) → has copy i ≡ (has set.now i || i == id)) }
+{
+    let mut copy = set.clone()?;
+    copy.add(id).unwrap();
+    Ok(copy)
+}
+
+/// The words of the two lowest layers, which are saved from a copy, so that the set can be changed meanwhile.
+pub fn saved(alloc: Global, set: &BitSet) -> Result<(Vec<usize>, Vec<usize>), AllocError>
+    ensures lengths { IfOk result (λ saved. (length saved.0.items ≡ slice_len set.now 0) × (length saved.1.items ≡ slice_len set.now 1)) }
+    ensures words { IfOk result (λ saved. (p : ℕ) → (slice_index saved.0.items p ≡ word_of set.now 0 p) × (slice_index saved.1.items p ≡ word_of set.now 1 p)) }
+{
+    let copy = set.clone()?;
+    let members = copy.layer0_as_slice().to_vec(alloc)?;
+    let summaries = copy.layer1_as_slice().to_vec(alloc)?;
+    Ok((members, summaries))
+}
+
+/// Adds an index that lies in the same 4,096 indices as a member, and tells whether it was there.
+pub fn add_beside(set: &mut AtomicBitSet, member: Index, id: Index) -> bool
+    requires member { has_atomic set.old member ≡ true }
+    requires beside { member / 4096 ≡ id / 4096 }
+    ensures was { result ≡ has_atomic set.old id }
+    ensures added { (i : ℕ) → has_atomic set.new i ≡ (has_atomic set.old i || i == id) }
+{
+    atomic_laws();
+    set.add(id).unwrap()
+}

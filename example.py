@@ -1,0 +1,67 @@
+#!/usr/bin/env python3
+"""example.py [--make] [FOLDER]: makes the repository that README's section 'Use it from your crate' prints, and passes it.
+
+In that section each block whose line above it ends in a file's name in backticks and a colon is that file. Beside these
+files stand the crates of this repository that the printed crates.txt names, as they are here but for must-fail edits and
+tests: the library is proved, not its tests. FOLDER is one that is not there yet; without it a fresh one is made, and
+removed afterwards. Then 'rt ci' runs there, and its status is this one's. With --make nothing is run.
+"""
+import argparse
+import re
+import shutil
+import subprocess
+import sys
+import tempfile
+from pathlib import Path
+
+TOP = Path(__file__).resolve().parent
+HEADING = "## Use it from your crate"
+TESTS = re.compile(r"\n#\[cfg\(test\)\]\nmod tests;\n")
+
+
+def printed():
+    """The files that the section prints: their names, and what is in them."""
+    text = (TOP / "README.md").read_text(encoding="utf-8")
+    section = text.split(f"\n{HEADING}\n")[1].split("\n## ")[0]
+    return dict(re.findall(r"`([\w./-]+)`:\n\n```\w*\n(.*?)^```$", section, re.M | re.S))
+
+
+def left_out(folder, names):
+    """What is not copied of a folder of a crate."""
+    inside = Path(folder).relative_to(TOP / "crates").parts[1:]
+    tests = {(): ["out", "must-fail"], ("src",): ["tests", "tests.rt"], ("proofs",): ["tests"]}
+    return [name for name in names if name in tests.get(inside, [])]
+
+
+def make(folder):
+    files = printed()
+    folder.mkdir()
+    for name, text in files.items():
+        path = folder / name
+        path.parent.mkdir(parents=True, exist_ok=True)
+        path.write_text(text, encoding="utf-8")
+    for crate in re.findall(r"^(\w+)[^:#\n]*:", files["crates.txt"], re.M):
+        copy = folder / "crates" / crate
+        if copy.exists():
+            continue
+        shutil.copytree(TOP / "crates" / crate, copy, ignore=left_out)
+        root = copy / "src" / "lib.rt"
+        root.write_text(TESTS.sub("", root.read_text(encoding="utf-8")), encoding="utf-8")
+
+
+def main():
+    reader = argparse.ArgumentParser(description="Makes the repository that README prints for a user, and passes it.")
+    reader.add_argument("--make", action="store_true", help="make it, and run nothing")
+    reader.add_argument("folder", nargs="?", type=Path, metavar="FOLDER", help="where to make it; not there yet")
+    said = reader.parse_args()
+    if said.make and not said.folder:
+        reader.error("--make wants a FOLDER")
+    if said.folder and said.folder.exists():
+        reader.error(f"{said.folder} is there already")
+    with tempfile.TemporaryDirectory() as fresh:
+        folder = said.folder or Path(fresh) / "example"
+        make(folder)
+        sys.exit(0 if said.make else subprocess.run(["rt", "ci"], cwd=folder).returncode)
+
+
+main()
