@@ -9,6 +9,7 @@ pub mod Equality
 pub mod Ending
 pub mod Lengths
 pub mod Sizes
+pub mod Ranging
 pub mod Stepping
 pub mod Folding
 pub mod Differing

@@ -2,7 +2,7 @@
 use Rattle.std.proofs.Common.{◌≡◌, ◌≢◌, ℕ, zero, suc, ◌+◌, ◌-◌, ◌*◌, ◌/◌, ◌%◌, ◌^◌, ◌<◌, ◌≤◌, ◌==◌, Bool, ◌↔◌, refl, sym, ◌∙◌, ap, arith, lit<, ◌⊎◌, inl, inr}
 use Rattle.std.specs.Prelude.{bit_and, min}
 use Rattle.std.specs.Int.{bit_at, bit_not, w64}
-use Rattle.std.proofs.Math.Nat.{pow-suc, pow-le-pow_right, div-div-eq-div-mul, div-lt_iff_lt-mul, one-le-pow}
+use Rattle.std.proofs.Math.Nat.{pow-suc, div-div-eq-div-mul, div-lt_iff_lt-mul, one-le-pow}
 use Rattle.std.proofs.lemmas.Bool.{cases_lt}
 use Rattle.std.proofs.lemmas.Nat.{pow-add}
 use Rattle.std.proofs.lemmas.Nat.Bits.{bit_at-lt, bit_at_and, bit_at_not, bit_at-zero}
@@ -203,17 +203,6 @@ narrowed_end n holds w lawful l last end below none first bits p within after = 
       ])
 ]
 
--- our word of a layer, by the two clauses of `get_from_layer`
-pub our_word : (w : ℕ → ℕ → ℕ) (layer place x : ℕ) → layer < LAYERS → place < 64 ^ (LAYERS - 1 - layer) → (layer + 1 < LAYERS → x ≡ w layer place) → (layer + 1 ≡ LAYERS → x ≡ w layer 0) → x ≡ w layer place
-our_word w layer place x layers within below top = elim (cases_lt (layer + 1) LAYERS) [
-  | inl h ↦ below h
-  | inr m ↦
-      let z : LAYERS - 1 - layer ≡ 0 = omega arith in
-      let one : place < 64 ^ 0 = rw z at within in
-      let first : place ≡ 0 = omega (arith, one) in
-      top (omega arith) ∙ ap (λ q. w layer q) (sym first)
-]
-
 -- a word of a layer covers those below it
 pub covers_below : (w : ℕ → ℕ → ℕ) (layer place x : ℕ) → layer - 1 + 1 ≡ layer → layer < LAYERS → IsSummed LAYERS w → x ≡ w layer place → Covers (w (layer - 1)) place x
 covers_below w layer place x above within summed is = record {
@@ -222,25 +211,6 @@ covers_below w layer place x above within summed is = record {
       let on_here : bit_at (w layer place) b ≡ 1 = rw above at on in
       rw is on_here;
 }
-
--- a place one layer below
-pub lower_place : (n layer place bit : ℕ) → layer + 1 < n → place < 64 ^ (n - 2 - layer) → bit < 64 → 64 * place + bit < 64 ^ (n - 1 - layer)
-lower_place n layer place bit below within small =
-    let step : 64 ^ (n - 1 - layer) ≡ 64 ^ (n - 2 - layer) * 64 = (let s : n - 1 - layer ≡ suc (n - 2 - layer) = omega arith in ap (λ x. 64 ^ x) s ∙ pow-suc 64 (n - 2 - layer)) in
-    omega (arith, step, within, small)
-
--- the same, told by the layer above
-pub place_below : (n layer place bit : ℕ) → 0 < layer → layer < n → place < 64 ^ (n - 1 - layer) → bit < 64 → 64 * place + bit < 64 ^ (n - 1 - (layer - 1))
-place_below n layer place bit some within range small =
-    let same : n - 1 - layer ≡ n - 2 - (layer - 1) = omega arith in
-    lower_place n (layer - 1) place bit (omega arith) (rw same at range) small
-
--- and it is less than layer 0 has places
-pub place_fits : (n layer place bit : ℕ) → 0 < layer → layer < n → place < 64 ^ (n - 1 - layer) → bit < 64 → 64 * place + bit < 64 ^ (n - 1)
-place_fits n layer place bit some within range small =
-    let lower = place_below n layer place bit some within range small in
-    let most : 64 ^ (n - 1 - (layer - 1)) ≤ 64 ^ (n - 1) = (let b : n - 1 - (layer - 1) ≤ n - 1 = omega arith in pow-le-pow_right {n = 64} (lit< tt) b) in
-    omega (arith, lower, most)
 
 -- any lawful set's word of a layer covers those below it
 pub lawful_covers : (n : ℕ) (holds : ℕ → Bool) (w : ℕ → ℕ → ℕ) → IsLawful n holds w → (layer place : ℕ) → 0 < layer → layer < n → place < 64 ^ (n - 1 - layer) → Covers (w (layer - 1)) place (w layer place)

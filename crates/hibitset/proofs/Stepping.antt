@@ -1,5 +1,5 @@
 -- A step of a walk from a place on, and what a set that is not empty has.
-use Rattle.std.proofs.Common.{◌≡◌, ℕ, zero, suc, ◌+◌, ◌-◌, ◌<◌, ◌≤◌, Bool, true, false, cond, List, [], ◌∷◌, ◌⊎◌, Contains, refl, arith, nat_le, ◌&&◌, ap₂, subst, ◌∙◌, inl, inr}
+use Rattle.std.proofs.Common.{◌≡◌, ℕ, zero, suc, ◌+◌, ◌-◌, ◌<◌, ◌≤◌, Bool, true, false, List, [], ◌∷◌, ◌⊎◌, Contains, refl, arith, nat_le, ◌&&◌, ap₂, subst, ◌∙◌, inl, inr}
 use Rattle.std.proofs.lemmas.Bool.{cases_Bool, le-leb}
 use Rattle.hibitset_base.proofs.CallerLemmas.{none_from}
 use Rattle.hibitset_base.specs.First.{IsFirst}

@@ -1,5 +1,5 @@
 -- What holds of all sets.
-use Rattle.std.specs.Prelude.{◌≡◌, ℕ, ◌<◌, Bool, true, bit_and}
+use Rattle.std.specs.Prelude.{◌≡◌, ℕ, ◌<◌, true, bit_and}
 use Rattle.hibitset_base.specs.declared.util.TheConstants.{MAX_EID}
 use Rattle.hibitset.specs.BitSet.{has, word_of}
 use Rattle.hibitset.specs.declared.set.BitSet.{BitSet}

@@ -3,6 +3,7 @@ pub mod Layers
 pub mod BitSet
 pub mod Merging
 pub mod Operators
+pub mod Numbers
 pub mod Comparing
 pub mod Laws
 pub mod Building

@@ -190,11 +190,7 @@ impl Layers {
         requires { layer < LAYERS - 1 }
         ensures { result ≡ start layer (room_in self.now) }
     {
-        if layer == 0 {
-            0
-        } else {
-            self.starts[layer]
-        }
+        if layer == 0 { 0 } else { self.starts[layer] }
     }
 
     /// The words of a layer below the top.

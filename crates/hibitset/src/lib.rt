@@ -8,6 +8,7 @@ pub mod laws;
 mod layers;
 mod operator;
 pub mod ops;
+mod range;
 pub mod set;
 
 pub use build::BuildError;

@@ -4,6 +4,7 @@
 ghost use Rattle.std.specs.Prelude.{◌≡◌, ◌≢◌, ℕ, ◌+◌, ◌-◌, ◌*◌, ◌/◌, ◌%◌, ◌^◌, ◌<◌, ◌≤◌, ◌==◌, ◌||◌, ◌&&◌, not, if◌then◌else◌, ◌↔◌, Bool, true, false, List, [], ◌∷◌, get_or, length, slice_index_or, OnOk, OnErr, IfOk, IsOk, max, refl};
 ghost use Rattle.std.specs.Int.{bit_at};
 ghost use Rattle.hibitset_base.specs.Words.{IsSummed, holds_at};
+ghost use Rattle.hibitset.specs.Numbers.{stands_in};
 ghost use Rattle.hibitset.specs.Layers.{word_in};
 ghost use Rattle.hibitset_base.specs.declared.util.TheConstants.{LAYERS, MAX_EID};
 
@@ -97,7 +98,7 @@ impl BitSet {
 
     // Puts a word into layer 0 in the place of the word `before`, of which one bit was set or cleared, and sets the summaries over it right, as far up as one turns from 0 or to 0.
     #[inline]
-    fn put_word(&mut self, place: usize, before: usize, word: usize, stands: bool)
+    pub(crate) fn put_word(&mut self, place: usize, before: usize, word: usize, stands: bool)
         requires place { place < slice_len self.old 0 }
         requires before { before ≡ word_of self.old 0 place }
         requires set { stands ≡ true → 0 < word }
@@ -170,10 +171,12 @@ impl BitSet {
         self.layers.clear();
     }
 
-    /// The words of layer 0, at least as many as the members need. Past the end all are 0.
+    /// The words of layer 0, at least as many as the members need. Past the end all are 0. `from_words` makes the set of them again.
     #[inline]
     pub fn layer0_as_slice(&self) -> &[usize]
+        ensures members { (i : ℕ) → has self.now i ≡ stands_in result.now i }
         ensures length { length result.now ≡ slice_len self.now 0 }
+        ensures short { length result.now ≤ 64 ^ (LAYERS - 1) }
         ensures words { (p : ℕ) → slice_index_or result.now p 0 ≡ word_of self.now 0 p }
     {
         self.layers.slice(0)

@@ -8,6 +8,7 @@ mod life;
 mod made;
 mod operators;
 mod parallel;
+mod ranges;
 mod splits;
 mod walks;
 

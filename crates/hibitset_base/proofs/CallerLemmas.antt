@@ -1,5 +1,5 @@
 -- For callers: what the list of a set's members says of the set, and what is left of it after a step.
-use Rattle.std.proofs.Common.{◌≡◌, ◌⊎◌, ◌↔◌, inl, inr, ℕ, zero, suc, ◌+◌, ◌-◌, ◌<◌, ◌≤◌, Bool, true, false, not, ◌==◌, ◌&&◌, List, [], ◌∷◌, Contains, slice_index, Option, Some, None, MatchOption, refl, sym, subst, arith}
+use Rattle.std.proofs.Common.{◌≡◌, ◌⊎◌, ◌↔◌, inl, inr, ℕ, zero, suc, ◌+◌, ◌-◌, ◌<◌, ◌≤◌, Bool, true, false, not, ◌==◌, ◌&&◌, List, [], ◌∷◌, Contains, slice_index, Option, Some, None, MatchOption, refl, sym, ◌∙◌, subst, arith}
 use Rattle.std.specs.Prelude.{nat_le}
 use Rattle.std.specs.List.{All}
 use Rattle.std.specs.List.Sorted.{IsStrictlyIncreasing}
@@ -30,6 +30,12 @@ first_from bound start p x rest e =
 -- Where it has no item, there is no member from there on.
 pub none_from : (bound start : ℕ) (p : ℕ → Bool) → members p start (bound - start) ≡ [] → HasNone bound (λ i. nat_le start i && p i)
 none_from bound start p e i below = not_before start i (p i) (λ at. none_in p start (bound - start) e i at (omega arith))
+
+-- The first item of a walk that begins at `start`, where it has one.
+pub first_step_from : (bound start : ℕ) (p : ℕ → Bool) (xs ys : List ℕ) (item : Option ℕ) → xs ≡ members p start (bound - start) → MatchOption item ((xs ≡ []) × (ys ≡ [])) (λ x. xs ≡ x ∷ ys)
+    → MatchOption item (HasNone bound (λ i. nat_le start i && p i)) (IsFirst bound (λ i. nat_le start i && p i))
+first_step_from bound start p xs ys None e ends = none_from bound start p (sym e ∙ ends.0)
+first_step_from bound start p xs ys (Some x) e first = first_from bound start p x ys (sym e ∙ first)
 
 head_gone : (b c : Bool) (x : ℕ) → c ≡ (b && not (x == x)) → c ≡ false
 head_gone b c x e = grind (arith, nat_tests)

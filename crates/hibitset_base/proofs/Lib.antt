@@ -1,5 +1,8 @@
 pub mod Members
 pub mod Firsts
+pub mod Lasts
+pub mod Sharing
+pub mod Placing
 pub mod Masks
 pub mod Ones
 pub mod Halving

@@ -1,5 +1,5 @@
 -- What the operators mean. A set is given by what it holds of, and the word is true at every number.
-use Rattle.std.specs.Prelude.{◌≡◌, ℕ, Bool, ◌&&◌, ◌||◌, not, nat_lt}
+use Rattle.std.specs.Prelude.{◌≡◌, ℕ, ◌<◌, Bool, true, false, ◌&&◌, ◌||◌, not, nat_lt}
 use Rattle.hibitset_base.specs.Virtual.{differ}
 use Rattle.hibitset_base.specs.declared.util.TheConstants.{MAX_EID}
 
@@ -26,3 +26,11 @@ IsDifference set other result = (i : ℕ) → result i ≡ (set i && not (other 
 -- the result has exactly the numbers that are in one of the two alone
 abbrev pub IsExclusive : (ℕ → Bool) → (ℕ → Bool) → (ℕ → Bool) → Type 0
 IsExclusive set other result = (i : ℕ) → result i ≡ differ (set i) (other i)
+
+-- the two have no number below the bound in common
+abbrev pub AreDisjoint : ℕ → (ℕ → Bool) → (ℕ → Bool) → Type 0
+AreDisjoint bound set other = (i : ℕ) → i < bound → set i ≡ true → other i ≡ false
+
+-- each number of the set below the bound is in the other
+abbrev pub IsSubset : ℕ → (ℕ → Bool) → (ℕ → Bool) → Type 0
+IsSubset bound set other = (i : ℕ) → i < bound → set i ≡ true → other i ≡ true

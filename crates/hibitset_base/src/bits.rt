@@ -34,6 +34,7 @@ pub fn last_bit(word: usize) -> usize
 pub fn take_last_bit(word: &mut usize) -> usize
     requires { 0 < word.old }
     ensures below { result < 64 }
+    ensures stood { bit_at word.old result ≡ 1 }
     ensures last { (b : ℕ) → bit_at word.old b ≡ 1 → b ≤ result }
     ensures gone { bit_at word.new result ≡ 0 }
     ensures same { (b : ℕ) → b < 64 → b ≢ result → bit_at word.new b ≡ bit_at word.old b }

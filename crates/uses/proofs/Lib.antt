@@ -1,5 +1,6 @@
 mod Bounding
 mod Listing
+mod Running
 mod Turning
 mod Walking
 mod Weighing

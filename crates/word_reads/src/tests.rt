@@ -1,5 +1,6 @@
 //! Values from outside: walks and assignments over types of the tests' own, which count or list the words that are read, or have all bits in the layers above the lowest.
 mod clones;
+mod ends;
 mod parts;
 mod reach;
 mod reads;

@@ -168,8 +168,16 @@ fn differences(rt: HostRuntime) -> Result<(), Fail> {
             "{ours:?} without {theirs:?}"
         );
         assert_eq!(rt; set.layer3(0), layer3, "{ours:?} without {theirs:?}");
-        assert_eq!(rt; set.is_empty(), left.is_empty(), "{ours:?} without {theirs:?}");
-        assert_eq!(rt; set.layer0_as_slice().len(), words, "{ours:?} without {theirs:?}");
+        assert_eq!(rt;
+            set.is_empty(),
+            left.is_empty(),
+            "{ours:?} without {theirs:?}"
+        );
+        assert_eq!(rt;
+            set.layer0_as_slice().len(),
+            words,
+            "{ours:?} without {theirs:?}"
+        );
         let once = set.clone()?;
         set.subtract_assign(&other);
         assert!(rt; set == once, "{ours:?} without {theirs:?}, twice");

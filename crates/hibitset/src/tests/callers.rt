@@ -1,5 +1,5 @@
 //! What callers know of walks and assignments, from the public contracts alone.
-ghost use Rattle.std.specs.Prelude.{◌≡◌, ℕ, ◌+◌, ◌-◌, ◌*◌, ◌^◌, ◌<◌, ◌≤◌, ◌&&◌, true, length, IfOk, OnOk, OnErr};
+ghost use Rattle.std.specs.Prelude.{◌≡◌, ℕ, ◌+◌, ◌-◌, ◌*◌, ◌^◌, ◌/◌, ◌<◌, ◌≤◌, ◌==◌, ◌&&◌, ◌||◌, true, false, length, IfOk, IsOk, OnOk, OnErr};
 ghost use Rattle.hibitset_base.specs.Connectives.{IsIntersection, IsUnion, IsExclusive};
 ghost use Rattle.hibitset_base.specs.Members.{members, members_below};
 ghost use Rattle.hibitset_base.specs.Walk.{IsDrawn, words_read, words_ahead, items_left};
@@ -123,6 +123,31 @@ fn room_for_a_block(alloc: Global) -> Result<BitSet, AllocError>
     Ok(set)
 }
 
+// A range of one index is that index.
+fn add_one(set: &mut BitSet, id: Index) -> Result<(), AllocError>
+    requires { id < MAX_EID }
+    ensures added { OnOk result ((i : ℕ) → has set.new i ≡ (has set.old i || i == id)) }
+    ensures room { id / 64 < slice_len set.old 0 → IsOk result }
+{
+    set.add_range(id, id + 1)
+}
+
+// The range of all indices is all of a set.
+fn remove_all(set: &mut BitSet)
+    ensures { (i : ℕ) → has set.new i ≡ false }
+{
+    laws();
+    set.remove_range(0, MAX_EID as Index)
+}
+
+// A set that is saved and read again, in the words of layer 0.
+fn read_again(alloc: Global, set: &BitSet) -> Result<BitSet, AllocError>
+    ensures members { IfOk result (λ again. (i : ℕ) → has again i ≡ has set.now i) }
+    ensures length { IfOk result (λ again. slice_len again 0 ≡ slice_len set.now 0) }
+{
+    BitSet::from_words(alloc, set.layer0_as_slice())
+}
+
 // Adds a set without words from `end` on, in the words of layer 3.
 fn widen_within(set: &mut BitSet, other: &BitSet, end: usize) -> Result<(), AllocError>
     requires ours { slice_len set.old 3 ≤ end }
@@ -139,6 +164,15 @@ fn rooms_of_callers(rt: HostRuntime) -> Result<(), Fail> {
     let room = room_for_a_block(rt.alloc())?;
     assert_eq!(rt; room.layer0_as_slice().len(), 64);
     assert_eq!(rt; room.layer1_as_slice().len(), 1);
+    let mut one = alone(rt.alloc(), 5)?;
+    add_one(&mut one, 6)?;
+    assert_eq!(rt; one.layer0_as_slice(), [96].as_slice());
+    assert_eq!(rt;
+        read_again(rt.alloc(), &one)?.layer0_as_slice(),
+        [96].as_slice()
+    );
+    remove_all(&mut one);
+    assert!(rt; one.is_empty());
     let mut wide = alone(rt.alloc(), 6)?;
     widen_within(&mut wide, &set, 64)?;
     assert_eq!(rt; wide.layer0_as_slice(), [96].as_slice());

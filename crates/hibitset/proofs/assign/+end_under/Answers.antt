@@ -1,7 +1,7 @@
 use Rattle.std.proofs.Common.{◌≡◌, ℕ, suc, ◌-◌, ◌*◌, ◌^◌, ◌<◌, ap, ◌∙◌, lit<, arith}
 use Rattle.std.proofs.Math.Nat.{pow-suc, one-le-pow}
 use Rattle.hibitset_base.specs.declared.util.TheConstants.{LAYERS}
-use Rattle.hibitset.proofs.Merging.{place_below, place_fits}
+use Rattle.hibitset_base.proofs.Placing.{place_below, place_fits}
 use Rattle.hibitset.proofs.Ending.{end_after, last_after}
 use Rattle.hibitset.proofs.assign.+end_under.Goals as goal
 

@@ -4,7 +4,7 @@ use Rattle.std.proofs.Math.Nat.{pow-suc}
 use Rattle.std.proofs.lemmas.Nat.Bits.{bit_at-zero}
 use Rattle.hibitset_base.specs.Deciding.{same_or_not}
 use Rattle.hibitset_base.specs.declared.util.TheConstants.{LAYERS}
-use Rattle.hibitset.proofs.Merging.{our_word, place_fits}
+use Rattle.hibitset_base.proofs.Placing.{read_word, place_fits}
 use Rattle.hibitset.proofs.Ending.{end_below}
 use Rattle.hibitset.proofs.assign.lower_end.Goals as goal
 
@@ -49,7 +49,7 @@ returns-then-word-eq0-clause-end g c =
     let other = c.args.other.now in
     let word = g.B.BitSetLike.word other in
     let range : c.args.end - 1 < 64 ^ (LAYERS - 1 - c.args.layer) = (let some = c.if-end-eq0.false in omega (arith, some, c.requires.within)) in
-    let read = our_word word c.args.layer (c.args.end - 1) c.get_from_layer-word.result c.requires.layer.1 range c.get_from_layer-word.ensures.below c.get_from_layer-word.ensures.top in
+    let read = read_word word c.args.layer (c.args.end - 1) c.get_from_layer-word.result c.requires.layer.1 range c.get_from_layer-word.ensures.below c.get_from_layer-word.ensures.top in
     let zero_word : word c.args.layer (c.args.end - 1) ≡ 0 = sym read ∙ c.if-word-eq0.true in
     end_below LAYERS c.args.layer c.args.end (64 * (c.args.end - 1)) (g.B.BitSetLike.holds other) word (g.met.B.BitSetLike.lawful other) c.requires.layer.0 c.requires.layer.1 c.requires.end
     (covers_of c.args.end (64 * (c.args.end - 1)) (word c.args.layer) (omega arith) (λ b on. absurd (let off = bit_at-zero b in let wrong = rw zero_word at on in omega (arith, off, wrong))))
@@ -66,6 +66,6 @@ returns-else-word-eq0-clause-end g c =
     let other = c.args.other.now in
     let word = g.B.BitSetLike.word other in
     let range : c.args.end - 1 < 64 ^ (LAYERS - 1 - c.args.layer) = (let some = c.if-end-eq0.false in omega (arith, some, c.requires.within)) in
-    let read = our_word word c.args.layer (c.args.end - 1) c.get_from_layer-word.result c.requires.layer.1 range c.get_from_layer-word.ensures.below c.get_from_layer-word.ensures.top in
+    let read = read_word word c.args.layer (c.args.end - 1) c.get_from_layer-word.result c.requires.layer.1 range c.get_from_layer-word.ensures.below c.get_from_layer-word.ensures.top in
     end_below LAYERS c.args.layer c.args.end (64 * (c.args.end - 1) + c.last_bit.result + 1) (g.B.BitSetLike.holds other) word (g.met.B.BitSetLike.lawful other) c.requires.layer.0 c.requires.layer.1 c.requires.end
     (covers_of c.args.end (64 * (c.args.end - 1) + c.last_bit.result + 1) (word c.args.layer) (omega arith) (λ b on. let here = rw (← read) at on in let upto = c.last_bit.ensures.last b here in omega (arith, upto)))

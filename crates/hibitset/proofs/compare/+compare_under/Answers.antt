@@ -8,7 +8,8 @@ use Rattle.hibitset.specs.BitSet.{has, word_of, has_is_lawful}
 use Rattle.hibitset.specs.declared.set.BitSet.{BitSet}
 use Rattle.hibitset.specs.Comparing.{BitsPass}
 use Rattle.hibitset.proofs.Layered.{shaped}
-use Rattle.hibitset.proofs.Merging.{our_word, covers_below, place_below, place_fits}
+use Rattle.hibitset_base.proofs.Placing.{read_word, place_below, place_fits}
+use Rattle.hibitset.proofs.Merging.{covers_below}
 use Rattle.hibitset.proofs.Comparing.{PassedPast, all_pass, passed_step, passed_under}
 use Rattle.hibitset.proofs.compare.+compare_under.Goals as goal
 
@@ -19,8 +20,8 @@ returns-then-misses-ne0-clause-no g t c = λ _ all.
     let theirs = c.args.theirs.now in
     let layer : ℕ = c.args.layer in
     let place : ℕ = c.args.place in
-    let x-is : c.get_from_layer.result ≡ word_of ours layer place = our_word (word_of ours) layer place c.get_from_layer.result c.requires.layer.1 c.requires.place c.get_from_layer.ensures.below c.get_from_layer.ensures.top in
-    let y-is : c.get_from_layer-word.result ≡ word_of theirs layer place = our_word (word_of theirs) layer place c.get_from_layer-word.result c.requires.layer.1 c.requires.place c.get_from_layer-word.ensures.below c.get_from_layer-word.ensures.top in
+    let x-is : c.get_from_layer.result ≡ word_of ours layer place = read_word (word_of ours) layer place c.get_from_layer.result c.requires.layer.1 c.requires.place c.get_from_layer.ensures.below c.get_from_layer.ensures.top in
+    let y-is : c.get_from_layer-word.result ≡ word_of theirs layer place = read_word (word_of theirs) layer place c.get_from_layer-word.result c.requires.layer.1 c.requires.place c.get_from_layer-word.ensures.below c.get_from_layer-word.ensures.top in
     let here : BitsPass (g.C.Comparison.allowed) (word_of ours layer place) (word_of theirs layer place) =
     all_pass LAYERS (g.C.Comparison.allowed) (g.met.C.Comparison.rises) (word_of ours) (word_of theirs) ours.summed theirs.summed (shaped ours.layers).words (shaped theirs.layers).words all layer place c.requires.layer.1 in
     let none : c.misses.result ≡ 0 = c.misses.ensures.1 (rw (x-is, y-is) here) in
@@ -79,8 +80,8 @@ returns-then-layer-eq1-clause-yes g t c = λ e.
     let layer : ℕ = c.args.layer in
     let place : ℕ = c.args.place in
     all_under (g.C.Comparison.allowed) (g.met.C.Comparison.alone) c.args.ours.now c.args.theirs.now layer place c.get_from_layer.result c.get_from_layer-word.result c.requires.layer.0 c.requires.layer.1 c.requires.place
-    (our_word (word_of c.args.ours.now) layer place c.get_from_layer.result c.requires.layer.1 c.requires.place c.get_from_layer.ensures.below c.get_from_layer.ensures.top)
-    (our_word (word_of c.args.theirs.now) layer place c.get_from_layer-word.result c.requires.layer.1 c.requires.place c.get_from_layer-word.ensures.below c.get_from_layer-word.ensures.top)
+    (read_word (word_of c.args.ours.now) layer place c.get_from_layer.result c.requires.layer.1 c.requires.place c.get_from_layer.ensures.below c.get_from_layer.ensures.top)
+    (read_word (word_of c.args.theirs.now) layer place c.get_from_layer-word.result c.requires.layer.1 c.requires.place c.get_from_layer-word.ensures.below c.get_from_layer-word.ensures.top)
     (c.misses.ensures.0 c.if-misses-ne0.false) 0 refl
     (past_words (λ p. BitsPass (g.C.Comparison.allowed) (word_of c.args.ours.now 0 p) (word_of c.args.theirs.now 0 p)) layer place c.get_from_layer-word.result (omega arith) (c.compare_lowest.ensures.yes e))
 
@@ -89,6 +90,6 @@ returns-clause-yes g t c = λ _.
     let layer : ℕ = c.args.layer in
     let place : ℕ = c.args.place in
     all_under (g.C.Comparison.allowed) (g.met.C.Comparison.alone) c.args.ours.now c.args.theirs.now layer place c.get_from_layer.result c.get_from_layer-word.result c.requires.layer.0 c.requires.layer.1 c.requires.place
-    (our_word (word_of c.args.ours.now) layer place c.get_from_layer.result c.requires.layer.1 c.requires.place c.get_from_layer.ensures.below c.get_from_layer.ensures.top)
-    (our_word (word_of c.args.theirs.now) layer place c.get_from_layer-word.result c.requires.layer.1 c.requires.place c.get_from_layer-word.ensures.below c.get_from_layer-word.ensures.top)
+    (read_word (word_of c.args.ours.now) layer place c.get_from_layer.result c.requires.layer.1 c.requires.place c.get_from_layer.ensures.below c.get_from_layer.ensures.top)
+    (read_word (word_of c.args.theirs.now) layer place c.get_from_layer-word.result c.requires.layer.1 c.requires.place c.get_from_layer-word.ensures.below c.get_from_layer-word.ensures.top)
     (c.misses.ensures.0 c.if-misses-ne0.false) c.loop-left.left c.loop-left-test.false c.loop-left.invariant

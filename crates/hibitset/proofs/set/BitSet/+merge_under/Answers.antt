@@ -3,7 +3,8 @@ use Rattle.std.proofs.Math.Nat.{pow-suc}
 use Rattle.hibitset_base.specs.declared.util.TheConstants.{LAYERS}
 use Rattle.hibitset.specs.BitSet.{has, has_is_lawful, word_of}
 use Rattle.hibitset.specs.Merging.{Covers}
-use Rattle.hibitset.proofs.Merging.{past_step, under_after, bit_above, our_word, covers_below, place_below, place_fits}
+use Rattle.hibitset_base.proofs.Placing.{read_word, place_below, place_fits}
+use Rattle.hibitset.proofs.Merging.{past_step, under_after, bit_above, covers_below}
 use Rattle.hibitset.proofs.set.BitSet.+merge_under.Goals as goal
 
 pub overflow_mul-place : goal.overflow_mul-place
@@ -43,7 +44,7 @@ returns-clause-words g t c =
     let within : layer < LAYERS = c.requires.layer.1 in
     let above : layer - 1 + 1 ≡ layer = (let h = c.requires.layer.0 in omega arith) in
     let whole : 64 ^ layer ≡ 64 ^ (layer - 1) * 64 = (let s : layer ≡ suc (layer - 1) = omega (arith, above) in ap (λ x. 64 ^ x) s ∙ pow-suc 64 (layer - 1)) in
-    let ours-is : ours ≡ words layer place = our_word words layer place ours within c.requires.place c.get_from_layer-ours.ensures.below c.get_from_layer-ours.ensures.top in
+    let ours-is : ours ≡ words layer place = read_word words layer place ours within c.requires.place c.get_from_layer-ours.ensures.below c.get_from_layer-ours.ensures.top in
     let range : place < 64 ^ (LAYERS - 1 - (layer - 1 + 1)) = rw above c.requires.place in
     let inner : layer - 1 + 1 < LAYERS = rw above within in
     let covers : Covers (words (layer - 1)) place ours = covers_below words layer place ours above within self.summed ours-is in

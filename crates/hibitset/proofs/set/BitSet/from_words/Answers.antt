@@ -1,0 +1,9 @@
+use Rattle.std.proofs.Common.{arith}
+use Rattle.hibitset.proofs.Lengths.{ends_by}
+use Rattle.hibitset.proofs.set.BitSet.from_words.Goals as goal
+
+pub returns-clause-above : goal.returns-clause-above
+returns-clause-above c = λ l end below within.
+    let kept = c.put_words.ensures.length in
+    let made = c.in_ok-layers.ensures.length in
+    ends_by c.put_words.new.self.layers l end below (omega (arith, kept, made, within))
