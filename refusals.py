@@ -59,6 +59,7 @@ CALLS = {
     "hibitset": {
         "BitSet::add": "sets::add sets::add_past_the_room_made_before",
         "BitSet::add_index": "sets::extend_indices",
+        "BitSet::add_range": "sets::add_range",
         "BitSet::bitor_assign": "sets::bitor_assign",
         "BitSet::bitxor_assign": "sets::bitxor_assign",
         "BitSet::clone": "sets::clone sets::add_to_a_clone",
@@ -66,6 +67,7 @@ CALLS = {
         "BitSet::extend_indices": "sets::extend_indices",
         "BitSet::from_index_refs": "sets::from_index_refs",
         "BitSet::from_indices": "sets::from_indices",
+        "BitSet::from_words": "sets::from_words",
         "BitSet::with_capacity": "sets::with_capacity sets::add_past_the_last_word",
     },
     "hibitset_store": {
@@ -73,6 +75,7 @@ CALLS = {
     },
     "uses": {
         "Ids::alloc": "callers::alloc",
+        "Ids::alloc_run": "callers::alloc_run",
         "Pages::flush": "callers::flush",
         "Pages::mark": "callers::mark",
         "Ready::new": "callers::ready",
@@ -119,6 +122,7 @@ REQUESTS = {
     "atomic::share": 3,
     "callers::add_a_list": 1,
     "callers::alloc": 1,
+    "callers::alloc_run": 1,
     "callers::find": 1,
     "callers::flush": 1,
     "callers::mark": 1,
@@ -140,6 +144,7 @@ REQUESTS = {
     "copies::union": 2,
     "copies::walk": 1,
     "sets::add": 1,
+    "sets::add_range": 1,
     "sets::add_past_the_last_word": 1,
     "sets::add_past_the_room_made_before": 1,
     "sets::add_to_a_clone": 1,
@@ -150,6 +155,7 @@ REQUESTS = {
     "sets::extend_indices": 1,
     "sets::from_index_refs": 2,
     "sets::from_indices": 2,
+    "sets::from_words": 1,
     "sets::to_vec": 1,
     "sets::to_vec_of_a_member_a_word": 2,
     "sets::to_vec_of_full_words": 1,

@@ -31,6 +31,20 @@ fn alloc(rt: HostRuntime) -> Result<(), Fail> {
 }
 
 #[test]
+fn alloc_run(rt: HostRuntime) -> Result<(), Fail> {
+    let mut ids = Ids::new(rt.alloc());
+    ask(&rt)?;
+    let given = ids.alloc_run(100);
+    say(&rt, given.is_err())?;
+    ask(&rt)?;
+    if given.is_err() {
+        assert!(rt; !ids.is_used(0) && ids.alloc_run(100) == Ok(Some(0)));
+    }
+    assert!(rt; ids.is_used(0) && ids.is_used(99) && !ids.is_used(100));
+    Ok(())
+}
+
+#[test]
 fn mark(rt: HostRuntime) -> Result<(), Fail> {
     let mut pages = Pages::new(rt.alloc());
     ask(&rt)?;

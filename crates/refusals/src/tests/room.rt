@@ -48,12 +48,19 @@ fn sets(rt: HostRuntime) -> Result<(), Fail> {
     assert!(rt; set.len() == 2 && set.first() == Some(70) && !set.is_empty());
     assert!(rt; (&set).iter_from(71).next() == Some(300_000));
     assert!(rt; (&set).iter().count() == 2 && (&set).iter_from(300_001).next().is_none());
+    assert!(rt; set.last() == Some(300_000) && set.first_gap(70) == Some(71));
+    assert!(rt; set.is_subset(&other) && !set.is_disjoint(&other));
+    assert!(rt; set.add_range(0, 300_032).is_ok() && set.len() == 300_032);
+    set.remove_range(71, 300_000);
+    assert!(rt; set.add_range(9, 9).is_ok() && set.add_range(9, 3).is_ok());
     set &= &other;
     assert!(rt; has_exactly(&set, &[70, 300_000]));
     assert!(rt; set.drain().next() == Some(70));
     assert!(rt; set.drain().count() == 1 && set.drain().next().is_none());
+    set.subtract_assign(&other);
     set.clear();
     assert!(rt; has_exactly(&set, &[]) && set.to_vec(rt.alloc()).is_ok());
+    assert!(rt; BitSet::from_words(rt.alloc(), [].as_slice()).is_ok());
     assert!(rt; set.add(300_000) == Ok(false));
     let empty = BitSet::new(rt.alloc());
     assert!(rt; empty.is_empty() && empty.clone().is_ok());
@@ -239,6 +246,8 @@ fn identifiers(rt: HostRuntime) -> Result<(), Fail> {
     ask(&rt)?;
     assert!(rt; ids.is_used(64) && !ids.is_used(65) && !ids.free(65) && ids.free(3));
     assert!(rt; ids.alloc() == Ok(Some(3)) && ids.alloc() == Ok(Some(65)));
+    ids.free_run(10, 20);
+    assert!(rt; ids.alloc_run(10) == Ok(Some(10)) && ids.alloc_run(3) == Ok(Some(66)));
     assert!(rt; !Ids::new(rt.alloc()).free(0));
     ask(&rt)
 }

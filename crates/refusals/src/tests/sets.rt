@@ -97,6 +97,36 @@ fn add_past_the_last_word(rt: HostRuntime) -> Result<(), Fail> {
 }
 
 #[test]
+fn add_range(rt: HostRuntime) -> Result<(), Fail> {
+    let mut set = set_of(rt.alloc(), &[5])?;
+    ask(&rt)?;
+    let added = set.add_range(4_999_999, 5_000_001);
+    say(&rt, added.is_err())?;
+    ask(&rt)?;
+    if added.is_err() {
+        assert!(rt; has_exactly(&set, &[5]) && way(&set, 5_000_000) == [1, 1, 0, 0, 0]);
+        set.add_range(4_999_999, 5_000_001)?;
+    }
+    assert!(rt; has_exactly(&set, &[5, 4_999_999, 5_000_000]));
+    Ok(())
+}
+
+#[test]
+fn from_words(rt: HostRuntime) -> Result<(), Fail> {
+    let words = [0, 8, 1];
+    ask(&rt)?;
+    let made = BitSet::from_words(rt.alloc(), words.as_slice());
+    say(&rt, made.is_err())?;
+    ask(&rt)?;
+    let set = match made {
+        Ok(set) => set,
+        Err(_) => BitSet::from_words(rt.alloc(), words.as_slice())?,
+    };
+    assert!(rt; has_exactly(&set, &[67, 128]));
+    Ok(())
+}
+
+#[test]
 fn bitor_assign(rt: HostRuntime) -> Result<(), Fail> {
     let other = set_of(rt.alloc(), &[1_000_000])?;
     let mut set = set_of(rt.alloc(), &[0])?;
