@@ -291,6 +291,43 @@ fn whole(bench: &mut Bench, cleared: &Sample, all: &[&Sample]) {
     }
 }
 
+/// Ranges, differences, and words in and out, which the original has by other calls alone.
+fn ranges_and_words(bench: &mut Bench, half: &Sample, other: &Sample) {
+    bench.part("ranges, differences and words (ns per call)");
+    let ends = [70_001u32, 170_001];
+    let mut row = Row::new("add\\_range and remove\\_range, 100,000 indices", 1, 0.05, both!(ranges, &ends));
+    peer!(row, fixedbitset, "fixedbitset", || {
+        let mut set = fixedbitset::FixedBitSet::with_capacity(END);
+        timed(|| {
+            set.insert_range(70_001..170_001);
+            let there = set.contains(70_001) as u64;
+            set.set_range(70_001..170_001, false);
+            there + set.contains(70_001) as u64
+        })
+    });
+    bench.run(row);
+    let (x, y) = (&half.ids[..], &other.ids[..]);
+    let of = format!("{} and {}", half.name, other.name);
+    let mut row = Row::new(format!("a.subtract\\_assign(b), {of}"), 1, 0.3, both!(subtract_assign, x, y)).on_copies(both!(clone, x)).answer(Answer::Last);
+    peer!(row, fixedbitset, "fixedbitset", || {
+        let mut set = half.peers.fixed.clone();
+        let took = timed(|| set.difference_with(&other.peers.fixed)).0;
+        (took, wide_sum(set.ones()))
+    });
+    bench.run(row);
+    let (even, odd): (Vec<u32>, Vec<u32>) = x.iter().copied().partition(|i| i % 2 == 0);
+    let (evens, odds) = (Peers::of(&even), Peers::of(&odd));
+    let mut row = Row::new(format!("a.is\\_disjoint(b), even and odd of {}", half.name), 1, 1.0, both!(is_disjoint, &even, &odd));
+    peer!(row, fixedbitset, "fixedbitset", || timed(|| evens.fixed.is_disjoint(&odds.fixed) as u64));
+    bench.run(row);
+    let mut row = Row::new(format!("a.is\\_subset(b), even of {}", half.name), 1, 1.0, both!(is_subset, &even, x));
+    peer!(row, fixedbitset, "fixedbitset", || timed(|| evens.fixed.is_subset(&half.peers.fixed) as u64));
+    bench.run(row);
+    for sample in [half] {
+        bench.run(Row::new(format!("from\\_words, {}, beside a clone", sample.name), 1, 2.0, both!(from_words, &sample.ids)));
+    }
+}
+
 fn builds(bench: &mut Bench, lists: [(&str, &[u32]); 2]) {
     bench.part("building (ns per index)");
     for (name, ids) in lists {
@@ -399,6 +436,7 @@ fn main() {
         assignments(&mut bench, a, b, aims);
     }
     small_sets(&mut bench);
+    ranges_and_words(&mut bench, &half, &other_half);
     drains(&mut bench, &[&half, &ten, &one, &clusters]);
     whole(&mut bench, &one, &[&half, &ten, &one, &few]);
     builds(&mut bench, [("1M random", &random), ("1M ascending", &ascending)]);

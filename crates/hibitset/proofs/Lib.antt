@@ -10,6 +10,7 @@ pub mod Ending
 pub mod Lengths
 pub mod Sizes
 pub mod Ranging
+pub mod Filling
 pub mod Stepping
 pub mod Folding
 pub mod Differing

@@ -247,9 +247,9 @@ impl Layers {
         self.words[start + place] = word;
     }
 
-    // Puts a word in the place of that of the top layer.
+    /// Puts a word in the place of that of the top layer.
     #[inline]
-    fn put_top(&mut self, word: usize)
+    pub(crate) fn put_top(&mut self, word: usize)
         ensures here { word_in self.new (LAYERS - 1) 0 ≡ word }
         ensures others { (p : ℕ) → p ≢ 0 → word_in self.new (LAYERS - 1) p ≡ word_in self.old (LAYERS - 1) p }
         ensures layers { (l p : ℕ) → l ≢ LAYERS - 1 → word_in self.new l p ≡ word_in self.old l p }

@@ -1,16 +1,17 @@
 //! Ranges of indices, added and taken out by whole words.
 #![tactic(auto, unfolding(crate::specs::BitSet::has, crate::specs::BitSet::word_of))]
 
-ghost use Rattle.std.specs.Prelude.{◌≡◌, ℕ, ◌+◌, ◌-◌, ◌*◌, ◌/◌, ◌%◌, ◌^◌, ◌<◌, ◌≤◌, ◌==◌, ◌||◌, ◌&&◌, not, if◌then◌else◌, true, false, nat_le, nat_lt, MatchOption, OnOk, OnErr, IsOk, max};
+ghost use Rattle.std.specs.Prelude.{◌≡◌, ◌≢◌, ◌⊎◌, ℕ, ◌+◌, ◌-◌, ◌*◌, ◌/◌, ◌%◌, ◌^◌, ◌<◌, ◌≤◌, ◌==◌, ◌||◌, ◌&&◌, not, if◌then◌else◌, true, false, nat_lt, OnOk, OnErr, IsOk, max};
 ghost use Rattle.std.specs.Int.{bit_at};
-ghost use Rattle.hibitset_base.specs.First.{IsFirst, HasNone};
 ghost use Rattle.hibitset_base.specs.Sets.{bit_of};
 ghost use Rattle.hibitset_base.specs.declared.util.TheConstants.{LAYERS, MAX_EID};
+ghost use Rattle.hibitset_base.specs.Words.{IsSummed};
 ghost use Rattle.hibitset.specs.BitSet.{has, word_of, slice_len};
-ghost use Rattle.hibitset.specs.Numbers.{in_range};
+ghost use Rattle.hibitset.specs.Layers.{word_in, len_in};
+ghost use Rattle.hibitset.specs.Numbers.{in_range, PutsRange};
 
+use crate::layers::Layers;
 use crate::set::BitSet;
-use hibitset_base::like::BitSetLike;
 use hibitset_base::util::{Index, LAYERS, MAX_EID};
 use std::alloc::AllocError;
 
@@ -48,46 +49,144 @@ fn with_bits(word: usize, bits: usize, stands: bool) -> usize
     if stands { word | bits } else { word & !bits }
 }
 
-impl BitSet {
-    // The least member from an index on, before another.
-    fn first_within(&self, start: Index, end: Index) -> Option<Index>
-        ensures { MatchOption result (HasNone end (λ i. nat_le start i && has self.now i)) (IsFirst end (λ i. nat_le start i && has self.now i)) }
-    {
-        match self.iter_from(start).next() {
-            Some(index) if index < end => Some(index),
-            _ => None,
-        }
-    }
+// The word whose bits all stand, or none.
+#[inline]
+fn whole_word(stands: bool) -> usize
+    ensures { result ≡ (if stands then 2 ^ 64 - 1 else 0) }
+{
+    if stands { usize::MAX } else { 0 }
+}
 
-    // Puts the indices of some bits of a word in or takes them out, where there is room for them.
+impl Layers {
+    // Sets or clears bits of a word, below the top.
     #[inline]
-    pub(crate) fn put_bits(&mut self, place: usize, bits: usize, stands: bool)
-        requires { place < slice_len self.old 0 }
-        ensures put { (i : ℕ) → has self.new i ≡ (if i / 64 == place && bit_at bits (i % 64) == 1 then stands else has self.old i) }
-        ensures length { slice_len self.new 0 ≡ slice_len self.old 0 }
+    fn put_bits(&mut self, layer: usize, place: usize, bits: usize, stands: bool)
+        requires layer { layer < LAYERS - 1 }
+        requires place { place < len_in self.old layer }
+        ensures here { (b : ℕ) → b < 64 → bit_at (word_in self.new layer place) b ≡ (if bit_at bits b == 1 then bit_of stands else bit_at (word_in self.old layer place) b) }
+        ensures others { (p : ℕ) → p ≢ place → word_in self.new layer p ≡ word_in self.old layer p }
+        ensures layers { (l p : ℕ) → l ≢ layer → word_in self.new l p ≡ word_in self.old l p }
+        ensures lengths { (l : ℕ) → len_in self.new l ≡ len_in self.old l }
     {
-        let before = self.layers.slice(0)[place];
+        let before = self.slice(layer)[place];
         let word = with_bits(before, bits, stands);
-        if word != before {
-            self.put_word(place, before, word, stands);
-        }
+        self.put(layer, place, word);
     }
 
-    // Adds the indices of a range that there is room for.
-    fn fill(&mut self, start: usize, end: usize)
-        requires order { start ≤ end }
-        requires range { end ≤ MAX_EID }
-        requires room { end ≤ 64 * slice_len self.old 0 }
-        ensures filled { (i : ℕ) → has self.new i ≡ (has self.old i || in_range start end i) }
-        ensures length { slice_len self.new 0 ≡ slice_len self.old 0 }
+    // Puts one word in the place of several, below the top.
+    #[inline]
+    fn put_words(&mut self, layer: usize, from: usize, to: usize, word: usize)
+        requires layer { layer < LAYERS - 1 }
+        requires order { from ≤ to }
+        requires within { to ≤ len_in self.old layer }
+        ensures inside { (p : ℕ) → from ≤ p → p < to → word_in self.new layer p ≡ word }
+        ensures outside { (p : ℕ) → (p < from) ⊎ (to ≤ p) → word_in self.new layer p ≡ word_in self.old layer p }
+        ensures layers { (l p : ℕ) → l ≢ layer → word_in self.new l p ≡ word_in self.old l p }
+        ensures lengths { (l : ℕ) → len_in self.new l ≡ len_in self.old l }
     {
-        let mut place = start / 64;
-        while 64 * place < end {
-            self.put_bits(place, bits_within(place, start, end), true);
+        let mut place = from;
+        while place < to {
+            self.put(layer, place, word);
             place += 1;
         }
     }
 
+    // Sets or clears the bits of a layer below the top, from one position on before another: those of the first word and of the last, and all between.
+    fn put_range(&mut self, layer: usize, from: usize, to: usize, stands: bool)
+        requires layer { layer < LAYERS - 1 }
+        requires order { from < to }
+        requires room { to ≤ 64 * len_in self.old layer }
+        requires within { to ≤ MAX_EID }
+        ensures put { PutsRange stands from to (word_in self.old layer) (word_in self.new layer) }
+        ensures layers { (l p : ℕ) → l ≢ layer → word_in self.new l p ≡ word_in self.old l p }
+        ensures lengths { (l : ℕ) → len_in self.new l ≡ len_in self.old l }
+    {
+        let first = from / 64;
+        let last = (to - 1) / 64;
+        self.put_bits(layer, first, bits_within(first, from, to), stands);
+        if first < last {
+            self.put_words(layer, first + 1, last, whole_word(stands));
+            self.put_bits(layer, last, bits_within(last, from, to), stands);
+        }
+    }
+
+    // Sets the bits of a range of indices for which there are words, and in each layer above those over the words that it touches.
+    fn fill(&mut self, start: usize, end: usize)
+        requires order { start < end }
+        requires room { end ≤ 64 * len_in self.old 0 }
+        requires within { end ≤ MAX_EID }
+        requires summed { IsSummed LAYERS (word_in self.old) }
+        ensures filled { PutsRange true start end (word_in self.old 0) (word_in self.new 0) }
+        ensures summed { IsSummed LAYERS (word_in self.new) }
+        ensures length { len_in self.new 0 ≡ len_in self.old 0 }
+    {
+        let mut from = start;
+        let mut to = end;
+        let mut layer = 0;
+        while layer < LAYERS - 1 {
+            self.put_range(layer, from, to, true);
+            from /= 64;
+            to = (to - 1) / 64 + 1;
+            layer += 1;
+        }
+        self.put_top(with_bits(self.top(), bits_within(0, from, to), true));
+    }
+
+    // Where the words begin that are 0 since bits of theirs were cleared, from one position on: at the first word, or after it.
+    #[inline]
+    fn first_blank(&self, layer: usize, from: usize) -> usize
+        requires { layer < LAYERS - 1 }
+        ensures { result ≡ (if word_in self.now layer (from / 64) == 0 then from / 64 else from / 64 + 1) }
+    {
+        let first = from / 64;
+        if self.word(layer, first) == 0 {
+            first
+        } else {
+            first + 1
+        }
+    }
+
+    // Where they end, which were cleared before a position: after the last word, or at it.
+    #[inline]
+    fn last_blank(&self, layer: usize, to: usize) -> usize
+        requires layer { layer < LAYERS - 1 }
+        requires some { 0 < to }
+        ensures { result ≡ (if word_in self.now layer ((to - 1) / 64) == 0 then (to - 1) / 64 + 1 else (to - 1) / 64) }
+    {
+        let last = (to - 1) / 64;
+        if self.word(layer, last) == 0 {
+            last + 1
+        } else {
+            last
+        }
+    }
+
+    // Clears the bits of a range of indices for which there are words, and in each layer above those over words that are 0 then.
+    fn blank(&mut self, start: usize, end: usize)
+        requires order { start < end }
+        requires room { end ≤ 64 * len_in self.old 0 }
+        requires within { end ≤ MAX_EID }
+        requires summed { IsSummed LAYERS (word_in self.old) }
+        ensures blanked { PutsRange false start end (word_in self.old 0) (word_in self.new 0) }
+        ensures summed { IsSummed LAYERS (word_in self.new) }
+        ensures length { len_in self.new 0 ≡ len_in self.old 0 }
+    {
+        let mut from = start;
+        let mut to = end;
+        let mut layer = 0;
+        while layer < LAYERS - 1 && from < to {
+            self.put_range(layer, from, to, false);
+            from = self.first_blank(layer, from);
+            to = self.last_blank(layer, to);
+            layer += 1;
+        }
+        if from < to {
+            self.put_top(with_bits(self.top(), bits_within(0, from, to), false));
+        }
+    }
+}
+
+impl BitSet {
     /// Adds the indices from `start` on before `end`, which is at most `MAX_EID`, by whole words. Where `end` is not above `start` there is nothing to add. Where memory is refused the members stay. The original has no such call.
     ///
     /// It makes one request for memory at most, and none where the word of `end - 1` lies in `layer0_as_slice`. Else it makes the slices as long as `add` of `end - 1` does; refused, it leaves the length of layer 0.
@@ -107,24 +206,18 @@ impl BitSet {
             return Ok(());
         }
         self.extend(end - 1)?;
-        self.fill(start as usize, end as usize);
+        self.layers.fill(start as usize, end as usize);
         Ok(())
     }
 
-    /// Takes the indices from `start` on before `end` out, by whole words, for any two numbers. It takes no memory, keeps the slice of layer 0 as long as it is, and looks only at words that have members. The original has no such call.
+    /// Takes the indices from `start` on before `end` out, by whole words, for any two numbers. It takes no memory, and keeps the slice of layer 0 as long as it is. The original has no such call.
     pub fn remove_range(&mut self, start: Index, end: Index)
         ensures removed { (i : ℕ) → has self.new i ≡ (has self.old i && not (in_range start end i)) }
         ensures length { slice_len self.new 0 ≡ slice_len self.old 0 }
     {
-        let mut from = start;
-        while let Some(index) = self.first_within(from, end) {
-            let place = index as usize / 64;
-            self.put_bits(
-                place,
-                bits_within(place, start as usize, end as usize),
-                false,
-            );
-            from = 64 * (place as Index + 1);
+        let end = (end as usize).min(64 * self.layers.len());
+        if (start as usize) < end {
+            self.layers.blank(start as usize, end);
         }
     }
 }

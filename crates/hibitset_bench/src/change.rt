@@ -56,6 +56,31 @@ pub(crate) fn build(alloc: Global, ids: &[Index], times: usize) -> Result<u64, B
     Ok(sum)
 }
 
+// Adds a range, from the first of some indices on before the last of them, and takes it out again. There is room for it.
+pub(crate) fn ranges(alloc: Global, ends: &[Index], times: usize) -> Result<u64, AllocError> {
+    let mut set = BitSet::with_capacity(alloc, END)?;
+    let start = first_of(ends);
+    let end = ends.last().copied().unwrap_or(0).min(END);
+    let mut sum = 0u64;
+    for _ in 0..times {
+        set.add_range(start, end)?;
+        sum = sum.wrapping_add(u64::from(set.contains(start)));
+        set.remove_range(start, end);
+        sum = sum.wrapping_add(u64::from(set.contains(start)));
+    }
+    Ok(sum)
+}
+
+pub(crate) fn from_words(alloc: Global, ids: &[Index], times: usize) -> Result<u64, AllocError> {
+    let set = set_of(alloc, ids)?;
+    let mut sum = 0u64;
+    for _ in 0..times {
+        let again = BitSet::from_words(alloc, set.layer0_as_slice())?;
+        sum = sum.wrapping_add(u64::from(again.contains(first_of(ids))));
+    }
+    Ok(sum)
+}
+
 // Each turn adds one index, so that there is something to clear in the next.
 pub(crate) fn clear(alloc: Global, ids: &[Index], times: usize) -> Result<u64, AllocError> {
     let mut set = set_of(alloc, ids)?;

@@ -74,6 +74,16 @@ impl Change for XorAssign {
     }
 }
 
+struct SubtractAssign;
+
+impl Change for SubtractAssign {
+    #[inline]
+    fn change(set: &mut BitSet, other: &BitSet, _ids: &[Index]) -> Result<u64, AllocError> {
+        set.subtract_assign(other);
+        Ok(0)
+    }
+}
+
 // Changes a copy, `times` times over, and one more copy, whose members are summed.
 fn changed<C: Change>(
     set: &BitSet,
@@ -159,6 +169,15 @@ pub(crate) fn xor_assign(
     times: usize,
 ) -> Result<u64, AllocError> {
     changed_beside::<XorAssign>(alloc, a, b, times)
+}
+
+pub(crate) fn subtract_assign(
+    alloc: Global,
+    a: &[Index],
+    b: &[Index],
+    times: usize,
+) -> Result<u64, AllocError> {
+    changed_beside::<SubtractAssign>(alloc, a, b, times)
 }
 
 // How many words a set keeps in all its layers, `times` times over.

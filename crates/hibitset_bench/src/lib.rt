@@ -232,6 +232,51 @@ pub extern "C" fn hibitset_bench_contains_set(
     compare::contains_set(alloc, a, b, times).unwrap_or(u64::MAX)
 }
 
+/// Adds the range from the first index on before the last and takes it out, `times` times over.
+#[unsafe(no_mangle)]
+pub extern "C" fn hibitset_bench_ranges(alloc: Global, ids: &[u32], times: usize) -> u64 {
+    change::ranges(alloc, ids, times).unwrap_or(u64::MAX)
+}
+
+/// Makes a set of the words of another, `times` times over.
+#[unsafe(no_mangle)]
+pub extern "C" fn hibitset_bench_from_words(alloc: Global, ids: &[u32], times: usize) -> u64 {
+    change::from_words(alloc, ids, times).unwrap_or(u64::MAX)
+}
+
+/// Takes what is in `b` out of a copy of `a`, as `hibitset_bench_clone` makes it.
+#[unsafe(no_mangle)]
+pub extern "C" fn hibitset_bench_subtract_assign(
+    alloc: Global,
+    a: &[u32],
+    b: &[u32],
+    times: usize,
+) -> u64 {
+    copies::subtract_assign(alloc, a, b, times).unwrap_or(u64::MAX)
+}
+
+/// Asks whether two sets have no member in common, `times` times over.
+#[unsafe(no_mangle)]
+pub extern "C" fn hibitset_bench_is_disjoint(
+    alloc: Global,
+    a: &[u32],
+    b: &[u32],
+    times: usize,
+) -> u64 {
+    compare::is_disjoint(alloc, a, b, times).unwrap_or(u64::MAX)
+}
+
+/// Asks whether the members of `a` are all in `b`, `times` times over.
+#[unsafe(no_mangle)]
+pub extern "C" fn hibitset_bench_is_subset(
+    alloc: Global,
+    a: &[u32],
+    b: &[u32],
+    times: usize,
+) -> u64 {
+    compare::is_subset(alloc, a, b, times).unwrap_or(u64::MAX)
+}
+
 /// The kernel `add` over a set that can be shared.
 #[unsafe(no_mangle)]
 pub extern "C" fn hibitset_bench_atomic_add(alloc: Global, ids: &[u32], times: usize) -> u64 {
