@@ -1,6 +1,6 @@
 -- What a contract sees of ready tasks.
 use Rattle.std.specs.Prelude.{ℕ, Bool, ◌&&◌, nat_le}
-use Rattle.hibitset.specs.BitSet.{has}
+use Rattle.hibitset.specs.BitSet.{has, slice_len}
 use Rattle.uses.specs.declared.ready.Ready.{Ready}
 
 -- the task is ready to run
@@ -14,3 +14,7 @@ is_ready_from start ready i = nat_le start i && is_ready ready i
 -- there is room at all times for the tasks below
 abbrev pub limit_of : Ready → ℕ
 limit_of ready = ready.limit
+
+-- how many words of tasks there are
+abbrev pub words_of : Ready → ℕ
+words_of ready = slice_len ready.tasks 0

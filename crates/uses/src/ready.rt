@@ -1,5 +1,5 @@
 //! Tasks that are ready to run, the lowest first.
-ghost use Rattle.std.specs.Prelude.{◌≡◌, ℕ, ◌/◌, ◌<◌, ◌≤◌, ◌==◌, ◌||◌, ◌&&◌, not, true, false, OnErr, IfOk, IsOk, OnOk, MatchOption};
+ghost use Rattle.std.specs.Prelude.{◌≡◌, ℕ, ◌+◌, ◌/◌, ◌<◌, ◌≤◌, ◌==◌, ◌||◌, ◌&&◌, not, true, false, OnErr, IfOk, IsOk, OnOk, MatchOption};
 ghost use Rattle.hibitset_base.specs.First.{IsFirst, HasNone};
 ghost use Rattle.hibitset_base.specs.declared.util.TheConstants.{MAX_EID};
 ghost use Rattle.hibitset.specs.BitSet.{slice_len};
@@ -16,13 +16,14 @@ pub struct Ready {
 }
 
 impl Ready {
-    ghost use Rattle.uses.specs.Ready.{is_ready, is_ready_from, limit_of};
+    ghost use Rattle.uses.specs.Ready.{is_ready, is_ready_from, limit_of, words_of};
 
-    /// No task is ready, and there is room for those below `limit`.
+    /// No task is ready, and there is room for those below `limit`, and for no more than their words need.
     pub fn new(alloc: Global, limit: Index) -> Result<Ready, AllocError>
         requires { limit ≤ MAX_EID }
         ensures empty { IfOk result (λ ready. (i : ℕ) → is_ready ready i ≡ false) }
         ensures limit { IfOk result (λ ready. limit_of ready ≡ limit) }
+        ensures words { IfOk result (λ ready. words_of ready ≡ (limit + 63) / 64) }
     {
         Ok(Ready {
             tasks: BitSet::with_capacity(alloc, limit)?,

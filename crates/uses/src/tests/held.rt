@@ -130,18 +130,6 @@ fn tags_are_given_and_taken_by_sets(rt: HostRuntime) -> Result<(), Fail> {
     Ok(())
 }
 
-// It has no words but those of the tasks below the limit: its text shows them all, and is short.
-#[test]
-fn room_for_tasks_alone(rt: HostRuntime) -> Result<(), Fail> {
-    let ready = Ready::new(rt.alloc(), 100)?;
-    let text = format!(in rt.alloc(); "{ready:?}")?;
-    assert!(rt;
-        text.as_str().starts_with("Ready") && text.len() < 500,
-        "{text}"
-    );
-    Ok(())
-}
-
 #[test]
 fn tasks_run_in_order(rt: HostRuntime) -> Result<(), Fail> {
     let mut ready = Ready::new(rt.alloc(), 100)?;
