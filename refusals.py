@@ -53,6 +53,7 @@ CALLS = {
         "AtomicBitSet::from_indices": "atomic::from_indices atomic::from_indices_of_which_one_fits atomic::from_no_indices",
         "AtomicBitSet::new": "atomic::new",
         "AtomicBitSet::share": "atomic::share",
+        "SharedBitSet::divide_among": "atomic::divide_among",
         "SharedBitSet::settle": "atomic::settle",
         "World::apply": "worlds::begin worlds::step worlds::open worlds::read worlds::run",
     },
@@ -85,6 +86,7 @@ CALLS = {
         "Tagged::tag": "callers::tag",
         "Tagged::widen": "callers::widen",
         "add_all": "callers::add_a_list",
+        "add_lists": "callers::lists_by_workers",
         "indices": "callers::walk",
         "saved": "callers::save",
         "set_of": "callers::set_of_a_list",
@@ -109,6 +111,7 @@ pages tasks tags"""
 # How many requests the call of each test makes where none is refused. A call that does its work twice is seen here alone.
 REQUESTS = {
     "atomic::add": 1,
+    "atomic::divide_among": 1,
     "atomic::extend_index_refs": 2,
     "atomic::extend_indices": 2,
     "atomic::from_index_refs": 7,
@@ -125,6 +128,7 @@ REQUESTS = {
     "callers::alloc_run": 1,
     "callers::find": 1,
     "callers::flush": 1,
+    "callers::lists_by_workers": 11,
     "callers::mark": 1,
     "callers::new_tag": 1,
     "callers::one_more": 1,

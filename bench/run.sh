@@ -12,19 +12,13 @@ here=$(cd "$(dirname "$0")" && pwd)
 original=$(cd "$1" && pwd)
 shift
 registry=${REGISTRY:-/usr/share/cargo/registry}
-flags=${FLAGS:--C opt-level=3 -C target-cpu=x86-64-v2 -C llvm-args=-align-all-functions=6}
-kit=$(dirname "$(rt doc)")
+. "$here/library.sh"
 work=$here/out
 mkdir -p "$work/original"
 
 lib=${LIB:-}
-if [ -z "$lib" ]; then
-    crate=$here/../crates/hibitset_bench
-    (cd "$crate" && rt lib) >"$work/lib.log" 2>&1 || { tail -n 30 "$work/lib.log" >&2; exit 1; }
-    lib=$crate/out/libhibitset_bench.a
-fi
-# Every function of every contender begins at a multiple of 64 bytes, or the place that it happens to get decides.
-objcopy --set-section-alignment '.text*=64' "$lib" "$work/libhibitset_bench.a"
+[ -n "$lib" ] || lib=$(library "$work/lib.log")
+aligned "$lib" "$work/libhibitset_bench.a"
 
 compile() { # NAME EDITION FILE FLAGS..: one library
     name=$1 edition=$2 file=$3

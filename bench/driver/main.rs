@@ -319,9 +319,13 @@ fn ranges_and_words(bench: &mut Bench, half: &Sample, other: &Sample) {
     let (evens, odds) = (Peers::of(&even), Peers::of(&odd));
     let mut row = Row::new(format!("a.is\\_disjoint(b), even and odd of {}", half.name), 1, 1.0, both!(is_disjoint, &even, &odd));
     peer!(row, fixedbitset, "fixedbitset", || timed(|| evens.fixed.is_disjoint(&odds.fixed) as u64));
+    peer!(row, bit_set, "bit-set", || timed(|| evens.bits.is_disjoint(&odds.bits) as u64));
+    peer!(row, roaring, "CRoaring", || timed(|| evens.roaring.is_disjoint(&odds.roaring) as u64));
     bench.run(row);
     let mut row = Row::new(format!("a.is\\_subset(b), even of {}", half.name), 1, 1.0, both!(is_subset, &even, x));
     peer!(row, fixedbitset, "fixedbitset", || timed(|| evens.fixed.is_subset(&half.peers.fixed) as u64));
+    peer!(row, bit_set, "bit-set", || timed(|| evens.bits.is_subset(&half.peers.bits) as u64));
+    peer!(row, roaring, "CRoaring", || timed(|| evens.roaring.is_subset(&half.peers.roaring) as u64));
     bench.run(row);
     for sample in [half] {
         bench.run(Row::new(format!("from\\_words, {}, beside a clone", sample.name), 1, 2.0, both!(from_words, &sample.ids)));

@@ -22,6 +22,7 @@ unsafe extern "C" {
     fn roaring_bitmap_to_uint32_array(set: Bitmap, list: *mut u32);
     fn roaring_bitmap_equals(a: Bitmap, b: Bitmap) -> bool;
     fn roaring_bitmap_is_subset(a: Bitmap, b: Bitmap) -> bool;
+    fn roaring_bitmap_intersect(a: Bitmap, b: Bitmap) -> bool;
     fn roaring_bitmap_and(a: Bitmap, b: Bitmap) -> Bitmap;
     fn roaring_bitmap_or(a: Bitmap, b: Bitmap) -> Bitmap;
     fn roaring_bitmap_xor(a: Bitmap, b: Bitmap) -> Bitmap;
@@ -113,6 +114,9 @@ impl Roaring {
     }
     pub fn equals(&self, other: &Roaring) -> bool {
         unsafe { roaring_bitmap_equals(self.0, other.0) }
+    }
+    pub fn is_disjoint(&self, other: &Roaring) -> bool {
+        unsafe { !roaring_bitmap_intersect(self.0, other.0) }
     }
     pub fn is_subset(&self, other: &Roaring) -> bool {
         unsafe { roaring_bitmap_is_subset(self.0, other.0) }

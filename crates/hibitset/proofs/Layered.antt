@@ -11,7 +11,7 @@ use Rattle.hibitset.specs.Laying.{over, start, part, parts, room_of, count_of, A
 use Rattle.hibitset.specs.Merging.{counted}
 use Rattle.hibitset.specs.Layers.{lists, word_in, len_in, room_in}
 use Rattle.hibitset.specs.declared.layers.Layers.{Layers}
-use Rattle.hibitset.proofs.Laying.{over_first, over_up, start_first, start_next, start_bound, start_more, over_more, at_layer, length_here, word_here, word_past, word_top, parts_top, parts_past, all_same, laid_shaped, empty_laid, none_over}
+use Rattle.hibitset.proofs.Laying.{over_first, over_next, over_covers, over_up, start_first, start_next, start_bound, start_more, over_more, at_layer, length_here, word_here, word_past, word_top, parts_top, parts_past, all_same, laid_shaped, empty_laid, none_over}
 
 -- what is kept, opened
 pub opened : {n : ℕ} {words starts lens : List ℕ} {top : ℕ} → ∥ IsKept n words starts lens top ∥₁ → IsKept n words starts lens top
@@ -78,6 +78,15 @@ module _ (x : Layers) where
         | inr past ↦ get_or_past (take len x.words.items) p 0 (let h = length-take len x.words.items in omega (arith, h, past)) ∙ sym (past_end 0 p (lit< tt) (omega (arith, past, is)))
       ]
 
+  -- layer 0 has the words of a list that the vector begins with
+  pub words_first : (words : List ℕ) → len_in x 0 ≡ length words → ((at : ℕ) → get_or x.words.items at 0 ≡ get_or words at 0) → (p : ℕ) → word_in x 0 p ≡ get_or words p 0
+  words_first words is same p =
+      let at : start 0 (room_in x) + p ≡ p = (let z = start_first (room_in x) in omega (arith, z)) in
+      elim (cases_lt p (length words)) [
+        | inl here ↦ word_there 0 p (lit< tt) (omega (arith, here, is)) ∙ (ap (λ q. get_or x.words.items q 0) at ∙ same p)
+        | inr past ↦ past_end 0 p (lit< tt) (omega (arith, past, is)) ∙ sym (get_or_past words p 0 past)
+      ]
+
   pub shaped : IsShaped LAYERS (lists x)
   unfolding lists
   shaped = laid_shaped x.words.items (room_in x) (count_of x.lens) x.top LAYERS (lit< tt) laid
@@ -94,6 +103,24 @@ module _ (x : Layers) where
   -- and the list is short
   pub list_short : length x.words.items ≤ (LAYERS - 1) * 64 ^ (LAYERS - 1)
   list_short = let h = start_bound (LAYERS - 1) (room_in x) (64 ^ (LAYERS - 1)) laid.short in omega (arith, h, laid.whole)
+
+  -- under a word of a layer lies one of the layer below
+  pub has_below : (l p : ℕ) → 0 < l → l < LAYERS - 1 → p < len_in x l → 64 * p < len_in x (l - 1)
+  has_below l p positive below here =
+      let up : l - 1 + 1 ≡ l = omega (arith, positive) in
+      let next : over l (count_of x.lens) ≡ (over (l - 1) (count_of x.lens) + 63) / 64 = rw up at (over_next (l - 1) (count_of x.lens)) in
+      let above = length_of l below in
+      let under = length_of (l - 1) (omega (arith, below)) in
+      omega (arith, next, above, under, here)
+
+  -- a layer covers the one below
+  pub covers_below : (l : ℕ) → 0 < l → l < LAYERS - 1 → len_in x (l - 1) ≤ 64 * len_in x l
+  covers_below l positive below =
+      let up : l - 1 + 1 ≡ l = omega (arith, positive) in
+      let covers : over (l - 1) (count_of x.lens) ≤ 64 * over l (count_of x.lens) = rw up at (over_covers (l - 1) (count_of x.lens)) in
+      let above = length_of l below in
+      let under = length_of (l - 1) (omega (arith, below)) in
+      omega (arith, covers, above, under)
 
   -- the word over a word that a layer has
   pub has_above : (l p : ℕ) → l + 1 < LAYERS - 1 → p < len_in x l → p / 64 < len_in x (l + 1)

@@ -4,9 +4,12 @@ pub mod Layered
 pub mod Within
 pub mod Merging
 pub mod Summing
+pub mod Linking
 pub mod Comparing
 pub mod Equality
 pub mod Ending
+pub mod Ends
+pub mod Pushing
 pub mod Lengths
 pub mod Sizes
 pub mod Ranging

@@ -95,23 +95,6 @@ impl BitSet {
         build::from_index_refs(BitSet::new(alloc), iter)
     }
 
-    // Puts words in the place of those of layer 0, which are 0, and sets the summaries over them right.
-    fn put_words(&mut self, words: &[usize])
-        requires room { length words.now ≤ slice_len self.old 0 }
-        requires empty { (p : ℕ) → word_of self.old 0 p ≡ 0 }
-        ensures words { (p : ℕ) → word_of self.new 0 p ≡ slice_index_or words.now p 0 }
-        ensures length { slice_len self.new 0 ≡ slice_len self.old 0 }
-    {
-        let mut place = 0;
-        while place < words.len() {
-            let word = words[place];
-            if word != 0 {
-                self.put_word(place, 0, word, true);
-            }
-            place += 1;
-        }
-    }
-
     /// The set whose words of layer 0 are these, at most as many as that layer may have: index `64 * p + b` is a member where bit `b` of word `p` stands. With `layer0_as_slice` it is how a set is saved and read again. It makes one request for memory, for these words and those over them; the error is want of it. The original has no such call.
     pub fn from_words(alloc: Global, words: &[usize]) -> Result<BitSet, AllocError>
         requires { length words.now ≤ 64 ^ (LAYERS - 1) }
@@ -120,9 +103,7 @@ impl BitSet {
         ensures length { IfOk result (λ set. slice_len set 0 ≡ length words.now) }
         ensures above { IfOk result (λ set. (l end : ℕ) → l < LAYERS - 1 → length words.now ≤ 64 ^ l * end → slice_len set l ≤ end) }
     {
-        let layers = Layers::zeros(alloc, words.len())?;
-        let mut set = BitSet { layers };
-        set.put_words(words);
-        Ok(set)
+        let layers = Layers::of_words(alloc, words)?;
+        Ok(BitSet { layers })
     }
 }

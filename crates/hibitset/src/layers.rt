@@ -1,5 +1,6 @@
 //! The words of a set: all layers but the top one lie in one vector.
 ghost use Rattle.std.specs.Prelude.{◌≡◌, ◌≢◌, ℕ, ◌+◌, ◌-◌, ◌*◌, ◌/◌, ◌%◌, ◌^◌, ◌<◌, ◌≤◌, ◌==◌, ◌↔◌, not, true, false, List, get_or, length, OnOk, OnErr, IfOk};
+ghost use Rattle.std.specs.Int.{bit_at};
 ghost use Rattle.hibitset_base.specs.Words.{IsSummed};
 ghost use Rattle.hibitset_base.specs.declared.util.TheConstants.{LAYERS};
 ghost use Rattle.hibitset.specs.Laying.{over, start, room_of, count_of, AreStarts, AreLengths, AreMovedFrom, IsLaid, IsKept, IsSummedBut};
@@ -144,6 +145,24 @@ fn move_layers(
     }
 }
 
+// The summary of up to 64 words: the bit of each that is not 0. Each bit comes in at the top, and the later ones push it down to its place.
+#[inline]
+fn summary_of(words: &[usize]) -> usize
+    requires { length words.now ≤ 64 }
+    ensures { (b : ℕ) → b < 64 → (bit_at result b ≡ 1) ↔ (0 < get_or words.now b 0) }
+{
+    if words.is_empty() {
+        return 0;
+    }
+    let mut summary = 0;
+    let mut at = 0;
+    while at < words.len() {
+        summary = summary >> 1 | usize::from(words[at] != 0) << 63;
+        at += 1;
+    }
+    summary >> (64 - words.len())
+}
+
 // Tells whether a word turns from 0 or to 0 as one of its bits is set or cleared: it is 0 before the one, and after the other.
 #[inline]
 pub(crate) fn turns(before: usize, word: usize, stands: bool) -> bool
@@ -182,6 +201,67 @@ impl Layers {
         layers.widen(len)?;
         layers.count_in(len);
         Ok(layers)
+    }
+
+    /// These words in layer 0 with exact summaries over them, and no more room than they need. It makes one request for memory.
+    pub(crate) fn of_words(alloc: Global, words: &[usize]) -> Result<Layers, AllocError>
+        requires { length words.now ≤ 64 ^ (LAYERS - 1) }
+        ensures words { IfOk result (λ layers. (p : ℕ) → word_in layers 0 p ≡ get_or words.now p 0) }
+        ensures summed { IfOk result (λ layers. IsSummed LAYERS (word_in layers)) }
+        ensures length { IfOk result (λ layers. len_in layers 0 ≡ length words.now) }
+    {
+        let mut layers = Layers::under_zeros(alloc, words)?;
+        layers.sum_layers();
+        Ok(layers)
+    }
+
+    // These words in layer 0, and words that are 0 over them.
+    fn under_zeros(alloc: Global, words: &[usize]) -> Result<Layers, AllocError>
+        requires { length words.now ≤ 64 ^ (LAYERS - 1) }
+        ensures words { IfOk result (λ layers. (p : ℕ) → word_in layers 0 p ≡ get_or words.now p 0) }
+        ensures length { IfOk result (λ layers. len_in layers 0 ≡ length words.now) }
+    {
+        let (starts, end) = starts_over(words.len());
+        let mut list = Vec::with_capacity(alloc, end)?;
+        list.extend_from_slice(words)?;
+        lengthen_to(&mut list, end)?;
+        Ok(Layers {
+            words: list,
+            starts,
+            lens: lens_over(words.len()),
+            top: 0,
+        })
+    }
+
+    // Makes the words of a layer the summaries of those below.
+    fn sum_layer(&mut self, layer: usize)
+        requires layer { (0 < layer) × (layer < LAYERS - 1) }
+        ensures exact { (p : ℕ) → Summarizes (word_in self.old (layer - 1)) p (word_in self.new layer p) }
+        ensures layers { (l p : ℕ) → l ≢ layer → word_in self.new l p ≡ word_in self.old l p }
+        ensures lengths { (l : ℕ) → len_in self.new l ≡ len_in self.old l }
+    {
+        let mut place = 0;
+        while place < self.slice(layer).len() {
+            let below = self.slice(layer - 1);
+            let end = below.len().min(64 * place + 64);
+            let word = summary_of(&below[64 * place..end]);
+            self.put(layer, place, word);
+            place += 1;
+        }
+    }
+
+    // Makes all summaries exact, from layer 1 up.
+    fn sum_layers(&mut self)
+        ensures summed { IsSummed LAYERS (word_in self.new) }
+        ensures words { (p : ℕ) → word_in self.new 0 p ≡ word_in self.old 0 p }
+        ensures lengths { (l : ℕ) → len_in self.new l ≡ len_in self.old l }
+    {
+        let mut layer = 1;
+        while layer < LAYERS - 1 {
+            self.sum_layer(layer);
+            layer += 1;
+        }
+        self.put_top(summary_of(self.slice(LAYERS - 2)));
     }
 
     // Where a layer begins. That layer 0 begins at 0 is known without a read.
@@ -258,6 +338,25 @@ impl Layers {
         self.top = word;
     }
 
+    /// Sets the bit over a word right that has turned from 0 or to 0 and is not 0 where it stands, and tells whether the word with that bit has turned too.
+    #[inline]
+    pub(crate) fn link(&mut self, layer: usize, place: usize, stands: bool) -> bool
+        requires layer { layer + 2 < LAYERS }
+        requires place { place < len_in self.old layer }
+        requires stands { not (word_in self.old layer place == 0) ≡ stands }
+        requires summed { IsSummedBut LAYERS (word_in self.old) layer place }
+        ensures done { result ≡ false → IsSummed LAYERS (word_in self.new) }
+        ensures above { result ≡ true → IsSummedBut LAYERS (word_in self.new) (layer + 1) (place / 64) }
+        ensures stands { result ≡ true → not (word_in self.new (layer + 1) (place / 64) == 0) ≡ stands }
+        ensures lower { (l p : ℕ) → l ≤ layer → word_in self.new l p ≡ word_in self.old l p }
+        ensures lengths { (l : ℕ) → len_in self.new l ≡ len_in self.old l }
+    {
+        let before = self.slice(layer + 1)[place / 64];
+        let word = with_bit(before, place % 64, stands);
+        self.put(layer + 1, place / 64, word);
+        turns(before, word, stands)
+    }
+
     /// Sets the summaries over a word right that has turned from 0 or to 0 and is not 0 where it stands, as far up as one turns. It is apart, so that what calls it is small, and is inlined.
     #[inline(never)]
     pub(crate) fn sum_up(&mut self, layer: usize, place: usize, stands: bool)
@@ -272,15 +371,11 @@ impl Layers {
         let mut layer = layer;
         let mut place = place;
         while layer + 2 < LAYERS {
-            let bit = place % 64;
-            layer += 1;
-            place /= 64;
-            let before = self.slice(layer)[place];
-            let word = with_bit(before, bit, stands);
-            self.put(layer, place, word);
-            if !turns(before, word, stands) {
+            if !self.link(layer, place, stands) {
                 return;
             }
+            layer += 1;
+            place /= 64;
         }
         self.put_top(with_bit(self.top, place, stands));
     }

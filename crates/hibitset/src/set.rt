@@ -108,8 +108,8 @@ impl BitSet {
         ensures length { slice_len self.new 0 ≡ slice_len self.old 0 }
     {
         self.layers.put(0, place, word);
-        if turns(before, word, stands) {
-            self.layers.sum_up(0, place, stands);
+        if turns(before, word, stands) && self.layers.link(0, place, stands) {
+            self.layers.sum_up(1, place / 64, stands);
         }
     }
 

@@ -1,3 +1,4 @@
+pub mod Sharing
 pub mod Placed
 pub mod Building
 pub mod Layered

@@ -10,6 +10,7 @@ pub mod Clearing
 pub mod Lists
 pub mod Rule
 pub mod Seats
+pub mod Among
 pub mod Row
 pub mod Levels
 pub mod SharedWalk

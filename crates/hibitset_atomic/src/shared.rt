@@ -22,6 +22,7 @@ use hibitset_base::util::Index;
 use std::alloc::{AllocError, Global};
 use std::snapshot::Snapshot;
 
+mod among;
 mod parts;
 pub mod rule;
 mod steps;

@@ -1,7 +1,6 @@
 pub mod Members
 pub mod Firsts
 pub mod Lasts
-pub mod Sharing
 pub mod Placing
 pub mod Masks
 pub mod Ones

@@ -4,3 +4,4 @@ mod Running
 mod Turning
 mod Walking
 mod Weighing
+mod Working

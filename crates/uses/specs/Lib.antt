@@ -6,3 +6,4 @@ pub mod Pages
 pub mod Ready
 pub mod Turns
 pub mod Weights
+pub mod Workers

@@ -13,3 +13,4 @@ pub mod shared_ids;
 mod tests;
 pub mod walks;
 pub mod weights;
+pub mod workers;

@@ -12,6 +12,7 @@ mod held;
 mod rows;
 mod shared;
 mod turns;
+mod workers;
 
 // Adds the indices below a count, and counts the answers false.
 fn add_below(set: &SharedBitSet, seat: &mut Seat, count: u32) -> u32

@@ -1,5 +1,5 @@
 //! What callers know of walks and assignments, from the public contracts alone.
-ghost use Rattle.std.specs.Prelude.{◌≡◌, ℕ, ◌+◌, ◌-◌, ◌*◌, ◌^◌, ◌/◌, ◌<◌, ◌≤◌, ◌==◌, ◌&&◌, ◌||◌, true, false, length, IfOk, IsOk, OnOk, OnErr};
+ghost use Rattle.std.specs.Prelude.{◌≡◌, ℕ, ◌+◌, ◌-◌, ◌*◌, ◌^◌, ◌/◌, ◌<◌, ◌≤◌, ◌==◌, ◌&&◌, ◌||◌, true, false, [], ◌∷◌, ◌++◌, drop, length, IfOk, IfSome, IsOk, OnOk, OnErr};
 ghost use Rattle.hibitset_base.specs.Connectives.{IsIntersection, IsUnion, IsExclusive};
 ghost use Rattle.hibitset_base.specs.Members.{members, members_below};
 ghost use Rattle.hibitset_base.specs.Walk.{IsDrawn, words_read, words_ahead, items_left};
@@ -7,7 +7,7 @@ ghost use Rattle.hibitset_base.specs.declared.util.TheConstants.{LAYERS, MAX_EID
 ghost use Rattle.hibitset.specs.BitSet.{has, word_of, slice_len};
 ghost use Rattle.hibitset.specs.Merging.{NoWordsFrom};
 
-use crate::laws::laws;
+use crate::laws::{laws, list_laws};
 use crate::tests::set_of;
 use crate::{BitIter, BitSet, BitSetLike, DrainableBitSet, Index};
 use hibitset_base::util::MAX_EID;
@@ -146,6 +146,15 @@ fn read_again(alloc: Global, set: &BitSet) -> Result<BitSet, AllocError>
     ensures length { IfOk result (λ again. slice_len again 0 ≡ slice_len set.now 0) }
 {
     BitSet::from_words(alloc, set.layer0_as_slice())
+}
+
+// The members that the list begins and ends with, if there is one.
+fn ends(set: &BitSet) -> Option<(Index, Index)>
+    ensures head { IfSome result (λ r. members_below MAX_EID (has set.now) ≡ r.0 ∷ drop 1 (members_below MAX_EID (has set.now))) }
+    ensures end { IfSome result (λ r. members_below MAX_EID (has set.now) ≡ members_below r.1 (has set.now) ++ (r.1 ∷ [])) }
+{
+    list_laws();
+    Some((set.first()?, set.last()?))
 }
 
 // Adds a set without words from `end` on, in the words of layer 3.

@@ -229,6 +229,30 @@ fn share(rt: HostRuntime) -> Result<(), Fail> {
 }
 
 #[test]
+fn divide_among(rt: HostRuntime) -> Result<(), Fail> {
+    let Ok((shared, mut seat)) = atomic_of(rt.alloc(), &[70000])?.share() else {
+        return Err(AllocError.into());
+    };
+    assert!(rt; !shared.add_atomic(&mut seat, 9));
+    ask(&rt)?;
+    let divided = shared.divide_among(seat, 3, rt.alloc());
+    say(&rt, divided.is_err())?;
+    ask(&rt)?;
+    let again = match divided {
+        Ok(seats) => Ok(seats),
+        Err(mut seat) => {
+            assert!(rt; seat.is_whole() && shared.contains(&mut seat, 9));
+            shared.divide_among(seat, 3, rt.alloc())
+        }
+    };
+    let Ok(seats) = again else {
+        panic!(rt; "refused twice")
+    };
+    assert!(rt; seats.len() == 3);
+    Ok(())
+}
+
+#[test]
 fn settle(rt: HostRuntime) -> Result<(), Fail> {
     let Ok((shared, mut seat)) = atomic_of(rt.alloc(), &[70000])?.share() else {
         return Err(AllocError.into());

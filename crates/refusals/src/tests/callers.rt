@@ -15,6 +15,7 @@ use uses::ready::Ready;
 use uses::room::{saved, with_one_more};
 use uses::shared_ids::take_many;
 use uses::walks::indices;
+use uses::workers::{Refused, add_lists};
 
 #[test]
 fn alloc(rt: HostRuntime) -> Result<(), Fail> {
@@ -270,6 +271,43 @@ fn take(rt: HostRuntime) -> Result<(), Fail> {
         assert!(rt; taken.seat.is_whole() && !set.contains(&mut taken.seat, 1));
     } else {
         assert!(rt; taken.ids.as_slice() == [1, 2].as_slice());
+    }
+    Ok(())
+}
+
+// Refused, the set is as it was, or it settles with the seat that is left.
+#[test]
+fn lists_by_workers(rt: HostRuntime) -> Result<(), Fail> {
+    let mut list = Vec::with_capacity(rt.alloc(), 2)?;
+    list.push(7)?;
+    list.push(70_000)?;
+    let mut lists = Vec::with_capacity(rt.alloc(), 1)?;
+    lists.push(list)?;
+    let set = atomic_of(rt.alloc(), &[5])?;
+    ask(&rt)?;
+    let added = add_lists(&rt, rt.alloc(), set, lists);
+    say(&rt, added.is_err())?;
+    ask(&rt)?;
+    match added {
+        Ok(added) => {
+            assert!(rt; added.new == 2 && has_exactly(&added.set, &[5, 7, 70_000]));
+        }
+        Err(Refused::Sharing(set)) => {
+            assert!(rt; has_exactly(&set, &[5]));
+        }
+        Err(Refused::Working(shared, seat)) => {
+            let Ok(set) = shared.settle(seat) else {
+                panic!(rt; "refused twice")
+            };
+            assert!(rt; set.contains(5));
+        }
+        Err(Refused::Settling(shared, seat)) => {
+            assert!(rt; seat.is_whole());
+            let Ok(set) = shared.settle(seat) else {
+                panic!(rt; "refused twice")
+            };
+            assert!(rt; has_exactly(&set, &[5, 7, 70_000]));
+        }
     }
     Ok(())
 }

@@ -4,6 +4,5 @@ use Rattle.hibitset.proofs.set.BitSet.from_words.Goals as goal
 
 pub returns-clause-above : goal.returns-clause-above
 returns-clause-above c = λ l end below within.
-    let kept = c.put_words.ensures.length in
     let made = c.in_ok-layers.ensures.length in
-    ends_by c.put_words.new.self.layers l end below (omega (arith, kept, made, within))
+    ends_by c.in_ok-layers.layers l end below (omega (arith, made, within))

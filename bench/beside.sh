@@ -1,0 +1,39 @@
+#!/bin/sh
+# beside.sh LIB [REPEATS [MILLISECONDS [WORDS]]]: the rows of run.sh over the library as it is and over another of it, in one process: the
+# column `original` is then the other's. LIB: the other's out/libhibitset_bench.a, as `rt lib` makes it in a checkout of another commit. A row whose
+# kernel it lacks has ours twice. NOW: the static library of this one, if it is not to be built. REPEATS, MILLISECONDS and WORDS: as of run.sh.
+set -eu
+here=$(cd "$(dirname "$0")" && pwd)
+[ $# -ge 1 ] || { echo "usage: beside.sh LIB [REPEATS [MILLISECONDS [WORDS]]]" >&2; exit 64; }
+other=$1
+shift
+. "$here/library.sh"
+work=$here/out/beside
+rm -rf "$work"
+mkdir -p "$work"
+now=${NOW:-}
+[ -n "$now" ] || now=$(library "$work/lib.log")
+nm --defined-only "$other" | awk 'NF == 3 && $2 ~ /[A-Z]/ { print $3 }' | sort -u >"$work/symbols"
+sed 's/.*/& before_&/' "$work/symbols" >"$work/renamed"
+aligned "$now" "$work/libhibitset_bench.a"
+aligned "$other" "$work/libbefore_bench.a" --redefine-syms="$work/renamed"
+
+cp "$here"/driver/*.rs "$work"
+# The other's kernels, by the names of ours.
+awk -v symbols="$work/symbols" '
+    BEGIN { while ((getline line < symbols) > 0) has[line] = 1 }
+    / = hibitset_bench_/ {
+        name = $1
+        symbol = $3
+        sub(/,$/, "", symbol)
+        if (!(symbol in has)) { lacking = lacking "pub use crate::ours::" name ";\n"; next }
+        sub(/hibitset_bench_/, "before_hibitset_bench_")
+    }
+    { print }
+    END { printf "%spub use self::column_join as column_join_by_one_mask;\n", lacking }
+' "$here/driver/ours.rs" >"$work/original.rs"
+# The flags are words.
+# shellcheck disable=SC2086
+rustc $flags --edition 2021 --crate-name bench -A unexpected_cfgs -A unused_mut -A dead_code -A unused_imports -L "$work" \
+    -l static=hibitset_bench -l static=before_bench -L "native=$work" -l static=libc_c -L "native=$kit/c" -o "$work/bench" "$work/main.rs"
+MALLOC_MMAP_THRESHOLD_=1000000000 MALLOC_TRIM_THRESHOLD_=10000000000 "$work/bench" "$@"

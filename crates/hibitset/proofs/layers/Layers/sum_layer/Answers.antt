@@ -1,0 +1,71 @@
+use Rattle.std.proofs.Common.{rules, ◌≡◌, ◌≢◌, ℕ, ◌+◌, ◌-◌, ◌*◌, ◌<◌, length, ◌∙◌, arith, inl, inr}
+use Rattle.std.proofs.lemmas.Bool.{cases_lt}
+use Rattle.hibitset_base.specs.Deciding.{same_or_not}
+use Rattle.hibitset.specs.Layers.{word_in, len_in}
+use Rattle.hibitset.proofs.Summing.{summed_piece, none_past}
+use Rattle.hibitset.proofs.Layered.{has_below, covers_below, past_end}
+use Rattle.hibitset.proofs.layers.Layers.sum_layer.Goals as goal
+
+-- the words below begin within the layer below
+begins : (c : goal.After-slice-below) → 64 * c.loop-place.place < length c.slice-below.result.now
+begins c =
+    let h = has_below c.loop-place.self c.args.layer c.loop-place.place c.requires.layer.0 c.requires.layer.1 (omega (arith, c.loop-place-test.true, c.slice.ensures.length)) in
+    omega (arith, h, c.slice-below.ensures.length)
+
+pub overflow_mul-place : goal.overflow_mul-place
+overflow_mul-place c = let h = begins c in omega (arith, h, c.slice-below.type_inv)
+
+pub overflow_add-place : goal.overflow_add-place
+overflow_add-place c = let h = begins c in omega (arith, h, c.slice-below.type_inv)
+
+begins_at : (c : goal.After-min-end) → 64 * c.loop-place.place < length c.slice-below.result.now
+begins_at c =
+    let h = has_below c.loop-place.self c.args.layer c.loop-place.place c.requires.layer.0 c.requires.layer.1 (omega (arith, c.loop-place-test.true, c.slice.ensures.length)) in
+    omega (arith, h, c.slice-below.ensures.length)
+
+pub overflow_mul-place-in-loop-place : goal.overflow_mul-place-in-loop-place
+overflow_mul-place-in-loop-place c = let h = begins_at c in omega (arith, h, c.slice-below.type_inv)
+
+pub offset_bounds-below-place : goal.offset_bounds-below-place
+offset_bounds-below-place c = let h = begins_at c in omega (arith, h, c.slice-below.type_inv)
+
+pub slice_bounds-summary_of-count : goal.slice_bounds-summary_of-count
+slice_bounds-summary_of-count c = let h = begins_at c in omega (arith, h, c.min-end.ensures)
+
+pub slice_bounds-summary_of-start : goal.slice_bounds-summary_of-start
+slice_bounds-summary_of-start c =
+    let h = begins_at c in
+    let end = c.min-end.ensures in
+    search (rules, h, end)
+
+pub loop-place-preserved : goal.loop-place-preserved
+loop-place-preserved c =
+    let h = c.loop-place.invariant in
+    let place : ℕ = c.loop-place.place in
+    let layer : ℕ = c.args.layer in
+    let below = c.slice-below.result.now in
+    let under : layer - 1 ≢ layer = omega (arith, c.requires.layer.0) in
+    let end = c.min-end.ensures in
+    record {
+      upto = omega (arith, c.loop-place-test.true, c.slice.ensures.length, h.lengths layer);
+      done = λ p here. elim (same_or_not p place) [
+        | inl e ↦ rw (e, c.put.ensures.here) (summed_piece below (word_in c.args.self.now (layer - 1)) place (c.min-end.result - 64 * place) c.summary_of-word.result (λ q. c.slice-below.ensures.words q ∙ h.layers (layer - 1) q under) (omega (arith, end)) c.summary_of-word.ensures)
+        | inr other ↦ rw (c.put.ensures.others p other) (h.done p (omega (arith, here, other)))
+      ];
+      layers = λ k p other. c.put.ensures.layers k p other ∙ h.layers k p other;
+      lengths = λ k. c.put.ensures.lengths k ∙ h.lengths k;
+    }
+
+pub returns-clause-exact : goal.returns-clause-exact
+returns-clause-exact c p =
+    let h = c.loop-place.invariant in
+    let layer : ℕ = c.args.layer in
+    let now = c.args.self.now in
+    let all : c.loop-place.place ≡ len_in now layer = omega (arith, h.upto, c.loop-place-test.false, c.slice.ensures.length, h.lengths layer) in
+    elim (cases_lt p (len_in now layer)) [
+      | inl here ↦ h.done p (omega (arith, here, all))
+      | inr past ↦
+          let zero : word_in c.loop-place.self layer p ≡ 0 = past_end c.loop-place.self layer p c.requires.layer.1 (omega (arith, past, h.lengths layer)) in
+          let covered = covers_below now layer c.requires.layer.0 c.requires.layer.1 in
+          none_past (word_in now (layer - 1)) p (word_in c.loop-place.self layer p) zero (λ b small. past_end now (layer - 1) (64 * p + b) (omega (arith, c.requires.layer.1)) (omega (arith, covered, past)))
+    ]
