@@ -2,9 +2,9 @@
 """example.py [--make] [FOLDER]: makes the repository that README's section 'Use it from your crate' prints, and passes it.
 
 In that section each block whose line above it ends in a file's name in backticks and a colon is that file. Beside these
-files stand the crates of this repository that the printed crates.txt names, as they are here but for must-fail edits and
-tests: the library is proved, not its tests. FOLDER is one that is not there yet; without it a fresh one is made, and
-removed afterwards. Then 'rt ci' runs there, and its status is this one's. With --make nothing is run.
+files stand the crates of this repository that the printed crates.txt names, as they are here but for must-fail edits.
+FOLDER is one that is not there yet; without it a fresh one is made, and removed afterwards. Then 'rt ci' runs there, and
+its status is this one's. With --make nothing is run.
 """
 import argparse
 import re
@@ -16,7 +16,6 @@ from pathlib import Path
 
 TOP = Path(__file__).resolve().parent
 HEADING = "## Use it from your crate"
-TESTS = re.compile(r"\n#\[cfg\(test\)\]\nmod tests;\n")
 
 
 def printed():
@@ -24,13 +23,6 @@ def printed():
     text = (TOP / "README.md").read_text(encoding="utf-8")
     section = text.split(f"\n{HEADING}\n")[1].split("\n## ")[0]
     return dict(re.findall(r"`([\w./-]+)`:\n\n```\w*\n(.*?)^```$", section, re.M | re.S))
-
-
-def left_out(folder, names):
-    """What is not copied of a folder of a crate."""
-    inside = Path(folder).relative_to(TOP / "crates").parts[1:]
-    tests = {(): ["out", "must-fail"], ("src",): ["tests", "tests.rt"], ("proofs",): ["tests"]}
-    return [name for name in names if name in tests.get(inside, [])]
 
 
 def make(folder):
@@ -44,9 +36,7 @@ def make(folder):
         copy = folder / "crates" / crate
         if copy.exists():
             continue
-        shutil.copytree(TOP / "crates" / crate, copy, ignore=left_out)
-        root = copy / "src" / "lib.rt"
-        root.write_text(TESTS.sub("", root.read_text(encoding="utf-8")), encoding="utf-8")
+        shutil.copytree(TOP / "crates" / crate, copy, ignore=shutil.ignore_patterns("out", "must-fail"))
 
 
 def main():

@@ -1,5 +1,5 @@
 #!/usr/bin/env bash
-# Sees that the pages name the files; proves every crate from nothing, tries the wrong bodies, runs the tests and the program; then refuses each request for memory in turn and, beside that, tries the wrong bodies that tests alone see; and replays the oracle's scripts.
+# Sees that the pages name the files; proves every crate from nothing, tries the wrong bodies, runs the tests and the program; then refuses each request for memory in turn and, beside that, tries the wrong bodies that tests alone see; and replays the oracle's scripts on the program that was proved.
 set -euo pipefail
 cd "$(dirname "$0")"
 docs/check.py
@@ -11,4 +11,4 @@ trap 'kill "$caught" 2>/dev/null || true; rm -f "$log"' EXIT
 ./refusals.py
 wait "$caught" || { cat "$log"; exit 1; }
 cat "$log"
-sh diff/replay.sh
+sh diff/replay.sh "$PWD/crates/hibitset_run/out/hibitset_run"

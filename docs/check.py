@@ -3,7 +3,8 @@
 
 A file of src/ stands in the section of its crate by its name, as `set.rt`; one of specs/ in that section's paragraph
 'Definitions: ..', and one of proofs/ (not in its folders) in the paragraph 'Lemmas: ..', each as `Members` or
-`Members.antt`. What the page says of all crates holds for lib.rt, main.rt, Lib.antt and tests.
+`Members.antt`. What the page says of all crates holds for lib.rt, main.rt, Lib.antt and the program's tests. The crates
+of tests (TESTS) share one section, that of the first.
 A page points by a relative link, or by the path of a page or a tool from the top of the repository.
 A block of rust whose first line is '// crates/..', the path of a file, has heads of functions that stand so in that file,
 with an empty line between two. A block of antt whose first line is '-- crates/..' has statements, each whole and with the
@@ -16,6 +17,7 @@ from pathlib import Path
 
 TOP = Path(__file__).resolve().parent.parent
 CRATES = "hibitset_base hibitset_atomic hibitset hibitset_store hibitset_run uses refusals word_reads".split()
+TESTS = "hibitset_tests hibitset_atomic_tests hibitset_store_tests uses_tests".split()
 MAP = TOP / "docs" / "ARCHITECTURE.md"
 CALLING = TOP / "docs" / "CALLING.md"
 PAGES = [TOP / "README.md", TOP / "CONTRIBUTING.md", *sorted((TOP / "docs").glob("*.md"))]
@@ -40,11 +42,23 @@ def unnamed():
             if path.name not in ("lib.rt", "main.rt", "tests.rt") and "tests" not in parts:
                 if not re.search(rf"`(?:[\w/]+/)?{re.escape(path.name)}`", text):
                     yield path
-        for part, word in (("specs", "Definitions"), ("proofs", "Lemmas")):
-            named = paragraphs(text, word)
-            for path in sorted((folder / part).glob("*.antt")):
-                if path.name != "Lib.antt" and not re.search(rf"`{path.stem}(?:\.antt)?`", named):
-                    yield path
+        yield from undefined(folder, text)
+    text = section(TESTS[0])
+    for crate in TESTS:
+        folder = TOP / "crates" / crate
+        for path in sorted((folder / "src").rglob("*.rt")):
+            if path.name != "lib.rt" and not re.search(rf"`(?:[\w/]+/)?{re.escape(path.name)}`", text):
+                yield path
+        yield from undefined(folder, text)
+
+
+def undefined(folder, text):
+    """The files of definitions and lemmas of a crate that the map's section lacks."""
+    for part, word in (("specs", "Definitions"), ("proofs", "Lemmas")):
+        named = paragraphs(text, word)
+        for path in sorted((folder / part).glob("*.antt")):
+            if path.name != "Lib.antt" and not re.search(rf"`{path.stem}(?:\.antt)?`", named):
+                yield path
 
 
 def nowhere(page):

@@ -22,6 +22,3 @@ pub use hibitset_base::{
     util, virt,
 };
 pub use set::BitSet;
-
-#[cfg(test)]
-mod tests;

@@ -10,6 +10,3 @@ pub use columns::Column;
 pub use joins::{join, join_masked};
 pub use pages::PAGE;
 pub use walks::{Iter, Join, JoinMasked};
-
-#[cfg(test)]
-mod tests;

@@ -1,7 +1,5 @@
 mod Bounding
-mod Listing
+pub mod Listing
 mod Running
-mod Turning
-mod Walking
 mod Weighing
 mod Working

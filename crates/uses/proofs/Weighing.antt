@@ -59,5 +59,7 @@ module _ (weights : List ℕ) (p q : ℕ → Bool) (init : ℕ → Type 0) (step
       let list : members_below MAX_EID r ≡ members_below MAX_EID (λ i. p i && q i) = members-same r (λ i. p i && q i) 0 MAX_EID (λ i low high. same i) in
       total_is fits total (subst (λ xs. FoldsInParts init step combine xs total) list h)
 
-  pub total_of_parts : {E : Type 0} (r : ℕ → Bool) → ((i : ℕ) → r i ≡ (p i && q i)) → ((i : ℕ) → slice_index weights i < 2 ^ 32) → (result : Result ℕ E) → IfOk result (FoldsInParts init step combine (members_below MAX_EID r)) → IfOk result (λ total. total ≡ weight_of_both weights p q)
-  total_of_parts r same fits result = IfOk-weaker result (FoldsInParts init step combine (members_below MAX_EID r)) (λ total. total ≡ weight_of_both weights p q) (total_of r same fits)
+  pub total_of_parts : {E : Type 0} (r : ℕ → Bool) → ((i : ℕ) → r i ≡ (p i && q i)) → ((i : ℕ) → slice_index weights i < 2 ^ 32) → (xs : List ℕ) → xs ≡ members_below MAX_EID r → (result : Result ℕ E) → IfOk result (FoldsInParts init step combine xs) → IfOk result (λ total. total ≡ weight_of_both weights p q)
+  total_of_parts r same fits xs list result h =
+      IfOk-weaker result (FoldsInParts init step combine (members_below MAX_EID r)) (λ total. total ≡ weight_of_both weights p q) (total_of r same fits)
+      (subst (λ ys. IfOk result (FoldsInParts init step combine ys)) list h)

@@ -4,6 +4,5 @@ pub mod Ids
 pub mod Lists
 pub mod Pages
 pub mod Ready
-pub mod Turns
 pub mod Weights
 pub mod Workers

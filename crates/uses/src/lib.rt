@@ -9,8 +9,6 @@ pub mod pages;
 pub mod ready;
 pub mod room;
 pub mod shared_ids;
-#[cfg(test)]
-mod tests;
 pub mod walks;
 pub mod weights;
 pub mod workers;

@@ -1,15 +1,16 @@
 //! Sets made of lists, and extended by them.
-ghost use Rattle.std.specs.Prelude.{◌≡◌, ℕ, ◌/◌, ◌<◌, ◌≤◌, ◌↔◌, ◌⊎◌, true, length, take, IfOk, IfErr, OnOk, Contains};
-ghost use Rattle.hibitset_base.specs.declared.util.TheConstants.{MAX_EID};
+ghost use Rattle.std.specs.Prelude.{◌≡◌, ℕ, ◌-◌, ◌*◌, ◌/◌, ◌^◌, ◌<◌, ◌≤◌, ◌↔◌, ◌⊎◌, true, length, take, IfOk, IfErr, OnOk, Contains};
+ghost use Rattle.hibitset_base.specs.declared.util.TheConstants.{LAYERS, MAX_EID};
 ghost use Rattle.hibitset.specs.BitSet.{has, slice_len};
 ghost use Rattle.uses.specs.Lists.{place_of, InRangeBefore, IsWhy, LacksRoom, LiesApartIn};
 
 use hibitset::{BitSet, BuildError, Index};
 use std::alloc::Global;
 
-/// The set of the indices of a list. Where one is refused, the error tells its place: it is the first out of range, or one for which there was no memory, and then its word lies past those of all before it.
+/// The set of the indices of a list, with no more words in a layer than they need. Where one is refused, the error tells its place: it is the first out of range, or one for which there was no memory, and then its word lies past those of all before it.
 pub fn set_of(alloc: Global, list: &[Index]) -> Result<BitSet, BuildError>
     ensures members { IfOk result (λ set. (i : ℕ) → (has set i ≡ true) ↔ Contains list.now i) }
+    ensures short { IfOk result (λ set. (l end : ℕ) → l < LAYERS - 1 → ((i : ℕ) → Contains list.now i → i / 64 < 64 ^ l * end) → slice_len set l ≤ end) }
     ensures in_range { IfOk result (λ _. InRangeBefore MAX_EID list.now (length list.now)) }
     ensures place { IfErr result (λ error. place_of error < length list.now) }
     ensures before { IfErr result (λ error. InRangeBefore MAX_EID list.now (place_of error)) }

@@ -3,10 +3,16 @@ use Rattle.std.proofs.lemmas.Result.{IfOk-weaker, IfErr-weaker}
 use Rattle.hibitset_base.specs.declared.util.TheConstants.{MAX_EID}
 use Rattle.hibitset.specs.BitSet.{has}
 use Rattle.uses.proofs.Listing.{takes_all, made_of, refused_in}
+use Rattle.uses.proofs.Working.{both_ok}
 use Rattle.uses.proofs.lists.set_of.Goals as goal
 
 pub returns-clause-members : goal.returns-clause-members
 returns-clause-members c = IfOk-weaker c.from_index_refs.result _ _ (λ set h. made_of (has set) c.args.list.now (takes_all MAX_EID c.args.list (λ _. false) (has set) h).added) c.from_index_refs.ensures.all
+
+pub returns-clause-short : goal.returns-clause-short
+returns-clause-short c =
+    both_ok _ _ _ c.from_index_refs.result c.from_index_refs.ensures.all c.from_index_refs.ensures.above
+    (λ set all above. λ l end below ends. above l end below (λ i on. ends i ((made_of (has set) c.args.list.now (takes_all MAX_EID c.args.list (λ _. false) (has set) all).added i).0 on)))
 
 pub returns-clause-in_range : goal.returns-clause-in_range
 returns-clause-in_range c = IfOk-weaker c.from_index_refs.result _ _ (λ set h. (takes_all MAX_EID c.args.list (λ _. false) (has set) h).in_range) c.from_index_refs.ensures.all

@@ -1,5 +1,0 @@
-use Rattle.hibitset_atomic.specs.Seats.{Came}
-use Rattle.hibitset_atomic.proofs.tests.again.three_shares.Given as goal
-
-abbrev pub invariant-halves : goal.invariant-halves
-invariant-halves l = Came l.set l.first

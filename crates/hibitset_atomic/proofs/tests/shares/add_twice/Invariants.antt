@@ -1,5 +1,0 @@
-use Rattle.hibitset_atomic.specs.Seats.{Came}
-use Rattle.hibitset_atomic.proofs.tests.shares.add_twice.Given as goal
-
-abbrev pub invariant-loop-id : goal.invariant-loop-id
-invariant-loop-id l = Came l.set l.seat

@@ -1,0 +1,183 @@
+//! Callers of the shared set, who prove what their contracts say from the public clauses alone.
+ghost use Rattle.std.specs.Prelude.{◌≡◌, ℕ, ◌+◌, ◌≤◌, ◌⊎◌, ◌↔◌, [], true, length, IfSome, IfOk, IfErr, ◌<◌};
+ghost use Rattle.hibitset_atomic.specs.declared.atomic.TheConstants.{ATOMIC_MAX_EID};
+ghost use Rattle.hibitset_atomic.specs.AtomicBitSet.{has};
+ghost use Rattle.hibitset_atomic.specs.Lists.{Has, Distinct};
+ghost use Rattle.hibitset_atomic.specs.Seats.{IsOld, Came, reports_of, loads_by, exchanges_by};
+
+use crate::tests::list;
+use hibitset_atomic::{AtomicBitSet, Seat, SharedBitSet};
+use hibitset_base::util::Index;
+use std::snapshot::Snapshot;
+use std::sync::Wait;
+use std::test::Fail;
+use std::thread;
+use std::thread::{Promise, Threads};
+
+/// A seat that has added, and how many of its adds answered false.
+#[derive(Drop)]
+pub struct Added {
+    seat: Seat,
+    new: u32,
+}
+
+/// Promises that a seat comes back to its set, with as many reports as answers false.
+#[derive(Clone, Copy)]
+pub struct ComesBack<'a>(&'a SharedBitSet);
+
+impl<'a> Promise<Added> for ComesBack<'a> {
+    ghost kept_by = { λ p r. Came p.0.now r.seat × (length (reports_of r.seat) ≡ r.new) };
+}
+
+/// The set afterwards, the seat as it was before it settled, and how many adds answered false.
+#[derive(Drop)]
+pub struct Settled {
+    pub set: AtomicBitSet,
+    pub seat: Snapshot<Seat>,
+    pub new: u64,
+}
+
+// Adds each index below a bound, and counts the answers false.
+fn add_below(set: &SharedBitSet, seat: Seat, count: u32) -> Added
+    requires came { Came set.now seat × (reports_of seat ≡ []) }
+    requires count { count ≤ ATOMIC_MAX_EID }
+    ensures { Came set.now result.seat × (length (reports_of result.seat) ≡ result.new) }
+{
+    let mut seat = seat;
+    let mut new = 0;
+    for id in 0..count {
+        if !set.add_atomic(&mut seat, id) {
+            new += 1;
+        }
+    }
+    Added { seat, new }
+}
+
+// Each seat adds on a thread of its own.
+fn on_two_threads<R: Threads + Wait + Sync>(
+    rt: &R,
+    set: &SharedBitSet,
+    a: Seat,
+    b: Seat,
+    count: u32,
+) -> Option<(Added, Added)>
+    requires a { Came set.now a × (reports_of a ≡ []) }
+    requires b { Came set.now b × (reports_of b ≡ []) }
+    requires count { count ≤ ATOMIC_MAX_EID }
+    ensures came { IfSome result (λ t. Came set.now t.0.seat × Came set.now t.1.seat) }
+    ensures new { IfSome result (λ t. (length (reports_of t.0.seat) ≡ t.0.new) × (length (reports_of t.1.seat) ≡ t.1.new)) }
+{
+    thread::scope(
+        thread::scope_env(),
+        rt,
+        |scope| -> Option<(Added, Added)>
+            requires a { Came set.now a × (reports_of a ≡ []) }
+            requires b { Came set.now b × (reports_of b ≡ []) }
+            requires count { count ≤ ATOMIC_MAX_EID }
+            ensures came { IfSome result (λ t. Came set.entry.now t.0.seat × Came set.entry.now t.1.seat) }
+            ensures new { IfSome result (λ t. (length (reports_of t.0.seat) ≡ t.0.new) × (length (reports_of t.1.seat) ≡ t.1.new)) }
+        {
+            let one = scope.spawn_with(
+                ComesBack(set),
+                move || -> Added
+                    requires { Came set.now a × (reports_of a ≡ []) × (count ≤ ATOMIC_MAX_EID) }
+                    ensures { Came set.entry.now result.seat × (length (reports_of result.seat) ≡ result.new) }
+                { add_below(set, a, count) },
+            );
+            let two = scope.spawn_with(
+                ComesBack(set),
+                move || -> Added
+                    requires { Came set.now b × (reports_of b ≡ []) × (count ≤ ATOMIC_MAX_EID) }
+                    ensures { Came set.entry.now result.seat × (length (reports_of result.seat) ≡ result.new) }
+                { add_below(set, b, count) },
+            );
+            Some((one.ok()?.join(rt), two.ok()?.join(rt)))
+        },
+    )
+}
+
+/// Two threads add each index below a bound. No index is reported twice, and the set has exactly the old indices and the reported ones.
+pub fn add_from_two<R: Threads + Wait + Sync>(
+    rt: &R,
+    set: SharedBitSet,
+    seat: Seat,
+    count: u32,
+) -> Option<Settled>
+    requires came { Came set seat × (reports_of seat ≡ []) }
+    requires count { count ≤ ATOMIC_MAX_EID }
+    ensures once { IfSome result (λ r. Distinct (reports_of r.seat.value)) }
+    ensures new { IfSome result (λ r. length (reports_of r.seat.value) ≡ r.new) }
+    ensures members { IfSome result (λ r. (i : ℕ) → (has r.set i ≡ true) ↔ (IsOld set i ⊎ Has (reports_of r.seat.value) i)) }
+{
+    let (a, b) = set.divide(seat);
+    let (one, two) = on_two_threads(rt, &set, a, b?, count)?;
+    let new = u64::from(one.new) + u64::from(two.new);
+    let seat = set.join(one.seat, two.seat);
+    if !seat.is_whole() {
+        return None;
+    }
+    let before = Snapshot::of(&seat);
+    let set = set.settle(seat).ok()?;
+    Some(Settled {
+        set,
+        seat: before,
+        new,
+    })
+}
+
+/// Settles, and puts one index more into the set, for which there is room by then.
+pub fn settle_with(
+    set: SharedBitSet,
+    seat: Seat,
+    id: Index,
+) -> Result<AtomicBitSet, (SharedBitSet, Seat)>
+    requires came { Came set seat }
+    requires id { id < ATOMIC_MAX_EID }
+    ensures added { IfOk result (λ r. has r id ≡ true) }
+    ensures old { IfOk result (λ r. (i : ℕ) → IsOld set i → has r i ≡ true) }
+    ensures back { IfErr result (λ r. (r.0 ≡ set) × (r.1 ≡ seat)) }
+{
+    let mut set = set.settle(seat)?;
+    set.remove(id);
+    set.add(id).unwrap();
+    Ok(set)
+}
+
+/// Adds an index twice. The second time it is read and nothing else, so there are no more exchanges than one add may make.
+pub fn add_again(set: &SharedBitSet, seat: &mut Seat, id: Index) -> bool
+    requires came { Came set.now seat.old }
+    requires id { id < ATOMIC_MAX_EID }
+    ensures came { Came set.now seat.new }
+    ensures there { result ≡ true }
+    ensures loads { loads_by seat.new ≤ loads_by seat.old + 11 }
+    ensures exchanges { exchanges_by seat.new ≤ exchanges_by seat.old + 4 }
+{
+    set.add_atomic(seat, id);
+    set.add_atomic(seat, id)
+}
+
+#[test]
+fn two_threads_add_the_same(rt: HostRuntime) -> Result<(), Fail> {
+    let Ok((set, seat)) = AtomicBitSet::new(rt.alloc())?.share() else {
+        panic!(rt; "no memory")
+    };
+    let Some(settled) = add_from_two(&rt, set, seat, 1000) else {
+        panic!(rt; "no thread, or no memory")
+    };
+    assert_eq!(rt; settled.new, 1000);
+    assert_eq!(rt; list(rt.alloc(), &settled.set)?.len(), 1000);
+    Ok(())
+}
+
+#[test]
+fn one_more_after_settling(rt: HostRuntime) -> Result<(), Fail> {
+    let Ok((set, mut seat)) = AtomicBitSet::new(rt.alloc())?.share() else {
+        panic!(rt; "no memory")
+    };
+    assert!(rt; add_again(&set, &mut seat, 70_000));
+    let Ok(set) = settle_with(set, seat, 5) else {
+        panic!(rt; "no memory")
+    };
+    assert_eq!(rt; list(rt.alloc(), &set)?.as_slice(), [5, 70_000].as_slice());
+    Ok(())
+}

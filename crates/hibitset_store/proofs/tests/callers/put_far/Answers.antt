@@ -1,5 +1,0 @@
-use Rattle.hibitset_store.proofs.CallerLemmas.{room_stays}
-use Rattle.hibitset_store.proofs.tests.callers.put_far.Goals as goal
-
-pub returns : goal.returns
-returns c = λ i first. room_stays 5000000 c.args.column.now c.insert.new.self c.insert.ensures.most i (c.requires i first)

@@ -1,0 +1,238 @@
+//! What callers know of walks and assignments, from the public contracts alone.
+ghost use Rattle.std.specs.Prelude.{◌≡◌, ℕ, ◌+◌, ◌-◌, ◌*◌, ◌^◌, ◌/◌, ◌<◌, ◌≤◌, ◌==◌, ◌&&◌, ◌||◌, true, false, [], ◌∷◌, ◌++◌, drop, length, IfOk, IfSome, IsOk, OnOk, OnErr};
+ghost use Rattle.hibitset_base.specs.Connectives.{IsIntersection, IsUnion, IsExclusive};
+ghost use Rattle.hibitset_base.specs.Members.{members, members_below};
+ghost use Rattle.hibitset_base.specs.Walk.{IsDrawn, words_read, words_ahead, items_left};
+ghost use Rattle.hibitset_base.specs.declared.util.TheConstants.{LAYERS, MAX_EID};
+ghost use Rattle.hibitset.specs.BitSet.{has, word_of, slice_len};
+ghost use Rattle.hibitset.specs.Merging.{NoWordsFrom};
+
+use crate::tests::set_of;
+use hibitset::laws::{laws, list_laws};
+use hibitset::{BitIter, BitSet, BitSetLike, DrainableBitSet, Index};
+use hibitset_base::util::MAX_EID;
+use std::alloc::{AllocError, Global};
+use std::test::Fail;
+
+// The members, by a loop.
+fn looped(alloc: Global, set: &BitSet) -> Result<Vec<Index>, AllocError>
+    ensures { IfOk result (λ list. list.items ≡ members_below MAX_EID (has set.now)) }
+{
+    let mut list = Vec::new(alloc);
+    for index in set {
+        list.push(index)?;
+    }
+    Ok(list)
+}
+
+// How many members there are.
+fn counted(set: &BitSet) -> usize
+    ensures { result ≡ length (members_below MAX_EID (has set.now)) }
+{
+    set.iter().count()
+}
+
+// The members, by the list of a walk.
+fn collected(alloc: Global, set: &BitSet) -> Result<Vec<Index>, AllocError>
+    ensures { IfOk result (λ list. list.items ≡ members_below MAX_EID (has set.now)) }
+{
+    set.iter().collect(alloc)
+}
+
+// The members of both, by the list of a walk.
+fn shared_by(alloc: Global, a: &BitSet, b: &BitSet) -> Result<Vec<Index>, AllocError>
+    ensures { IfOk result (λ list. list.items ≡ members_below MAX_EID (λ i. has a.now i && has b.now i)) }
+{
+    (a & b).iter().collect(alloc)
+}
+
+// The members from an index on, by the list of a walk.
+fn collected_from(alloc: Global, set: &BitSet, start: Index) -> Result<Vec<Index>, AllocError>
+    ensures { IfOk result (λ list. list.items ≡ members (has set.now) start (MAX_EID - start)) }
+{
+    set.iter_from(start).collect(alloc)
+}
+
+// The members, which are taken out.
+fn drained(alloc: Global, set: &mut BitSet) -> Result<Vec<Index>, AllocError>
+    ensures { IfOk result (λ list. list.items ≡ members_below MAX_EID (has set.old)) }
+{
+    set.drain().collect(alloc)
+}
+
+// One step of a walk, which reads at most a word of each layer below the top.
+fn step<'a>(walk: &mut BitIter<&'a BitSet>) -> Option<Index>
+    requires { IsDrawn (λ set. word_of set.now) walk.old }
+    ensures drawn { IsDrawn (λ set. word_of set.now) walk.new }
+    ensures few { words_read walk.new ≤ words_read walk.old + (LAYERS - 1) }
+{
+    laws();
+    walk.next()
+}
+
+// A copy of a walk, which has as many words ahead.
+fn copied<'a>(walk: &BitIter<&'a BitSet>) -> Result<BitIter<&'a BitSet>, AllocError>
+    ensures ahead { IfOk result (λ copy. words_ahead (λ set. word_of set.now) copy ≡ words_ahead (λ set. word_of set.now) walk.now) }
+    ensures items { IfOk result (λ copy. items_left (λ set. has set.now) copy ≡ items_left (λ set. has set.now) walk.now) }
+{
+    walk.clone()
+}
+
+// Keeps what is in the other too.
+fn narrow(set: &mut BitSet, other: &BitSet)
+    ensures { IsIntersection (has set.old) (has other.now) (has set.new) }
+{
+    *set &= other;
+}
+
+// Adds what is in the other.
+fn widen(set: &mut BitSet, other: &BitSet) -> Result<(), AllocError>
+    ensures members { OnOk result (IsUnion (has set.old) (has other.now) (has set.new)) }
+    ensures refused { OnErr result ((i : ℕ) → has set.new i ≡ has set.old i) }
+{
+    laws();
+    set.bitor_assign(other)
+}
+
+// Adds what is in the other alone, and takes out what is in both.
+fn exchange(set: &mut BitSet, other: &BitSet) -> Result<(), AllocError>
+    ensures members { OnOk result (IsExclusive (has set.old) (has other.now) (has set.new)) }
+    ensures refused { OnErr result ((i : ℕ) → has set.new i ≡ has set.old i) }
+{
+    laws();
+    set.bitxor_assign(other)
+}
+
+// A set of one index below 64, which takes one word of each layer and no more.
+fn alone(alloc: Global, id: Index) -> Result<BitSet, AllocError>
+    requires { id < 64 }
+    ensures member { IfOk result (λ set. has set id ≡ true) }
+    ensures words { IfOk result (λ set. (l : ℕ) → l < LAYERS - 1 → slice_len set l ≤ 1) }
+{
+    let mut set = BitSet::new(alloc);
+    set.add(id)?;
+    Ok(set)
+}
+
+// Room for the indices below 4,096, which are 64 words of layer 0 and one of each layer above.
+fn room_for_a_block(alloc: Global) -> Result<BitSet, AllocError>
+    ensures lowest { IfOk result (λ set. slice_len set 0 ≡ 64) }
+    ensures above { IfOk result (λ set. (slice_len set 1 ≤ 1) × (slice_len set 2 ≤ 1) × (slice_len set 3 ≤ 1)) }
+{
+    let set = BitSet::with_capacity(alloc, 4_096)?;
+    Ok(set)
+}
+
+// A range of one index is that index.
+fn add_one(set: &mut BitSet, id: Index) -> Result<(), AllocError>
+    requires { id < MAX_EID }
+    ensures added { OnOk result ((i : ℕ) → has set.new i ≡ (has set.old i || i == id)) }
+    ensures room { id / 64 < slice_len set.old 0 → IsOk result }
+{
+    set.add_range(id, id + 1)
+}
+
+// The range of all indices is all of a set.
+fn remove_all(set: &mut BitSet)
+    ensures { (i : ℕ) → has set.new i ≡ false }
+{
+    laws();
+    set.remove_range(0, MAX_EID as Index)
+}
+
+// A set that is saved and read again, in the words of layer 0.
+fn read_again(alloc: Global, set: &BitSet) -> Result<BitSet, AllocError>
+    ensures members { IfOk result (λ again. (i : ℕ) → has again i ≡ has set.now i) }
+    ensures length { IfOk result (λ again. slice_len again 0 ≡ slice_len set.now 0) }
+{
+    BitSet::from_words(alloc, set.layer0_as_slice())
+}
+
+// The members that the list begins and ends with, if there is one.
+fn ends(set: &BitSet) -> Option<(Index, Index)>
+    ensures head { IfSome result (λ r. members_below MAX_EID (has set.now) ≡ r.0 ∷ drop 1 (members_below MAX_EID (has set.now))) }
+    ensures end { IfSome result (λ r. members_below MAX_EID (has set.now) ≡ members_below r.1 (has set.now) ++ (r.1 ∷ [])) }
+{
+    list_laws();
+    Some((set.first()?, set.last()?))
+}
+
+// Adds a set without words from `end` on, in the words of layer 3.
+fn widen_within(set: &mut BitSet, other: &BitSet, end: usize) -> Result<(), AllocError>
+    requires ours { slice_len set.old 3 ≤ end }
+    requires theirs { NoWordsFrom (word_of other.now) (64 ^ 3 * end) }
+    ensures { slice_len set.new 3 ≤ end }
+{
+    set.bitor_assign(other)
+}
+
+#[test]
+fn rooms_of_callers(rt: HostRuntime) -> Result<(), Fail> {
+    let set = alone(rt.alloc(), 5)?;
+    assert_eq!(rt; set.layer3_as_slice(), [1].as_slice());
+    let room = room_for_a_block(rt.alloc())?;
+    assert_eq!(rt; room.layer0_as_slice().len(), 64);
+    assert_eq!(rt; room.layer1_as_slice().len(), 1);
+    let mut one = alone(rt.alloc(), 5)?;
+    add_one(&mut one, 6)?;
+    assert_eq!(rt; one.layer0_as_slice(), [96].as_slice());
+    assert_eq!(rt;
+        read_again(rt.alloc(), &one)?.layer0_as_slice(),
+        [96].as_slice()
+    );
+    remove_all(&mut one);
+    assert!(rt; one.is_empty());
+    let mut wide = alone(rt.alloc(), 6)?;
+    widen_within(&mut wide, &set, 64)?;
+    assert_eq!(rt; wide.layer0_as_slice(), [96].as_slice());
+    Ok(())
+}
+
+#[test]
+fn walks_of_callers(rt: HostRuntime) -> Result<(), Fail> {
+    let mut a = set_of(rt.alloc(), &[3, 70, 700])?;
+    assert_eq!(rt; looped(rt.alloc(), &a)?.as_slice(), [3, 70, 700].as_slice());
+    assert_eq!(rt; counted(&a), 3);
+    let mut walk = (&a).iter();
+    assert_eq!(rt; step(&mut walk), Some(3));
+    let rest: Vec<Index> = copied(&walk)?.collect(rt.alloc())?;
+    assert_eq!(rt; rest.as_slice(), [70, 700].as_slice());
+    assert_eq!(rt;
+        drained(rt.alloc(), &mut a)?.as_slice(),
+        [3, 70, 700].as_slice()
+    );
+    assert!(rt; a.is_empty());
+    Ok(())
+}
+
+#[test]
+fn lists_of_callers(rt: HostRuntime) -> Result<(), Fail> {
+    let a = set_of(rt.alloc(), &[3, 70, 700])?;
+    let b = set_of(rt.alloc(), &[70, 71, 700])?;
+    assert_eq!(rt;
+        collected(rt.alloc(), &a)?.as_slice(),
+        [3, 70, 700].as_slice()
+    );
+    assert_eq!(rt;
+        shared_by(rt.alloc(), &a, &b)?.as_slice(),
+        [70, 700].as_slice()
+    );
+    assert_eq!(rt;
+        collected_from(rt.alloc(), &a, 4)?.as_slice(),
+        [70, 700].as_slice()
+    );
+    Ok(())
+}
+
+#[test]
+fn assignments_of_callers(rt: HostRuntime) -> Result<(), Fail> {
+    let mut a = set_of(rt.alloc(), &[3, 70])?;
+    let b = set_of(rt.alloc(), &[70, 71])?;
+    widen(&mut a, &b)?;
+    assert_eq!(rt; looped(rt.alloc(), &a)?.as_slice(), [3, 70, 71].as_slice());
+    exchange(&mut a, &b)?;
+    assert_eq!(rt; looped(rt.alloc(), &a)?.as_slice(), [3].as_slice());
+    narrow(&mut a, &b);
+    assert!(rt; a.is_empty());
+    Ok(())
+}

@@ -1,0 +1,227 @@
+//! Walks in parts, by several threads.
+ghost use Rattle.std.specs.Prelude.{◌≡◌, length, IfOk};
+ghost use Rattle.hibitset_base.specs.Members.{members_below};
+ghost use Rattle.hibitset_base.specs.declared.util.TheConstants.{MAX_EID};
+
+use crate::tests::{list, run_of, set_of};
+use hibitset::{BitParIter, BitSet, BitSetAnd, BitSetLike, Index};
+use hibitset_base::util::MAX_EID;
+use std::alloc::{AllocError, Global};
+use std::sync::atomic::{AtomicUsize, Ordering};
+use std::test::Fail;
+use std::thread::{Threads, available_parallelism};
+
+// How many members there are, counted in parts that are cut in two layers.
+fn count_members<T: BitSetLike + Send + Sync>(
+    rt: &(impl Threads + Sync),
+    alloc: Global,
+    set: &T,
+) -> Result<usize, AllocError>
+    ensures { IfOk result (λ n. n ≡ length (members_below MAX_EID (T.holds set.now))) }
+{
+    set.par_iter().layers_split(2).count(rt, alloc)
+}
+
+// How often `for_each` called its closure, and the sum of what it called it with.
+#[derive(Drop)]
+struct Visits {
+    times: usize,
+    sum: usize,
+}
+
+fn visits_of<T: BitSetLike + Send + Sync>(
+    rt: &(impl Threads + Sync),
+    alloc: Global,
+    walk: BitParIter<T>,
+) -> Result<Visits, AllocError> {
+    let times = AtomicUsize::new(0);
+    let sum = AtomicUsize::new(0);
+    walk.for_each(rt, alloc, |index: Index| {
+        times.fetch_add(1, Ordering::SeqCst);
+        sum.fetch_add(index as usize, Ordering::SeqCst);
+    })?;
+    Ok(Visits {
+        times: times.load(Ordering::SeqCst),
+        sum: sum.load(Ordering::SeqCst),
+    })
+}
+
+#[test]
+fn clusters(rt: HostRuntime) -> Result<(), Fail> {
+    let mut set = BitSet::new(rt.alloc());
+    for x in 0..8u32 {
+        for y in 0..8u32 {
+            for z in 0..8u32 {
+                set.add(12288 * x + 192 * y + 2 * z)?;
+            }
+        }
+    }
+    assert_eq!(rt; list(rt.alloc(), &set)?.len(), 512);
+    assert_eq!(rt; (&set).par_iter().count(&rt, rt.alloc())?, 512);
+    let visits = visits_of(&rt, rt.alloc(), (&set).par_iter())?;
+    assert_eq!(rt; visits.times, 512);
+    assert_eq!(rt; visits.sum, 22_367_744);
+    let none = BitSet::new(rt.alloc());
+    assert_eq!(rt; visits_of(&rt, rt.alloc(), (&none).par_iter())?.times, 0);
+    assert_eq!(rt; (&none).par_iter().count(&rt, rt.alloc())?, 0);
+    assert_eq!(rt; none.par_iter().collect(&rt, rt.alloc())?.len(), 0);
+    Ok(())
+}
+
+#[test]
+fn border_indices_in_parts(rt: HostRuntime) -> Result<(), Fail> {
+    let ids = [
+        0, 63, 64, 4095, 4096, 262_143, 262_144, 16_777_215, 16_777_216,
+    ];
+    let set = set_of(rt.alloc(), ids.as_slice())?;
+    for layers in 1..5u8 {
+        let all = (&set)
+            .par_iter()
+            .layers_split(layers)
+            .collect(&rt, rt.alloc())?;
+        assert_eq!(rt; all.as_slice(), ids.as_slice());
+    }
+    Ok(())
+}
+
+#[test]
+fn counts_of_small_sets(rt: HostRuntime) -> Result<(), Fail> {
+    let one = set_of(rt.alloc(), &[1_048_575])?;
+    assert_eq!(rt; (&one).par_iter().count(&rt, rt.alloc())?, 1);
+    let mut odd = BitSet::new(rt.alloc());
+    let mut even = BitSet::new(rt.alloc());
+    for k in 0..50_000u32 {
+        odd.add(2 * k + 1)?;
+        even.add(2 * k)?;
+    }
+    assert_eq!(rt; count_members(&rt, rt.alloc(), &odd)?, 50_000);
+    assert_eq!(rt; count_members(&rt, rt.alloc(), &even)?, 50_000);
+    let both = BitSetAnd(&odd, &even);
+    assert_eq!(rt; count_members(&rt, rt.alloc(), &both)?, 0);
+    Ok(())
+}
+
+// The sum of the members of a set.
+fn sum_of<T: BitSetLike + Send + Sync>(
+    rt: &(impl Threads + Sync),
+    alloc: Global,
+    set: &T,
+) -> Result<u64, AllocError> {
+    set.par_iter().fold(
+        rt,
+        alloc,
+        || 0u64,
+        |sum: u64, index: Index| sum.wrapping_add(u64::from(index)),
+        |sum: u64, other: u64| sum.wrapping_add(other),
+    )
+}
+
+#[test]
+fn folds_of_ten_and_of_many(rt: HostRuntime) -> Result<(), Fail> {
+    let ten = run_of(rt.alloc(), 10)?;
+    assert_eq!(rt; sum_of(&rt, rt.alloc(), &ten)?, 45);
+    let many = run_of(rt.alloc(), 524_288)?;
+    assert_eq!(rt; sum_of(&rt, rt.alloc(), &many)?, 137_438_691_328);
+    // One processor alone walks over it whole.
+    let is_cut = available_parallelism(&rt)?.get() > 1;
+    for (layers, parts) in [(1u8, 1), (2, 2), (3, 128), (4, 4_096)] {
+        let wanted = if is_cut { parts } else { 1 };
+        let pieces = BitParIter::new(&many).layers_split(layers).fold(
+            &rt,
+            rt.alloc(),
+            || 1u64,
+            |pieces: u64, _index: Index| pieces,
+            |pieces: u64, other: u64| pieces.wrapping_add(other),
+        )?;
+        assert_eq!(rt; pieces, wanted);
+    }
+    Ok(())
+}
+
+#[test]
+fn lists_of_more_than_a_million(rt: HostRuntime) -> Result<(), Fail> {
+    let many = run_of(rt.alloc(), 1_100_000)?;
+    let listed = many.to_vec(rt.alloc())?;
+    let mut next = 0u32;
+    for index in &listed {
+        assert_eq!(rt; *index, next);
+        next = next.wrapping_add(1);
+    }
+    assert_eq!(rt; (listed.len(), listed.capacity()), (1_100_000, 1_100_000));
+    let collected = (&many).par_iter().collect(&rt, rt.alloc())?;
+    assert!(rt; collected == listed);
+    assert_eq!(rt; collected.capacity(), 1_100_000);
+    Ok(())
+}
+
+#[test]
+fn each_of_many(rt: HostRuntime) -> Result<(), Fail> {
+    let many = run_of(rt.alloc(), 524_288)?;
+    for layers in 1..5u8 {
+        let walk = (&many).par_iter().layers_split(layers);
+        assert_eq!(rt; walk.count(&rt, rt.alloc())?, 524_288);
+    }
+    let all = (&many).par_iter().collect(&rt, rt.alloc())?;
+    assert_eq!(rt; all.as_slice(), list(rt.alloc(), &many)?.as_slice());
+    let visits = visits_of(&rt, rt.alloc(), (&many).par_iter())?;
+    assert_eq!(rt; visits.times, 524_288);
+    assert_eq!(rt; visits.sum, 137_438_691_328);
+    Ok(())
+}
+
+// What `for_each` visits of a small set, which it walks over in one thread: each index by itself, up to the last.
+#[test]
+fn visits_of_border_indices(rt: HostRuntime) -> Result<(), Fail> {
+    for index in [
+        0,
+        63,
+        64,
+        4_095,
+        4_096,
+        262_143,
+        262_144,
+        16_777_215,
+        16_777_216,
+        1_073_741_823,
+    ] {
+        let set = set_of(rt.alloc(), &[index])?;
+        for layers in 1..5u8 {
+            let walk = (&set).par_iter().layers_split(layers);
+            let visits = visits_of(&rt, rt.alloc(), walk)?;
+            assert_eq!(rt; visits.times, 1);
+            assert_eq!(rt; visits.sum, index as usize);
+        }
+    }
+    Ok(())
+}
+
+// A run of 150,000 members in each of four regions of 2^24 indices, the last one up to the last index: enough for threads.
+fn four_runs(alloc: Global) -> Result<BitSet, AllocError> {
+    let mut set = BitSet::with_capacity(alloc, MAX_EID as Index)?;
+    for start in [0u32, 16_777_216, 520_093_696, 1_073_591_824] {
+        for place in 0..150_000u32 {
+            let id = start.wrapping_add(place);
+            if (id as usize) < MAX_EID {
+                set.add(id)?;
+            }
+        }
+    }
+    Ok(set)
+}
+
+#[test]
+fn visits_of_four_regions(rt: HostRuntime) -> Result<(), Fail> {
+    let set = four_runs(rt.alloc())?;
+    for layers in 1..5u8 {
+        let walk = (&set).par_iter().layers_split(layers);
+        let visits = visits_of(&rt, rt.alloc(), walk)?;
+        assert_eq!(rt; visits.times, 600_000);
+        assert_eq!(rt; visits.sum, 241_614_410_100_000);
+        let walk = (&set).par_iter().layers_split(layers);
+        assert_eq!(rt; walk.count(&rt, rt.alloc())?, 600_000);
+    }
+    let all = (&set).par_iter().collect(&rt, rt.alloc())?;
+    assert_eq!(rt; all.as_slice(), list(rt.alloc(), &set)?.as_slice());
+    assert_eq!(rt; sum_of(&rt, rt.alloc(), &set)?, 241_614_410_100_000);
+    Ok(())
+}

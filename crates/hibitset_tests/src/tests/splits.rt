@@ -1,0 +1,184 @@
+//! Walks that are split, and parts of them.
+ghost use Rattle.std.specs.Prelude.{◌≡◌, ◌++◌, ◌<◌, length, IfOk, IfSome};
+ghost use Rattle.hibitset_base.specs.Members.{members_below};
+ghost use Rattle.hibitset_base.specs.Splits.{part_items, other_items};
+ghost use Rattle.hibitset_base.specs.declared.util.TheConstants.{MAX_EID};
+
+use crate::tests::{run_of, set_of};
+use hibitset::laws::laws;
+use hibitset::{BitProducer, BitSet, BitSetLike, Index};
+use hibitset_base::util::{LAYERS, MAX_EID, average_ones};
+use std::alloc::{AllocError, Global};
+use std::test::Fail;
+
+#[test]
+fn halving_bits(rt: HostRuntime) {
+    assert_eq!(rt; average_ones(0b10110), Some(4));
+    assert_eq!(rt; average_ones(0b100010), Some(5));
+    assert_eq!(rt; average_ones(0), None);
+    assert_eq!(rt; average_ones(1), None);
+    assert_eq!(rt; average_ones(!0), Some(32));
+    assert_eq!(rt; average_ones((1 << 63) + 1), Some(63));
+}
+
+// How many parts there are where each is split to its end.
+fn parts_to_the_end(alloc: Global, set: &BitSet, layers: u8) -> Result<usize, AllocError> {
+    let mut open = Vec::new(alloc);
+    open.push(BitProducer(set.iter(), layers))?;
+    let mut ended = 0usize;
+    for _ in 0..40_000u32 {
+        let Some(part) = open.pop() else {
+            break;
+        };
+        if part.1 as usize >= LAYERS {
+            break;
+        }
+        let (first, second) = part.split();
+        match second {
+            None => ended = ended.wrapping_add(1),
+            Some(other) => {
+                open.push(first)?;
+                open.push(other)?;
+            }
+        }
+    }
+    Ok(ended)
+}
+
+#[test]
+fn splitting_to_the_end(rt: HostRuntime) -> Result<(), Fail> {
+    let set = run_of(rt.alloc(), 524_288)?;
+    assert_eq!(rt; parts_to_the_end(rt.alloc(), &set, 4)?, 8192);
+    assert_eq!(rt; parts_to_the_end(rt.alloc(), &set, 3)?, 128);
+    assert_eq!(rt; parts_to_the_end(rt.alloc(), &set, 2)?, 2);
+    assert_eq!(rt; parts_to_the_end(rt.alloc(), &set, 1)?, 1);
+    assert_eq!(rt; parts_to_the_end(rt.alloc(), &set, 0)?, 1);
+    Ok(())
+}
+
+// The items of the two parts of a walk that has given some items already, where there is a second one.
+fn parts_after(
+    alloc: Global,
+    set: &BitSet,
+    steps: usize,
+    layers: u8,
+) -> Result<(Vec<Index>, Option<Vec<Index>>), AllocError> {
+    let mut walk = set.iter();
+    for _ in 0..steps {
+        walk.next();
+    }
+    if layers as usize >= LAYERS {
+        return Ok((Vec::new(alloc), None));
+    }
+    let (first, second) = BitProducer(walk, layers).split();
+    let low = first.0.collect(alloc)?;
+    match second {
+        None => Ok((low, None)),
+        Some(part) => Ok((low, Some(part.0.collect(alloc)?))),
+    }
+}
+
+#[test]
+fn a_walk_already_begun(rt: HostRuntime) -> Result<(), Fail> {
+    let set = set_of(rt.alloc(), &[0, 64, 262_144])?;
+    let (low, high) = parts_after(rt.alloc(), &set, 1, 4)?;
+    assert_eq!(rt; low.as_slice(), [64, 262_144].as_slice());
+    assert!(rt; high.is_none());
+    Ok(())
+}
+
+#[test]
+fn walks_in_strange_states(rt: HostRuntime) -> Result<(), Fail> {
+    let set = set_of(rt.alloc(), &[0, 1, 64, 128])?;
+    let (low, high) = parts_after(rt.alloc(), &set, 1, 4)?;
+    assert_eq!(rt; low.as_slice(), [1, 64, 128].as_slice());
+    assert!(rt; high.is_none());
+    let (low, high) = parts_after(rt.alloc(), &set, 2, 4)?;
+    assert_eq!(rt; low.as_slice(), [64].as_slice());
+    let high = high.ok_or("no second part")?;
+    assert_eq!(rt; high.as_slice(), [128].as_slice());
+    let (low, high) = parts_after(rt.alloc(), &set, 3, 4)?;
+    assert_eq!(rt; low.as_slice(), [128].as_slice());
+    assert!(rt; high.is_none());
+    for layers in 0..2u8 {
+        let (low, high) = parts_after(rt.alloc(), &set, 2, layers)?;
+        assert_eq!(rt; low.as_slice(), [64, 128].as_slice());
+        assert!(rt; high.is_none());
+    }
+    Ok(())
+}
+
+#[test]
+fn a_part_is_folded(rt: HostRuntime) -> Result<(), Fail> {
+    let set = set_of(rt.alloc(), &[3, 70, 70_000])?;
+    let sum = BitProducer((&set).iter(), 4).fold_with(
+        0u64,
+        |sum: u64, index: Index| sum.wrapping_add(u64::from(index)),
+    );
+    assert_eq!(rt; sum, 70_073);
+    Ok(())
+}
+
+// The items of a part that may be there.
+fn list_of<'a, T: BitSetLike + Send + Sync>(
+    alloc: Global,
+    part: Option<BitProducer<'a, T>>,
+) -> Result<Vec<Index>, AllocError>
+    ensures { IfOk result (λ list. list.items ≡ other_items T.holds part.entry) }
+{
+    let mut list = Vec::new(alloc);
+    let Some(part) = part else {
+        return Ok(list);
+    };
+    for index in part.0 {
+        list.push(index)?;
+    }
+    Ok(list)
+}
+
+// The members of a set in three lists, of which the first two come from one part of it.
+struct Thirds {
+    low: Vec<Index>,
+    middle: Vec<Index>,
+    high: Vec<Index>,
+}
+
+fn in_thirds<T: BitSetLike + Send + Sync>(alloc: Global, set: &T) -> Result<Thirds, AllocError>
+    ensures { IfOk result (λ thirds. thirds.low.items ++ thirds.middle.items ++ thirds.high.items ≡ members_below MAX_EID (T.holds set.now)) }
+{
+    let whole = BitProducer(set.iter(), 4);
+    let (lower, high) = whole.split();
+    let (low, middle) = lower.split();
+    Ok(Thirds {
+        low: list_of(alloc, Some(low))?,
+        middle: list_of(alloc, middle)?,
+        high: list_of(alloc, high)?,
+    })
+}
+
+// Two parts of a set: neither is empty, where there is a second one.
+fn halves<'a>(set: &'a BitSet) -> (BitProducer<'a, BitSet>, Option<BitProducer<'a, BitSet>>)
+    ensures { IfSome result.1 (λ other. (0 < length (part_items ⟦<BitSet as BitSetLike>⟧.holds result.0)) × (0 < length (part_items ⟦<BitSet as BitSetLike>⟧.holds other))) }
+{
+    laws();
+    BitProducer(set.iter(), 4).split()
+}
+
+#[test]
+fn three_parts(rt: HostRuntime) -> Result<(), Fail> {
+    let set = set_of(rt.alloc(), &[0, 64, 4_096, 262_144])?;
+    let thirds = in_thirds(rt.alloc(), &set)?;
+    assert_eq!(rt; thirds.low.as_slice(), [0, 64].as_slice());
+    assert_eq!(rt; thirds.middle.as_slice(), [4_096].as_slice());
+    assert_eq!(rt; thirds.high.as_slice(), [262_144].as_slice());
+    let Thirds {
+        low: _,
+        middle: _,
+        high: _,
+    } = thirds;
+    let (mut first, second) = halves(&set);
+    assert_eq!(rt; first.0.next(), Some(0));
+    let mut second = second.ok_or("no second part")?;
+    assert_eq!(rt; second.0.next(), Some(262_144));
+    Ok(())
+}
