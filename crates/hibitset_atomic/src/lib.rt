@@ -13,3 +13,6 @@ pub mod steps;
 pub use atomic::{ATOMIC_MAX_EID, AtomicBitSet};
 pub use shared::{Seat, SharedBitSet, SharedWalk};
 pub use steps::{Event, Reply, StepError, World, path};
+
+#[cfg(test)]
+mod tests;

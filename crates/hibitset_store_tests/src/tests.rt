@@ -1,7 +1,8 @@
+//! Values from outside: worked rows, and each public call at least once.
 mod callers;
 
-use super::*;
 use hibitset::{BitSet, BitSetLike, Index, MAX_EID};
+use hibitset_store::{Column, join, join_masked};
 use std::alloc::{AllocError, Global};
 use std::test::Fail;
 

@@ -8,6 +8,7 @@ ghost use Rattle.hibitset_store.specs.Room.{HasRoom};
 ghost use Rattle.hibitset_store.specs.Walks.{reads_of};
 
 use super::*;
+use hibitset_store::Join;
 
 // The pairs, by a loop.
 fn looped<'a, V: Drop, W: Drop>(
