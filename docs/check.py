@@ -1,5 +1,6 @@
 #!/usr/bin/env python3
-"""check.py: sees that docs/ARCHITECTURE.md names each file, that no page points nowhere, and that what pages quote is so.
+"""check.py: sees that docs/ARCHITECTURE.md names each file, that no page points nowhere, that what pages quote is so, and
+that the edits of wrong/ can be applied.
 
 A file of src/ stands in the section of its crate by its name, as `set.rt`; one of specs/ in that section's paragraph
 'Definitions: ..', and one of proofs/ (not in its folders) in the paragraph 'Lemmas: ..', each as `Members` or
@@ -107,9 +108,29 @@ def unquoted():
                 yield f"{name} of {path.relative_to(TOP)}"
 
 
+def misplaced():
+    """The edits of wrong/ that cannot be applied: each old text stands once in what the earlier pairs made."""
+    for path in sorted(TOP.glob("wrong/*/*.edit")):
+        texts, name = {}, ""
+        for line in path.read_text(encoding="utf-8").splitlines():
+            word, _, said = line.partition(": ")
+            if word == "file":
+                name = said
+                source = TOP / "crates" / path.parent.name / name
+                texts.setdefault(name, source.read_text(encoding="utf-8") if source.is_file() else "")
+            elif word == "old":
+                old = said
+            elif texts[name].count(old) != 1:
+                yield path
+                break
+            else:
+                texts[name] = texts[name].replace(old, said)
+
+
 def main():
     said = [f"docs/ARCHITECTURE.md does not name {path.relative_to(TOP)}" for path in unnamed()]
     said += [f"docs/CALLING.md does not quote the lemma {name}" for name in unquoted()]
+    said += [f"{path.relative_to(TOP)} cannot be applied" for path in misplaced()]
     for page in PAGES:
         said += [f"{page.relative_to(TOP)} points to {name}, which is not there" for name in sorted(set(nowhere(page)))]
         said += [f"{page.relative_to(TOP)} quotes what is not so in the sources: {head}" for head in misquoted(page)]

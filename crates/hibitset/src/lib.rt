@@ -13,8 +13,8 @@ pub mod set;
 
 pub use build::BuildError;
 pub use hibitset_atomic::{
-    ATOMIC_MAX_EID, AtomicBitSet, Event, Reply, Seat, SharedBitSet, SharedWalk, StepError, World,
-    atomic, ops as atomic_ops, path, shared, steps,
+    ATOMIC_MAX_EID, AtomicBitSet, Event, Reply, SHARES, Seat, SharedBitSet, SharedWalk, StepError,
+    World, atomic, ops as atomic_ops, path, shared, steps,
 };
 pub use hibitset_base::{
     BitIter, BitParIter, BitProducer, BitSetAll, BitSetAnd, BitSetLike, BitSetNot, BitSetOr,

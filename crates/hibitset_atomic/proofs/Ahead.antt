@@ -19,6 +19,7 @@ use Rattle.hibitset_atomic.specs.Rule.{Knows}
 use Rattle.hibitset_atomic.specs.Seats.{Came, Known, loads_by}
 use Rattle.hibitset_atomic.specs.SharedWalk.{view_of, IsSeen, IsLow, RestIsLow, MayStand, IsUnder, lowest, IsSure, Keeps, Goes}
 use Rattle.hibitset_atomic.proofs.Levels.{up_one, at_whole}
+use Rattle.hibitset_atomic.specs.declared.atomic.TheConstants.{ATOMIC_MAX_EID}
 
 -- ---- what lies under places
 
@@ -116,7 +117,7 @@ module _ (v : View) (r : ℕ) (ps rest : List Place) (layer q : ℕ) (taken : ps
       rw e at w
 
 -- an index whose place has been seen is known
-pub seen_known : (v : View) (i : ℕ) → IsSeen v (record { layer = 0; position = i }) → (i < 16777216) × Knows v i
+pub seen_known : (v : View) (i : ℕ) → IsSeen v (record { layer = 0; position = i }) → (i < ATOMIC_MAX_EID) × Knows v i
 seen_known v i s =
     let small : i < 64 ^ 4 = s.within in
     (omega (arith, small), at_whole (Has v.seen) i (λ l below. let z : l - 0 ≡ l = omega arith in subst (λ k. Has v.seen (first_mark l + i / 64 ^ k)) z (s.seen l (omega arith) below)))
@@ -155,7 +156,7 @@ before_place x p less =
     omega (arith, h, k, e)
 
 -- an index before all that is left
-pub lowest_after : (x : ℕ) (ps : List Place) → x < 16777216 → All (LiesBefore x) ps → x < lowest ps
+pub lowest_after : (x : ℕ) (ps : List Place) → x < ATOMIC_MAX_EID → All (LiesBefore x) ps → x < lowest ps
 lowest_after x [] small later = small
 lowest_after x (p ∷ ps) small later = before_place x p (All-head (LiesBefore x) p ps later)
 

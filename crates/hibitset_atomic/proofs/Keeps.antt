@@ -17,6 +17,8 @@ use Rattle.hibitset_atomic.proofs.OrBits.{bit_cases}
 use Rattle.hibitset_atomic.proofs.Marks.{lit_grows, lit_new, lit_was, lit_at, at_lit, marks_stand}
 use Rattle.hibitset_atomic.proofs.Lists.{has_left, has_right, has_split, distinct_append, distinct_parts, fits, full, take_drop, below_less, below_distinct, has_take, has_drop}
 use Rattle.hibitset_atomic.proofs.Views.{each_set, each_snoc, each_map, pairs_set, pairs_snoc, within, only}
+use Rattle.hibitset_atomic.specs.declared.shared.sizes.TheConstants.{SHARES, LAYER1_START, ROW_WORDS}
+use Rattle.hibitset_atomic.specs.declared.atomic.TheConstants.{ATOMIC_MAX_EID}
 
 zero_one : ◌≡◌ {A = ℕ} 0 1 → ⊥
 zero_one z = omega arith
@@ -74,14 +76,14 @@ reported_set views i b v w e lt f r = dite (ℕ_discrete r.0 i)
 
 -- ---- a step by which a seat sees more, and no report is made
 content_grows : (old ws xs : List ℕ) (views : List View) (id : ℕ) (v w : View) → get_elem? views id ≡ some v → (v.reports ≡ w.reports) → Grows ws xs
-    → ((i : ℕ) → i < 16777216 → Lit xs i → Lit ws i) → Content old ws views → Content old xs (set views id w)
+    → ((i : ℕ) → i < ATOMIC_MAX_EID → Lit xs i → Lit ws i) → Content old ws views → Content old xs (set views id w)
 content_grows old ws xs views id v w e same g back c = (
   (λ i o. g i (c.0 i o)),
   λ i lt h. ⊎_elim (λ o. inl o) (λ r. inr (reported_set views id i v w e (within views id v e) (λ q. subst (λ rs. Has rs i) same q) r)) (c.1 i lt (back i lt h)),
 )
 
 sees_step : (old xs : List ℕ) (p n loads exchanges : ℕ) (id : ℕ) (v : View) (s : State (Unit {0}) View) → Holds old s → get_elem? s.views id ≡ some v
-    → Grows s.words xs → ((i : ℕ) → i < 16777216 → Lit xs i → Lit s.words i) → slice_index xs p ≡ n → length xs ≡ 266305 → Summed xs
+    → Grows s.words xs → ((i : ℕ) → i < ATOMIC_MAX_EID → Lit xs i → Lit s.words i) → slice_index xs p ≡ n → length xs ≡ ROW_WORDS → Summed xs
     → Holds old record { words = xs; homes = s.homes; views = set s.views id (seeing p n (counting loads exchanges v)) }
 sees_step old xs p n loads exchanges id v s h e g back en el sm = (
   el,
@@ -110,14 +112,14 @@ looks old slots id p me some_share s h ls e lt = (
 )
 
 -- ---- an exchange above layer 0
-summed_marks : (ws : List ℕ) (p b : ℕ) (within : p < length ws) (lt : b < 64) → Summed ws → ((q : ℕ) → 16777216 + q ≡ p * 64 + b → Nonzero (set ws p (bit_or (slice_index ws p) (2 ^ b))) q)
+summed_marks : (ws : List ℕ) (p b : ℕ) (within : p < length ws) (lt : b < 64) → Summed ws → ((q : ℕ) → ATOMIC_MAX_EID + q ≡ p * 64 + b → Nonzero (set ws p (bit_or (slice_index ws p) (2 ^ b))) q)
     → Summed (set ws p (bit_or (slice_index ws p) (2 ^ b)))
 summed_marks ws p b within lt sm new q h = ⊎_elim
     (λ k. nonzero_grows ws (set ws p (bit_or (slice_index ws p) (2 ^ b))) q (lit_grows ws p b within lt) (sm q k))
     (λ k. new q k)
-    (lit_was ws p b within lt (16777216 + q) h)
+    (lit_was ws p b within lt (ATOMIC_MAX_EID + q) h)
 
-pub marks' : (old : List ℕ) (slots id p b c : ℕ) (me : Me (Unit {0}) View) → p < 266305 → b < 64 → Has me.0.seen c → above c ≡ p * 64 + b
+pub marks' : (old : List ℕ) (slots id p b c : ℕ) (me : Me (Unit {0}) View) → p < ROW_WORDS → b < 64 → Has me.0.seen c → above c ≡ p * 64 + b
     → Allows (Holds old) slots id me p (λ n. bit_or n (2 ^ b)) (Marked (step slots p (2 ^ b) 0 none) me)
 marks' old slots id p b c me lp lb under up s h ls e lt =
     let inside : p < length s.words = subst (λ l. p < l) (sym h.0) lp in (
@@ -137,7 +139,7 @@ marks' old slots id p b c me lp lb under up s h ls e lt =
 same_bit : (b c : ℕ) → 2 ^ b ≡ 2 ^ c → c ≡ b
 same_bit b c e = dite (ℕ_discrete c b) (λ q. q) (λ ne. absurd (no_both (2 ^ b) c (bit_at-pow_other b c ne) (ap (λ (m : ℕ). bit_at m c) e ∙ bit_at-pow_same c)))
 
-module _ (old : List ℕ) (id p b : ℕ) (v : View) (s : State (Unit {0}) View) (h : Holds old s) (e : get_elem? s.views id ≡ some v) (lp : p < 262144) (lb : b < 64) where
+module _ (old : List ℕ) (id p b : ℕ) (v : View) (s : State (Unit {0}) View) (h : Holds old s) (e : get_elem? s.views id ≡ some v) (lp : p < LAYER1_START) (lb : b < 64) where
   inside : p < length s.words
   inside = let l = h.0 in omega (arith, l)
 
@@ -203,7 +205,7 @@ module _ (old : List ℕ) (id p b : ℕ) (v : View) (s : State (Unit {0}) View) 
   unseen : bit_at (slice_index s.words p) b ≡ 0 → ¬ Has v.seen (p * 64 + b)
   unseen z k = not_lit z ((h.2 id v e).1 (p * 64 + b) k)
 
-pub enters : (old : List ℕ) (slots id p b : ℕ) (me : Me (Unit {0}) View) → p < 262144 → b < 64 → Settled me.0 → 0 < length me.0.shares
+pub enters : (old : List ℕ) (slots id p b : ℕ) (me : Me (Unit {0}) View) → p < LAYER1_START → b < 64 → Settled me.0 → 0 < length me.0.shares
     → Allows (Holds old) slots id me p (λ n. bit_or n (2 ^ b)) (Entered (step slots p (2 ^ b) 0 none) me)
 enters old slots id p b me lp lb settled some_share s h ls e lt = ⊎_elim
     (λ z. (
@@ -322,30 +324,30 @@ joins old id v other w p sv sw s h e ne ew = subst (λ vs. Holds old record { wo
     (joined old id v other w p sv sw s h e ne (sym (set_else s.views id other (together v w) ne) ∙ ew))
 
 -- ---- the end
-shareless : (ys xs : List ℕ) → ((x : ℕ) → x < 65536 → Has ys x) → Apart ys xs → ((x : ℕ) → Has xs x → x < 65536) → length xs ≡ 0
+shareless : (ys xs : List ℕ) → ((x : ℕ) → x < SHARES → Has ys x) → Apart ys xs → ((x : ℕ) → Has xs x → x < SHARES) → length xs ≡ 0
 shareless ys [] all a b = refl
 shareless ys (x ∷ xs) all a b = absurd (a x (all x (b x (inl refl))) (inl refl))
 
 -- with all shares, layer 0 has the old indices and the seat's reports
-pub whole : (old : List ℕ) (s : State (Unit {0}) View) (id : ℕ) (v : View) → Holds old s → get_elem? s.views id ≡ some v → length v.shares ≡ 65536
-    → (i : ℕ) → i < 16777216 → Lit s.words i → Lit old i ⊎ Has v.reports i
+pub whole : (old : List ℕ) (s : State (Unit {0}) View) (id : ℕ) (v : View) → Holds old s → get_elem? s.views id ≡ some v → length v.shares ≡ SHARES
+    → (i : ℕ) → i < ATOMIC_MAX_EID → Lit s.words i → Lit old i ⊎ Has v.reports i
 whole old s id v h e all i lt k = ⊎_elim (λ o. inl o)
     (λ r. dite (ℕ_discrete r.0 id)
     (λ same. inr (subst (λ u. Has u.reports i) (some-injective r.1 v (sym r.2 ∙ ap (get_elem? s.views) same ∙ e)) r.3))
     (λ ne. let f = h.2 r.0 r.1 r.2 in let g = h.2 id v e in
-    absurd (subst (λ l. Has l i) (f.4.0 (shareless v.shares r.1.shares (full 65536 v.shares g.3.1 g.3.0 all) (h.3 id r.0 v r.1 e r.2 (λ z. ne (sym z))).1 f.3.0)) r.3)))
+    absurd (subst (λ l. Has l i) (f.4.0 (shareless v.shares r.1.shares (full SHARES v.shares g.3.1 g.3.0 all) (h.3 id r.0 v r.1 e r.2 (λ z. ne (sym z))).1 f.3.0)) r.3)))
     (h.1.1 i lt k)
 
-pub both_fit : (p n : ℕ) (a b : View) (v w : Me (Unit {0}) View) → Looks_at p v n w → v.0 ≡ together a b → Apart a.reports b.reports × (length a.shares + length b.shares ≤ 65536)
+pub both_fit : (p n : ℕ) (a b : View) (v w : Me (Unit {0}) View) → Looks_at p v n w → v.0 ≡ together a b → Apart a.reports b.reports × (length a.shares + length b.shares ≤ SHARES)
 both_fit p n a b v w t e = let s = subst (λ u. Distinct u.reports × Shares u) e (t.2.2.0.1, t.2.2.3) in
-    let f = fits 65536 (a.shares ++ b.shares) s.1.1 s.1.0 in let l = length-append a.shares b.shares in
+    let f = fits SHARES (a.shares ++ b.shares) s.1.1 s.1.0 in let l = length-append a.shares b.shares in
     ((distinct_parts a.reports b.reports s.0).2, omega (arith, f, l))
 
 -- ---- the beginning
 opener_fair : (old : List ℕ) → Fair old old (opener old)
-opener_fair old = ((λ b k. absurd k, tt), (λ m k. absurd k), (λ i j hi hj ni nj. absurd hi), (λ x k. below_less 65536 x k, below_distinct 65536), (λ z. refl, λ _. refl))
+opener_fair old = ((λ b k. absurd k, tt), (λ m k. absurd k), (λ i j hi hj ni nj. absurd hi), (λ x k. below_less SHARES x k, below_distinct SHARES), (λ z. refl, λ _. refl))
 
-pub opens : (old : List ℕ) → length old ≡ 266305 → Rooted old old → Summed old → Holds old (opening old [] (opener old))
+pub opens : (old : List ℕ) → length old ≡ ROW_WORDS → Rooted old old → Summed old → Holds old (opening old [] (opener old))
 opens old e r sm = (
   e,
   (λ i o. o, λ i l o. inl o),
@@ -355,34 +357,34 @@ opens old e r sm = (
   sm,
 )
 
-pub opens_ : (old ws first : List ℕ) → old ≡ first → ws ≡ first → length first ≡ 266305 → Rooted first first → Summed first → Holds old (opening ws [] (opener old))
+pub opens_ : (old ws first : List ℕ) → old ≡ first → ws ≡ first → length first ≡ ROW_WORDS → Rooted first first → Summed first → Holds old (opening ws [] (opener old))
 opens_ old ws first e f l r sm = subst (λ o. Holds o (opening ws [] (opener o))) (sym e) (subst (λ x. Holds first (opening x [] (opener first))) (sym f) (opens first l r sm))
 
 -- what the words of layer 0 are, when the table is closed
 module _ (old : List ℕ) (id : ℕ) (v : View) (ws front : List ℕ) (s : State (Unit {0}) View) (h : Holds old s) (e : get_elem? s.views id ≡ some v) (same : s.words ≡ ws)
-    (copied : (k : ℕ) → k < 262144 → slice_index front k ≡ slice_index ws k) where
-  to_front : (i : ℕ) → i < 16777216 → Lit s.words i → Lit front i
+    (copied : (k : ℕ) → k < LAYER1_START → slice_index front k ≡ slice_index ws k) where
+  to_front : (i : ℕ) → i < ATOMIC_MAX_EID → Lit s.words i → Lit front i
   to_front i lt k = subst (λ x. bit_at x (i % 64) ≡ 1) (sym (copied (i / 64) (omega arith))) (subst (λ l. Lit l i) same k)
 
-  from_front : (i : ℕ) → i < 16777216 → Lit front i → Lit s.words i
+  from_front : (i : ℕ) → i < ATOMIC_MAX_EID → Lit front i → Lit s.words i
   from_front i lt k = subst (λ l. Lit l i) (sym same) (subst (λ x. bit_at x (i % 64) ≡ 1) (copied (i / 64) (omega arith)) k)
 
-  pub front_old : (i : ℕ) → (i < 16777216) × Lit old i → Lit front i
+  pub front_old : (i : ℕ) → (i < ATOMIC_MAX_EID) × Lit old i → Lit front i
   front_old i o = to_front i o.0 (h.1.0 i o.1)
 
-  pub front_known : (i : ℕ) → (i < 16777216) × Knows v i → Lit front i
+  pub front_known : (i : ℕ) → (i < ATOMIC_MAX_EID) × Knows v i → Lit front i
   front_known i k = to_front i k.0 ((h.2 id v e).1 i k.1.0)
 
   pub front_reported : (i : ℕ) → Has v.reports i → Lit front i
   front_reported i k = let t = (h.2 id v e).0.0 i k in to_front i t.2 t.0
 
-  pub front_whole : length v.shares ≡ 65536 → (i : ℕ) → i < 16777216 → Lit front i → ((i < 16777216) × Lit old i) ⊎ Has v.reports i
+  pub front_whole : length v.shares ≡ SHARES → (i : ℕ) → i < ATOMIC_MAX_EID → Lit front i → ((i < ATOMIC_MAX_EID) × Lit old i) ⊎ Has v.reports i
   front_whole all i lt k = ⊎_elim (λ o. inl (lt, o)) (λ r. inr r) (whole old s id v h e all i lt (from_front i lt k))
 
-  pub front_all : (i : ℕ) → i < 16777216 → Lit front i → ((i < 16777216) × Lit old i) ⊎ Reported s.views i
+  pub front_all : (i : ℕ) → i < ATOMIC_MAX_EID → Lit front i → ((i < ATOMIC_MAX_EID) × Lit old i) ⊎ Reported s.views i
   front_all i lt k = ⊎_elim (λ o. inl (lt, o)) (λ r. inr r) (h.1.1 i lt (from_front i lt k))
 
-  pub front_any : (i : ℕ) → Reported s.views i → (i < 16777216) × Lit front i
+  pub front_any : (i : ℕ) → Reported s.views i → (i < ATOMIC_MAX_EID) × Lit front i
   front_any i r = let t = (h.2 r.0 r.1 r.2).0.0 i r.3 in (t.2, to_front i t.2 t.0)
 
 -- an empty set
@@ -394,4 +396,4 @@ module _ (ws : List ℕ) (zeros : (k : ℕ) → slice_index ws k ≡ 0) where
   empty_rooted i lt h = absurd (unlit i h)
 
   pub empty_summed : Summed ws
-  empty_summed p h = absurd (unlit (16777216 + p) h)
+  empty_summed p h = absurd (unlit (ATOMIC_MAX_EID + p) h)

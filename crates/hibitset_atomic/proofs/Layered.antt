@@ -13,6 +13,7 @@ use Rattle.hibitset_base.proofs.Holding.{some_word}
 use Rattle.hibitset_base.specs.Mended.{MendedUpTo}
 use Rattle.hibitset_base.proofs.Mending.{mended_first, mended_next, other_layer}
 use Rattle.hibitset_base.proofs.Lists.{get_or_any}
+use Rattle.hibitset_atomic.specs.declared.atomic.TheConstants.{ATOMIC_MAX_EID}
 
 pub layers_fit : (layers : Layers) (l p : ℕ) → layer_word layers l p < 2 ^ 64
 layers_fit layers zero p = layers.layer0.placed.fits (64 * get_or layers.layer0.places.items (p / 64) 0 + p % 64)
@@ -30,8 +31,8 @@ placed_past n places words p placed past =
     ap (λ x. get_or words x 0) at ∙ placed.blank (p % 64) (omega arith)
 
 -- no number past the range is a member
-pub held_below : (layers : Layers) (i : ℕ) → holds_at (layer_word layers) i ≡ true → i < 16777216
-held_below layers i holds = elim (cases_lt i 16777216) [
+pub held_below : (layers : Layers) (i : ℕ) → holds_at (layer_word layers) i ≡ true → i < ATOMIC_MAX_EID
+held_below layers i holds = elim (cases_lt i ATOMIC_MAX_EID) [
   | inl within ↦ within
   | inr past ↦ absurd (
       let some = some_word (layer_word layers) i holds in

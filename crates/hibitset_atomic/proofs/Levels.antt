@@ -8,6 +8,8 @@ use Rattle.hibitset_atomic.specs.Lists.{Has}
 use Rattle.hibitset_atomic.specs.Levels.{first_mark}
 use Rattle.hibitset_atomic.specs.Rule.{Lit, Whole, Knows, Looks_at, above}
 use Rattle.hibitset_atomic.proofs.Walks.{under_nonzero, under_seen, under_known, under_old}
+use Rattle.hibitset_atomic.specs.declared.shared.sizes.TheConstants.{LAYER3_START, ROW_WORDS}
+use Rattle.hibitset_atomic.specs.declared.atomic.TheConstants.{ATOMIC_MAX_EID}
 
 -- a layer begins with a word
 pub whole_words : (l : ℕ) → l < 4 → first_mark l % 64 ≡ 0
@@ -17,7 +19,7 @@ whole_words (suc (suc zero)) lt = refl
 whole_words (suc (suc (suc zero))) lt = refl
 whole_words (suc (suc (suc (suc l)))) lt = absurd (omega arith)
 
-pub within_row : (l q : ℕ) → l < 4 → q < 64 ^ (3 - l) → first_mark l / 64 + q < 266305
+pub within_row : (l q : ℕ) → l < 4 → q < 64 ^ (3 - l) → first_mark l / 64 + q < ROW_WORDS
 within_row zero q lt within = omega arith
 within_row (suc zero) q lt within = omega arith
 within_row (suc (suc zero)) q lt within = omega arith
@@ -64,18 +66,18 @@ pub mark_up : (i l : ℕ) → l < 4 → above (first_mark l + i / 64 ^ l) ≡ fi
 mark_up i l lt =
     let z = whole_words l lt in
     let u = up_one i l in
-    let first : first_mark (l + 1) ≡ 16777216 + first_mark l / 64 = rw (add-one l) refl in
+    let first : first_mark (l + 1) ≡ ATOMIC_MAX_EID + first_mark l / 64 = rw (add-one l) refl in
     rw first (omega (arith, z, u))
 
 -- the marks of an index in range, and those below the top layer
-pub mark-lt : (i l : ℕ) → i < 16777216 → l < 4 → first_mark l + i / 64 ^ l < 17043520
+pub mark-lt : (i l : ℕ) → i < ATOMIC_MAX_EID → l < 4 → first_mark l + i / 64 ^ l < 64 * ROW_WORDS
 mark-lt i zero within lt = omega arith
 mark-lt i (suc zero) within lt = omega arith
 mark-lt i (suc (suc zero)) within lt = omega arith
 mark-lt i (suc (suc (suc zero))) within lt = omega arith
 mark-lt i (suc (suc (suc (suc l)))) within lt = absurd (omega arith)
 
-pub lower_mark-lt : (i l : ℕ) → i < 16777216 → l + 1 < 4 → first_mark l + i / 64 ^ l < 17043456
+pub lower_mark-lt : (i l : ℕ) → i < ATOMIC_MAX_EID → l + 1 < 4 → first_mark l + i / 64 ^ l < 64 * LAYER3_START
 lower_mark-lt i zero within lt = omega arith
 lower_mark-lt i (suc zero) within lt = omega arith
 lower_mark-lt i (suc (suc zero)) within lt = omega arith
@@ -92,7 +94,7 @@ module _ (l q : ℕ) (lt : l < 4) where
   mark_of_bit : (b : ℕ) → (first_mark l / 64 + q) * 64 + b ≡ first_mark l + (64 * q + b)
   mark_of_bit b = let z = whole_words l lt in omega (arith, z)
 
-  mark_over : first_mark (l + 1) + q ≡ 16777216 + (first_mark l / 64 + q)
+  mark_over : first_mark (l + 1) + q ≡ ATOMIC_MAX_EID + (first_mark l / 64 + q)
   mark_over = rw (add-one l) (omega arith)
 
   module _ (n : ℕ) (v w : Me (Unit {0}) View) (t : Looks_at (first_mark l / 64 + q) v n w) where
@@ -102,7 +104,7 @@ module _ (l q : ℕ) (lt : l < 4) where
     pub load_seen : (b : ℕ) → b < 64 → bit_at n b ≡ 1 → Has w.0.seen (first_mark l + (64 * q + b))
     load_seen b small stands = subst (Has w.0.seen) (mark_of_bit b) (under_seen (first_mark l / 64 + q) n v w t b small stands)
 
-    pub load_old : (i : ℕ) → i < 16777216 → Lit v.0.old i → i / 64 ^ (l + 1) ≡ q → bit_at n (i / 64 ^ l % 64) ≡ 1
+    pub load_old : (i : ℕ) → i < ATOMIC_MAX_EID → Lit v.0.old i → i / 64 ^ (l + 1) ≡ q → bit_at n (i / 64 ^ l % 64) ≡ 1
     load_old i small old e =
         subst (λ b. bit_at n b ≡ 1) (bit_of i)
         (whole_at (λ m. m / 64 ≡ first_mark l / 64 + q → bit_at n (m % 64) ≡ 1) i l (under_old (first_mark l / 64 + q) n v w t i small old) lt (place_of i e))

@@ -10,6 +10,8 @@ use Rattle.hibitset_base.specs.Deciding.{same_or_not}
 use Rattle.hibitset_base.specs.Words.{IsSummed, holds_at}
 use Rattle.hibitset_atomic.specs.Row.{word_in_row}
 use Rattle.hibitset_atomic.specs.Rule.{Lit, above, Nonzero, Rooted, Summed}
+use Rattle.hibitset_atomic.specs.declared.shared.sizes.TheConstants.{LAYER1_START, LAYER2_START, LAYER3_START, ROW_WORDS}
+use Rattle.hibitset_atomic.specs.declared.atomic.TheConstants.{ATOMIC_MAX_EID}
 
 -- words put into a set from the first on: those before place i are there, and the others are 0
 pub filled_more : (old new words : ℕ → ℕ) (i : ℕ) → ((p : ℕ) → p < i → old p ≡ words p) → new i ≡ words i → ((p : ℕ) → p ≢ i → new p ≡ old p) → (p : ℕ) → p < i + 1 → new p ≡ words p
@@ -37,67 +39,67 @@ lit_some row m lit = elim (same_or_not (slice_index row (m / 64)) 0) [
   | inr some ↦ omega arith
 ]
 
-pub in_layer0 : (w : ℕ → ℕ → ℕ) (p : ℕ) → p < 262144 → word_in_row w p ≡ w 0 p
-in_layer0 w p h = let e : nat_lt p 262144 ≡ true = grind (arith, nat_tests) in rw e refl
+pub in_layer0 : (w : ℕ → ℕ → ℕ) (p : ℕ) → p < LAYER1_START → word_in_row w p ≡ w 0 p
+in_layer0 w p h = let e : nat_lt p LAYER1_START ≡ true = grind (arith, nat_tests) in rw e refl
 
-in_layer1 : (w : ℕ → ℕ → ℕ) (p : ℕ) → 262144 ≤ p → p < 266240 → word_in_row w p ≡ w 1 (p - 262144)
+in_layer1 : (w : ℕ → ℕ → ℕ) (p : ℕ) → LAYER1_START ≤ p → p < LAYER2_START → word_in_row w p ≡ w 1 (p - LAYER1_START)
 in_layer1 w p h k = grind (arith, nat_tests)
 
-in_layer2 : (w : ℕ → ℕ → ℕ) (p : ℕ) → 266240 ≤ p → p < 266304 → word_in_row w p ≡ w 2 (p - 266240)
+in_layer2 : (w : ℕ → ℕ → ℕ) (p : ℕ) → LAYER2_START ≤ p → p < LAYER3_START → word_in_row w p ≡ w 2 (p - LAYER2_START)
 in_layer2 w p h k = grind (arith, nat_tests)
 
-in_layer3 : (w : ℕ → ℕ → ℕ) (p : ℕ) → 266304 ≤ p → word_in_row w p ≡ w 3 0
+in_layer3 : (w : ℕ → ℕ → ℕ) (p : ℕ) → LAYER3_START ≤ p → word_in_row w p ≡ w 3 0
 in_layer3 w p h = grind (arith, nat_tests)
 
-module _ (w : ℕ → ℕ → ℕ) (row : List ℕ) (exact : IsSummed 4 w) (fits : (l p : ℕ) → w l p < 2 ^ 64) (long : length row ≡ 266305) (words : (p : ℕ) → p < 266305 → slice_index row p ≡ word_in_row w p) where
+module _ (w : ℕ → ℕ → ℕ) (row : List ℕ) (exact : IsSummed 4 w) (fits : (l p : ℕ) → w l p < 2 ^ 64) (long : length row ≡ ROW_WORDS) (words : (p : ℕ) → p < ROW_WORDS → slice_index row p ≡ word_in_row w p) where
   row_fits : (p : ℕ) → slice_index row p < 2 ^ 64
-  row_fits p = elim (cases_lt p 266305) [
+  row_fits p = elim (cases_lt p ROW_WORDS) [
     | inl within ↦ rw (words p within) (word_fits p)
     | inr past ↦ rw (get_or_past row p 0 (omega (arith, long, past))) (omega arith)
   ]
     where
       word_fits : (p : ℕ) → word_in_row w p < 2 ^ 64
-      word_fits p = elim (cases_lt p 262144) [
+      word_fits p = elim (cases_lt p LAYER1_START) [
         | inl h0 ↦ rw (in_layer0 w p h0) (fits 0 p)
-        | inr k0 ↦ elim (cases_lt p 266240) [
-          | inl h1 ↦ rw (in_layer1 w p k0 h1) (fits 1 (p - 262144))
-          | inr k1 ↦ elim (cases_lt p 266304) [
-            | inl h2 ↦ rw (in_layer2 w p k1 h2) (fits 2 (p - 266240))
+        | inr k0 ↦ elim (cases_lt p LAYER2_START) [
+          | inl h1 ↦ rw (in_layer1 w p k0 h1) (fits 1 (p - LAYER1_START))
+          | inr k1 ↦ elim (cases_lt p LAYER3_START) [
+            | inl h2 ↦ rw (in_layer2 w p k1 h2) (fits 2 (p - LAYER2_START))
             | inr k2 ↦ rw (in_layer3 w p k2) (fits 3 0)
           ]
         ]
       ]
 
   -- the word q of layer l, at place p of the row
-  one_up : (l q p : ℕ) → l + 1 < 4 → slice_index row p ≡ w l q → slice_index row (262144 + p / 64) ≡ w (l + 1) (q / 64) → p % 64 ≡ q % 64 → Lit row (16777216 + p) ↔ (0 < slice_index row p)
+  one_up : (l q p : ℕ) → l + 1 < 4 → slice_index row p ≡ w l q → slice_index row (LAYER1_START + p / 64) ≡ w (l + 1) (q / 64) → p % 64 ≡ q % 64 → Lit row (ATOMIC_MAX_EID + p) ↔ (0 < slice_index row p)
   one_up l q p below here there bit =
-      let at : (16777216 + p) / 64 ≡ 262144 + p / 64 = omega arith in
-      let b-is : (16777216 + p) % 64 ≡ q % 64 = omega arith in
+      let at : (ATOMIC_MAX_EID + p) / 64 ≡ LAYER1_START + p / 64 = omega arith in
+      let b-is : (ATOMIC_MAX_EID + p) % 64 ≡ q % 64 = omega arith in
       let q-is : 64 * (q / 64) + q % 64 ≡ q = omega arith in
       let sum = exact.summed l (q / 64) (q % 64) below (omega arith) in
       let sum_here = rw q-is at sum in
       rw (at, b-is, there, here) sum_here
 
   -- The bit over a word stands exactly where the word is not 0.
-  up : (p : ℕ) → p < 266304 → Lit row (16777216 + p) ↔ (0 < slice_index row p)
-  up p within = elim (cases_lt p 262144) [
+  up : (p : ℕ) → p < LAYER3_START → Lit row (ATOMIC_MAX_EID + p) ↔ (0 < slice_index row p)
+  up p within = elim (cases_lt p LAYER1_START) [
     | inl h0 ↦ one_up 0 p p (lit< tt) (words p (omega arith) ∙ in_layer0 w p h0)
-        (words (262144 + p / 64) (omega arith) ∙ (in_layer1 w (262144 + p / 64) (omega arith) (omega arith) ∙ ap (w 1) (let e : 262144 + p / 64 - 262144 ≡ p / 64 = omega arith in e))) refl
-    | inr k0 ↦ elim (cases_lt p 266240) [
-      | inl h1 ↦ one_up 1 (p - 262144) p (lit< tt) (words p (omega arith) ∙ in_layer1 w p k0 h1)
-          (words (262144 + p / 64) (omega arith) ∙ (in_layer2 w (262144 + p / 64) (omega arith) (omega arith) ∙ ap (w 2) (let e : 262144 + p / 64 - 266240 ≡ (p - 262144) / 64 = omega arith in e))) (omega arith)
-      | inr k1 ↦ one_up 2 (p - 266240) p (lit< tt) (words p (omega arith) ∙ in_layer2 w p k1 within)
-          (words (262144 + p / 64) (omega arith) ∙ (in_layer3 w (262144 + p / 64) (omega arith) ∙ ap (w 3) (let e : 0 ≡ (p - 266240) / 64 = omega arith in e))) (omega arith)
+        (words (LAYER1_START + p / 64) (omega arith) ∙ (in_layer1 w (LAYER1_START + p / 64) (omega arith) (omega arith) ∙ ap (w 1) (let e : LAYER1_START + p / 64 - LAYER1_START ≡ p / 64 = omega arith in e))) refl
+    | inr k0 ↦ elim (cases_lt p LAYER2_START) [
+      | inl h1 ↦ one_up 1 (p - LAYER1_START) p (lit< tt) (words p (omega arith) ∙ in_layer1 w p k0 h1)
+          (words (LAYER1_START + p / 64) (omega arith) ∙ (in_layer2 w (LAYER1_START + p / 64) (omega arith) (omega arith) ∙ ap (w 2) (let e : LAYER1_START + p / 64 - LAYER2_START ≡ (p - LAYER1_START) / 64 = omega arith in e))) (omega arith)
+      | inr k1 ↦ one_up 2 (p - LAYER2_START) p (lit< tt) (words p (omega arith) ∙ in_layer2 w p k1 within)
+          (words (LAYER1_START + p / 64) (omega arith) ∙ (in_layer3 w (LAYER1_START + p / 64) (omega arith) ∙ ap (w 3) (let e : 0 ≡ (p - LAYER2_START) / 64 = omega arith in e))) (omega arith)
     ]
   ]
 
   pub row_summed : Summed row
-  row_summed p lit = elim (cases_lt p 266304) [
+  row_summed p lit = elim (cases_lt p LAYER3_START) [
     | inl within ↦ some_mark row p (row_fits p) ((up p within).0 lit)
-    | inr past ↦ absurd (let none = get_or_past row ((16777216 + p) / 64) 0 (omega (arith, long, past)) in let some = lit_some row (16777216 + p) lit in omega (arith, none, some))
+    | inr past ↦ absurd (let none = get_or_past row ((ATOMIC_MAX_EID + p) / 64) 0 (omega (arith, long, past)) in let some = lit_some row (ATOMIC_MAX_EID + p) lit in omega (arith, none, some))
   ]
 
-  next : (m : ℕ) → m / 64 < 266304 → Lit row m → Lit row (above m)
+  next : (m : ℕ) → m / 64 < LAYER3_START → Lit row m → Lit row (above m)
   next m within lit = (up (m / 64) within).1 (lit_some row m lit)
 
   pub row_rooted : Rooted row row
@@ -108,7 +110,7 @@ module _ (w : ℕ → ℕ → ℕ) (row : List ℕ) (exact : IsSummed 4 w) (fits
       (lit, l1, l2, l3)
 
 -- the bits of words that are the same in layer 0
-module _ (w : ℕ → ℕ → ℕ) (row : List ℕ) (words : (p : ℕ) → p < 262144 → w 0 p ≡ slice_index row p) (i : ℕ) (small : i < 16777216) where
+module _ (w : ℕ → ℕ → ℕ) (row : List ℕ) (words : (p : ℕ) → p < LAYER1_START → w 0 p ≡ slice_index row p) (i : ℕ) (small : i < ATOMIC_MAX_EID) where
   pub lit_held : Lit row i → holds_at w i ≡ true
   lit_held lit = rw (words (i / 64) (omega arith), lit) refl
 

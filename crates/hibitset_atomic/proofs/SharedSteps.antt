@@ -52,7 +52,7 @@ root_stands v loads ps none e = rw e record {
   fresh = λ low. absurd (let h : 4 < 4 = All-head IsLow root [] low in omega (arith, h));
 }
 
-sure_small : (set : SharedBitSet) (s : Seat) (i : ℕ) → IsSure set s i → i < 16777216
+sure_small : (set : SharedBitSet) (s : Seat) (i : ℕ) → IsSure set s i → i < ATOMIC_MAX_EID
 unfolding IsOld Known
 sure_small set s i sure = ⊎_elim (λ o. o.0) (λ k. k.0) sure
 
@@ -80,7 +80,7 @@ known_place : (s : Seat) (i : ℕ) → IsSeen (view_of s) (record { layer = 0; p
 unfolding Known
 known_place s i seen = seen_known (view_of s) i seen
 
-known_small : (s : Seat) (i : ℕ) → Known s i → i < 16777216
+known_small : (s : Seat) (i : ℕ) → Known s i → i < ATOMIC_MAX_EID
 unfolding Known
 known_small s i k = k.0
 

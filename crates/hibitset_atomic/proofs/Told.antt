@@ -14,6 +14,8 @@ use Rattle.hibitset_atomic.proofs.OrBits.{bit_cases, sets}
 use Rattle.hibitset_atomic.proofs.Marks.{has_marks, mark_of}
 use Rattle.hibitset_atomic.proofs.Lists.{has_left, has_right, has_split}
 use Rattle.hibitset_atomic.proofs.Keeps.{enters, marks', sees_more, knows_more, no_both, seeing_fair}
+use Rattle.hibitset_atomic.specs.declared.shared.sizes.TheConstants.{LAYER3_START}
+use Rattle.hibitset_atomic.specs.declared.atomic.TheConstants.{ATOMIC_MAX_EID}
 
 pub test_true : (n b : ℕ) → not (eqb (bit_and (n / 2 ^ b) 1) 0) ≡ true → bit_at n b ≡ 1
 test_true n b e = ⊎_elim (λ z. absurd (true≢false (sym e ∙ ap (λ (x : ℕ). not (eqb x 0)) (shr_and_one n b ∙ z)))) (λ o. o) (bit_cases n b)
@@ -25,12 +27,12 @@ test_false n b e = ⊎_elim (λ z. z) (λ o. absurd (true≢false (sym (ap (λ (
 mask_is : (m : ℕ) → 1 * 2 ^ (m % 64) % 18446744073709551616 ≡ 2 ^ (m % 64)
 mask_is m = one_shl (m % 64) 64 (omega arith)
 
-pub enters_ : (old : List ℕ) (slots id i : ℕ) (me : Me (Unit {0}) View) → i < 16777216 → Settled me.0 → 0 < length me.0.shares
+pub enters_ : (old : List ℕ) (slots id i : ℕ) (me : Me (Unit {0}) View) → i < ATOMIC_MAX_EID → Settled me.0 → 0 < length me.0.shares
     → Allows (Holds old) slots id me (i / 64) (λ n. bit_or n (1 * 2 ^ (i % 64) % 18446744073709551616)) (Entered (step slots (i / 64) (1 * 2 ^ (i % 64) % 18446744073709551616) 0 none) me)
 enters_ old slots id i me lt settled p = subst (λ k. Allows (Holds old) slots id me (i / 64) (λ n. bit_or n k) (Entered (step slots (i / 64) k 0 none) me)) (sym (mask_is i))
     (enters old slots id (i / 64) (i % 64) me (omega arith) (omega arith) settled p)
 
-pub marks_ : (old : List ℕ) (slots id c m : ℕ) (me : Me (Unit {0}) View) → m ≡ above c → c < 17043456 → Has me.0.seen c
+pub marks_ : (old : List ℕ) (slots id c m : ℕ) (me : Me (Unit {0}) View) → m ≡ above c → c < 64 * LAYER3_START → Has me.0.seen c
     → Allows (Holds old) slots id me (m / 64) (λ n. bit_or n (1 * 2 ^ (m % 64) % 18446744073709551616)) (Marked (step slots (m / 64) (1 * 2 ^ (m % 64) % 18446744073709551616) 0 none) me)
 marks_ old slots id c m me e lt under = subst (λ k. Allows (Holds old) slots id me (m / 64) (λ n. bit_or n k) (Marked (step slots (m / 64) k 0 none) me)) (sym (mask_is m))
     (marks' old slots id (m / 64) (m % 64) c me (omega (arith, e)) (omega arith) under (sym e ∙ sym (mark_of m)))

@@ -9,10 +9,11 @@ use Rattle.hibitset_atomic.specs.Rule.{Lit, Whole, marks, Looks_at, above}
 use Rattle.hibitset_atomic.proofs.Marks.{at_lit, has_marks, mark_div, mark_mod}
 use Rattle.hibitset_atomic.proofs.Lists.{has_left}
 use Rattle.hibitset_atomic.proofs.Keeps.{no_both}
+use Rattle.hibitset_atomic.specs.declared.atomic.TheConstants.{ATOMIC_MAX_EID}
 
 module _ (p n : ℕ) (v w : Me (Unit {0}) View) (t : Looks_at p v n w) where
-  pub under_nonzero : Has v.0.seen (16777216 + p) → n ≢ 0
-  under_nonzero h z = let f = t.2 in let q = f.4 p (f.2.1 (16777216 + p) h) in
+  pub under_nonzero : Has v.0.seen (ATOMIC_MAX_EID + p) → n ≢ 0
+  under_nonzero h z = let f = t.2 in let q = f.4 p (f.2.1 (ATOMIC_MAX_EID + p) h) in
       no_both 0 (q.0 % 64) (bit_at-zero (q.0 % 64)) (subst (λ x. bit_at x (q.0 % 64) ≡ 1) (ap (λ (j : ℕ). slice_index f.0 j) q.1 ∙ f.1 ∙ z) q.2)
 
   pub under_seen : (b : ℕ) → b < 64 → bit_at n b ≡ 1 → Has w.0.seen (p * 64 + b)
@@ -25,5 +26,5 @@ module _ (p n : ℕ) (v w : Me (Unit {0}) View) (t : Looks_at p v n w) where
   at_place : (m : ℕ) → Lit t.2.0 m → m / 64 ≡ p → bit_at n (m % 64) ≡ 1
   at_place m l e = subst (λ x. bit_at x (m % 64) ≡ 1) (ap (λ (j : ℕ). slice_index t.2.0 j) e ∙ t.2.1) l
 
-  pub under_old : (i : ℕ) → i < 16777216 → Lit v.0.old i → Whole (λ m. m / 64 ≡ p → bit_at n (m % 64) ≡ 1) i
+  pub under_old : (i : ℕ) → i < ATOMIC_MAX_EID → Lit v.0.old i → Whole (λ m. m / 64 ≡ p → bit_at n (m % 64) ≡ 1) i
   under_old i lt o = let r = t.2.3 i lt o in (at_place i r.0, at_place (above i) r.1, at_place (above (above i)) r.2, at_place (above (above (above i))) r.3)

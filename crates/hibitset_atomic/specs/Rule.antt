@@ -1,6 +1,6 @@
 -- The rule of the shared set.
--- Its words lie in one row: layer 0, then layers 1, 2 and 3. Bit b of the word p is the mark 64 * p + b, so the marks below 16,777,216 are the indices.
--- The mark 16,777,216 + p is the summary bit over the word p, whatever its layer.
+-- Its words lie in one row: layer 0, then layers 1, 2 and 3. Bit b of the word p is the mark 64 * p + b, so the marks below `ATOMIC_MAX_EID` are the indices.
+-- The mark `ATOMIC_MAX_EID` + p is the summary bit over the word p, whatever its layer.
 use Rattle.std.specs.Prelude.{◌≡◌, ◌⊎◌, ℕ, suc, zero, ◌+◌, ◌*◌, ◌/◌, ◌%◌, ◌^◌, ◌<◌, List, [], ◌∷◌, ◌++◌, length, slice_index, take, drop}
 use Rattle.std.specs.Int.{bit_at}
 use Rattle.std.specs.Int.Bits.{bit_or}
@@ -9,13 +9,15 @@ use lib.ListN.{get_elem?}
 use Rattle.atomic_table.specs.Table.{State, Step, Me}
 use Rattle.hibitset_atomic.specs.declared.shared.view.View.{View}
 use Rattle.hibitset_atomic.specs.Lists.{Has, Distinct, Apart, below, Each, Pairs}
+use Rattle.hibitset_atomic.specs.declared.shared.sizes.TheConstants.{SHARES, ROW_WORDS}
+use Rattle.hibitset_atomic.specs.declared.atomic.TheConstants.{ATOMIC_MAX_EID}
 
 -- the mark stands
 abbrev pub Lit : List ℕ → ℕ → Type 0
 Lit words mark = bit_at (slice_index words (mark / 64)) (mark % 64) ≡ 1
 
 abbrev pub above : ℕ → ℕ
-above mark = 16777216 + mark / 64
+above mark = ATOMIC_MAX_EID + mark / 64
 
 -- the four marks of an index
 abbrev pub Whole : (ℕ → Type 0) → ℕ → Type 0
@@ -34,11 +36,11 @@ Reported views i = (id : ℕ) × (v : View) × (get_elem? views id ≡ some v) �
 
 -- layer 0 has the old indices and all reports
 abbrev pub Content : List ℕ → List ℕ → List View → Type 0
-Content old words views = ((i : ℕ) → Lit old i → Lit words i) × ((i : ℕ) → i < 16777216 → Lit words i → Lit old i ⊎ Reported views i)
+Content old words views = ((i : ℕ) → Lit old i → Lit words i) × ((i : ℕ) → i < ATOMIC_MAX_EID → Lit words i → Lit old i ⊎ Reported views i)
 
 -- a seat's reports are indices in layer 0, not old, and each once
 abbrev pub Honest : List ℕ → List ℕ → View → Type 0
-Honest old words v = ((i : ℕ) → Has v.reports i → Lit words i × ¬ Lit old i × (i < 16777216)) × Distinct v.reports
+Honest old words v = ((i : ℕ) → Has v.reports i → Lit words i × ¬ Lit old i × (i < ATOMIC_MAX_EID)) × Distinct v.reports
 
 -- what it has seen stands
 abbrev pub Sees : List ℕ → View → Type 0
@@ -52,7 +54,7 @@ abbrev pub Settled : View → Type 0
 Settled v = (i : ℕ) → Has v.reports i → Knows v i
 
 abbrev pub Shares : View → Type 0
-Shares v = ((x : ℕ) → Has v.shares x → x < 65536) × Distinct v.shares
+Shares v = ((x : ℕ) → Has v.shares x → x < SHARES) × Distinct v.shares
 
 -- a view with no share is no seat: it has no report
 abbrev pub Counts : List ℕ → View → Type 0
@@ -66,15 +68,15 @@ Separate v w = Apart v.reports w.reports × Apart v.shares w.shares
 
 -- a summary bit stands only over a nonzero word
 abbrev pub Summed : List ℕ → Type 0
-Summed words = (p : ℕ) → Lit words (16777216 + p) → Nonzero words p
+Summed words = (p : ℕ) → Lit words (ATOMIC_MAX_EID + p) → Nonzero words p
 
 -- each old index has its whole path
 abbrev pub Rooted : List ℕ → List ℕ → Type 0
-Rooted old words = (i : ℕ) → i < 16777216 → Lit old i → Whole (Lit words) i
+Rooted old words = (i : ℕ) → i < ATOMIC_MAX_EID → Lit old i → Whole (Lit words) i
 
 abbrev pub Holds : List ℕ → State (Unit {0}) View → Type 0
 Holds old s =
-    (length s.words ≡ 266305) × Content old s.words s.views × Each (Fair old s.words) s.views × Pairs Separate s.views
+    (length s.words ≡ ROW_WORDS) × Content old s.words s.views × Each (Fair old s.words) s.views × Pairs Separate s.views
     × Rooted old s.words × Summed s.words
 
 abbrev pub pick : ℕ → ℕ → List ℕ → List ℕ
@@ -133,7 +135,7 @@ abbrev pub Looked : Step (Unit {0}) → Me (Unit {0}) View → ℕ → Me (Unit 
 Looked step = Looks_at step.word
 
 abbrev pub opener : List ℕ → View
-opener old = record { old = old; shares = below 65536; reports = []; seen = []; loads = 0; exchanges = 0 }
+opener old = record { old = old; shares = below SHARES; reports = []; seen = []; loads = 0; exchanges = 0 }
 
 abbrev pub nobody : View
 nobody = record { old = []; shares = []; reports = []; seen = []; loads = 0; exchanges = 0 }

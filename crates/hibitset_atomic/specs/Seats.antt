@@ -5,10 +5,11 @@ use Rattle.hibitset_atomic.specs.declared.shared.view.View.{View}
 use Rattle.hibitset_atomic.specs.declared.shared.parts.Seat.{Seat}
 use Rattle.hibitset_atomic.specs.declared.shared.parts.SharedBitSet.{SharedBitSet}
 use Rattle.hibitset_atomic.specs.Rule.{Lit, Knows, Settled, Reported, Holds}
+use Rattle.hibitset_atomic.specs.declared.atomic.TheConstants.{ATOMIC_MAX_EID}
 
 -- the index was there when the set was shared
 unfoldable pub IsOld : SharedBitSet → ℕ → Type 0
-IsOld set i = (i < 16777216) × Lit set.table.shared.key.value.items i
+IsOld set i = (i < ATOMIC_MAX_EID) × Lit set.table.shared.key.value.items i
 
 unfoldable pub weight_of : Seat → ℕ
 weight_of s = s.weight
@@ -25,7 +26,7 @@ exchanges_by s = s.pass.me.0.exchanges
 
 -- the seat knows the index
 unfoldable pub Known : Seat → ℕ → Type 0
-Known s i = (i < 16777216) × Knows s.pass.me.0 i
+Known s i = (i < ATOMIC_MAX_EID) × Knows s.pass.me.0 i
 
 -- the seat came from this set, and knows its reports
 unfoldable pub Came : SharedBitSet → Seat → Type 0

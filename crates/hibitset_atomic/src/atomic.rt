@@ -1,7 +1,7 @@
 //! The set that can be shared, held alone.
 #![tactic(auto, unfolding(crate::specs::AtomicBitSet::has, crate::specs::AtomicBitSet::word_of, crate::specs::AtomicBitSet::LacksBlock, crate::specs::AtomicBitSet::HasAllRoom))]
 
-ghost use Rattle.std.specs.Prelude.{◌≡◌, ◌≢◌, ℕ, ◌+◌, ◌-◌, ◌*◌, ◌/◌, ◌%◌, ◌<◌, ◌≤◌, ◌==◌, ◌||◌, ◌&&◌, not, if◌then◌else◌, Bool, true, false, OnOk, OnErr, IfOk, IsOk};
+ghost use Rattle.std.specs.Prelude.{◌≡◌, ◌≢◌, ℕ, ◌+◌, ◌-◌, ◌*◌, ◌/◌, ◌%◌, ◌^◌, ◌<◌, ◌≤◌, ◌==◌, ◌||◌, ◌&&◌, not, if◌then◌else◌, Bool, true, false, OnOk, OnErr, IfOk, IsOk};
 ghost use Rattle.hibitset_base.specs.Words.{IsSummed, holds_at};
 ghost use Rattle.hibitset_atomic.specs.Layers.{layer_word};
 ghost use Rattle.hibitset_atomic.specs.declared.layers.TheConstants.{ATOMIC_LAYERS};
@@ -74,7 +74,7 @@ impl AtomicBitSet {
     /// Puts a word into layer 0, where there is room for all blocks, and sets the summaries over it right.
     #[inline]
     pub(crate) fn put_word(&mut self, place: usize, word: usize)
-        requires place { place < 262144 }
+        requires place { place < 64 ^ (ATOMIC_LAYERS - 1) }
         requires room { HasRoom self.old.layers.layer0 }
         ensures here { word_of self.new 0 place ≡ word }
         ensures others { (p : ℕ) → p ≢ place → word_of self.new 0 p ≡ word_of self.old 0 p }

@@ -1,6 +1,7 @@
 //! Words of layer 0 in blocks that are made one by one.
 ghost use Rattle.std.specs.Prelude.{◌≡◌, ◌≢◌, ℕ, ◌+◌, ◌-◌, ◌*◌, ◌/◌, ◌%◌, ◌^◌, ◌<◌, ◌≤◌, get_or, length, take, ◌==◌, cond, bit_or, OnOk, OnErr, IfOk, IsOk, vec_capacity};
 ghost use Rattle.hibitset_atomic.specs.Placed.{IsPlaced};
+ghost use Rattle.hibitset_atomic.specs.declared.layers.TheConstants.{ATOMIC_LAYERS};
 
 use std::alloc::{AllocError, Global};
 
@@ -99,7 +100,7 @@ impl Blocks {
     /// Makes the block of a position, where it is not there, and changes no word.
     #[inline]
     pub(crate) fn make(&mut self, position: usize) -> Result<(), AllocError>
-        requires { position < 262144 }
+        requires { position < 64 ^ (ATOMIC_LAYERS - 1) }
         ensures same { (p : ℕ) → block_word self.new p ≡ block_word self.old p }
         ensures made { OnOk result (IsMade self.new position) }
         ensures there { IsMade self.old position → IsOk result }
@@ -129,7 +130,7 @@ impl Blocks {
 
     /// Sets a bit of a word, and tells the word as it was. Where memory is refused no word changes.
     pub(crate) fn fetch_or(&mut self, position: usize, bit: u32) -> Result<usize, AllocError>
-        requires position { position < 262144 }
+        requires position { position < 64 ^ (ATOMIC_LAYERS - 1) }
         requires bit { bit < 64 }
         ensures before { IfOk result (λ word. word ≡ block_word self.old position) }
         ensures after { OnOk result ((p : ℕ) → block_word self.new p ≡ cond (p == position) (bit_or (block_word self.old p) (2 ^ bit)) (block_word self.old p)) }

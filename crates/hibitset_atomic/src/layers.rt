@@ -144,7 +144,7 @@ impl Layers {
     /// Makes the block of a position of layer 0, where it is not there, and changes no word.
     #[inline]
     pub(crate) fn make(&mut self, place: usize) -> Result<(), AllocError>
-        requires { place < 262144 }
+        requires { place < 64 ^ (ATOMIC_LAYERS - 1) }
         ensures same { (l p : ℕ) → layer_word self.new l p ≡ layer_word self.old l p }
         ensures made { OnOk result (IsMade self.new.layer0 place) }
         ensures there { IsMade self.old.layer0 place → IsOk result }

@@ -11,7 +11,7 @@ pub mod shared;
 pub mod steps;
 
 pub use atomic::{ATOMIC_MAX_EID, AtomicBitSet};
-pub use shared::{Seat, SharedBitSet, SharedWalk};
+pub use shared::{SHARES, Seat, SharedBitSet, SharedWalk};
 pub use steps::{Event, Reply, StepError, World, path};
 
 #[cfg(test)]

@@ -12,10 +12,12 @@ ghost use Rattle.hibitset_base.specs.Words.{IsSummed};
 ghost use Rattle.hibitset_atomic.specs.declared.layers.TheConstants.{ATOMIC_LAYERS};
 ghost use Rattle.hibitset_atomic.specs.declared.atomic.TheConstants.{ATOMIC_MAX_EID};
 ghost use Rattle.hibitset_atomic.specs.Seats.{IsOld, Came, Known, weight_of, reports_of, loads_by, exchanges_by, HasAllReports};
+ghost use Rattle.hibitset_atomic.specs.declared.shared.sizes.TheConstants.{SHARES, LAYER1_START, ROW_WORDS};
 
 use crate::atomic::{ATOMIC_MAX_EID, AtomicBitSet};
 use crate::layers::ATOMIC_LAYERS;
 use crate::shared::rule::{Halves, Unites};
+use crate::shared::sizes::{LAYER1_START, LAYER2_START, LAYER3_START, ROW_WORDS};
 use crate::shared::steps::mark_of;
 use atomic_table::{Closed, Table};
 use hibitset_base::util::Index;
@@ -25,11 +27,13 @@ use std::snapshot::Snapshot;
 mod among;
 mod parts;
 pub mod rule;
+mod sizes;
 mod steps;
 pub mod view;
 pub mod walk;
 
 pub use parts::{Seat, SharedBitSet};
+pub use sizes::SHARES;
 pub use walk::SharedWalk;
 
 // The word at a place of the row of all words, layer 0 first.
@@ -37,12 +41,12 @@ pub use walk::SharedWalk;
 fn row_word(set: &AtomicBitSet, place: usize) -> u64
     ensures { result ≡ word_in_row (word_of set.now) place }
 {
-    let word = if place < 262_144 {
+    let word = if place < LAYER1_START {
         set.layers.layer0(place)
-    } else if place < 266_240 {
-        set.layers.layer1(place - 262_144)
-    } else if place < 266_304 {
-        set.layers.layer2(place - 266_240)
+    } else if place < LAYER2_START {
+        set.layers.layer1(place - LAYER1_START)
+    } else if place < LAYER3_START {
+        set.layers.layer2(place - LAYER2_START)
     } else {
         set.layers.layer3
     };
@@ -51,11 +55,11 @@ fn row_word(set: &AtomicBitSet, place: usize) -> u64
 
 // The words of all layers in one row.
 fn row_of(set: &AtomicBitSet) -> Result<Vec<u64>, AllocError>
-    ensures long { IfOk result (λ row. length row.items ≡ 266305) }
-    ensures words { IfOk result (λ row. (p : ℕ) → p < 266305 → slice_index row.items p ≡ word_in_row (word_of set.now) p) }
+    ensures long { IfOk result (λ row. length row.items ≡ ROW_WORDS) }
+    ensures words { IfOk result (λ row. (p : ℕ) → p < ROW_WORDS → slice_index row.items p ≡ word_in_row (word_of set.now) p) }
 {
-    let mut row = Vec::with_capacity(set.allocator(), 266_305)?;
-    for place in 0..266_305 {
+    let mut row = Vec::with_capacity(set.allocator(), ROW_WORDS)?;
+    for place in 0..ROW_WORDS {
         row.push(row_word(set, place))?;
     }
     Ok(row)
@@ -63,13 +67,13 @@ fn row_of(set: &AtomicBitSet) -> Result<Vec<u64>, AllocError>
 
 // Puts the words of layer 0 into a set that has none, and so the summaries.
 fn fill(closed: &Closed<(), Global>, set: &mut AtomicBitSet)
-    requires closed { (slots_len closed.now.words ≡ 266305) × IsFull closed.now.words }
+    requires closed { (slots_len closed.now.words ≡ ROW_WORDS) × IsFull closed.now.words }
     requires empty { (p : ℕ) → word_of set.old 0 p ≡ 0 }
     requires room { HasRoom set.old.layers.layer0 }
-    ensures words { (p : ℕ) → p < 262144 → word_of set.new 0 p ≡ slice_index (slots_items closed.now.words) p }
+    ensures words { (p : ℕ) → p < LAYER1_START → word_of set.new 0 p ≡ slice_index (slots_items closed.now.words) p }
     ensures room { HasRoom set.new.layers.layer0 }
 {
-    for place in 0..262_144 {
+    for place in 0..LAYER1_START {
         let word = closed.word(place) as usize;
         if word != 0 {
             set.put_word(place, word);
@@ -80,12 +84,12 @@ fn fill(closed: &Closed<(), Global>, set: &mut AtomicBitSet)
 impl AtomicBitSet {
     /// Hands the set over to many threads: the set that they add to, and its opening seat. The indices that were members are old from then on.
     ///
-    /// The opening seat has all shares, weight 65,536, no reports, and knows nothing. All words of the four layers are made here, 2 MB, so that no call on the shared set needs memory until `settle`. Where that memory is refused, the set comes back unchanged.
+    /// The opening seat has all shares, weight `SHARES`, no reports, and knows nothing. All words of the four layers are made here, 2 MB, so that no call on the shared set needs memory until `settle`. Where that memory is refused, the set comes back unchanged.
     #[tactic(auto, unfolding(crate::specs::Seats::Came, crate::specs::Seats::Known, crate::specs::Seats::IsOld, crate::specs::Seats::weight_of, crate::specs::Seats::reports_of, crate::specs::Seats::loads_by, crate::specs::Seats::exchanges_by))]
     pub fn share(self) -> Result<(SharedBitSet, Seat), AtomicBitSet>
         ensures back { IfErr result (λ set. set ≡ self) }
         ensures came { IfOk result (λ r. Came r.0 r.1) }
-        ensures opening { IfOk result (λ r. (weight_of r.1 ≡ 65536) × (reports_of r.1 ≡ []) × ((i : ℕ) → ¬ Known r.1 i)) }
+        ensures opening { IfOk result (λ r. (weight_of r.1 ≡ SHARES) × (reports_of r.1 ≡ []) × ((i : ℕ) → ¬ Known r.1 i)) }
         ensures steps { IfOk result (λ r. (loads_by r.1 ≡ 0) × (exchanges_by r.1 ≡ 0)) }
         ensures old { IfOk result (λ r. (i : ℕ) → (has self i ≡ true) ↔ IsOld r.0 i) }
     {
@@ -101,7 +105,7 @@ impl AtomicBitSet {
             SharedBitSet { table, alloc },
             Seat {
                 pass,
-                weight: 65536,
+                weight: SHARES,
             },
         ))
     }
@@ -209,12 +213,12 @@ impl SharedBitSet {
 
     /// Makes one seat of two seats of this set: their weights, their reports and what they know, together.
     ///
-    /// No index is reported by both, none that was there before `share` is reported, and the weight is at most 65,536. It makes one load, takes no memory and waits for nobody.
+    /// No index is reported by both, none that was there before `share` is reported, and the weight is at most `SHARES`. It makes one load, takes no memory and waits for nobody.
     #[tactic(auto, unfolding(crate::specs::Seats::Came, crate::specs::Seats::Known, crate::specs::Seats::IsOld, crate::specs::Seats::weight_of, crate::specs::Seats::reports_of, crate::specs::Seats::loads_by, crate::specs::Seats::exchanges_by))]
     pub fn join(&self, a: Seat, b: Seat) -> Seat
         requires { Came self.now a × Came self.now b }
         ensures came { Came self.now result }
-        ensures weight { (weight_of result ≡ weight_of a + weight_of b) × (weight_of a + weight_of b ≤ 65536) }
+        ensures weight { (weight_of result ≡ weight_of a + weight_of b) × (weight_of a + weight_of b ≤ SHARES) }
         ensures reports { reports_of result ≡ reports_of a ++ reports_of b }
         ensures apart { Apart (reports_of a) (reports_of b) }
         ensures once { Distinct (reports_of result) }
@@ -229,7 +233,7 @@ impl SharedBitSet {
         } = b;
         self.table.shared.join_seat::<Unites>(&mut pass, other);
         // Whatever it finds, a load shows that the rule holds of the two together.
-        self.look(&mut pass, 266304);
+        self.look(&mut pass, LAYER3_START);
         Seat {
             pass,
             weight: weight + others,
@@ -250,7 +254,7 @@ impl SharedBitSet {
         ensures known { IfOk result (λ set. (i : ℕ) → Known seat i → has set i ≡ true) }
         ensures reported { IfOk result (λ set. (i : ℕ) → Has (reports_of seat) i → has set i ≡ true) }
         ensures all { IfOk result (λ set. HasAllReports self seat (has set)) }
-        ensures whole { IfOk result (λ set. weight_of seat ≡ 65536 → (i : ℕ) → has set i ≡ true → IsOld self i ⊎ Has (reports_of seat) i) }
+        ensures whole { IfOk result (λ set. weight_of seat ≡ SHARES → (i : ℕ) → has set i ≡ true → IsOld self i ⊎ Has (reports_of seat) i) }
         ensures once { IsOk result → Distinct (reports_of seat) × ((i : ℕ) → Has (reports_of seat) i → ¬ IsOld self i) }
         ensures room { IfOk result (λ set. HasAllRoom set) }
     {
@@ -267,21 +271,21 @@ impl SharedBitSet {
 }
 
 impl Seat {
-    /// How many of the 65,536 shares of its set the seat has: at least one.
+    /// How many shares of its set the seat has, of `SHARES` in all: at least one.
     #[tactic(auto, unfolding(crate::specs::Seats::weight_of))]
     pub fn weight(&self) -> u32
         ensures weight { result ≡ weight_of self.now }
-        ensures some { (0 < result) × (result ≤ 65536) }
+        ensures some { (0 < result) × (result ≤ SHARES) }
     {
         self.weight
     }
 
-    /// Tells whether the seat has all 65,536 shares of its set. A set that settles with such a seat has the old indices and this seat's reports, and no others.
+    /// Tells whether the seat has all shares of its set, which are `SHARES`. A set that settles with such a seat has the old indices and this seat's reports, and no others.
     #[tactic(auto, unfolding(crate::specs::Seats::weight_of))]
     pub fn is_whole(&self) -> bool
-        ensures yes { result ≡ true → weight_of self.now ≡ 65536 }
-        ensures no { result ≡ false → weight_of self.now ≢ 65536 }
+        ensures yes { result ≡ true → weight_of self.now ≡ SHARES }
+        ensures no { result ≡ false → weight_of self.now ≢ SHARES }
     {
-        self.weight == 65536
+        self.weight == SHARES
     }
 }

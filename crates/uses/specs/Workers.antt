@@ -2,6 +2,7 @@
 use Rattle.std.specs.Prelude.{◌≡◌, ◌↔◌, ℕ, ◌<◌, Bool, true, List, [], length, Contains, Vec}
 use Rattle.std.specs.List.{flat_map}
 use Rattle.hibitset_atomic.specs.declared.atomic.TheConstants.{ATOMIC_MAX_EID}
+use Rattle.hibitset_atomic.specs.declared.shared.sizes.TheConstants.{SHARES}
 use Rattle.hibitset_atomic.specs.declared.atomic.AtomicBitSet.{AtomicBitSet}
 use Rattle.hibitset_atomic.specs.declared.shared.parts.Seat.{Seat}
 use Rattle.hibitset_atomic.specs.declared.shared.parts.SharedBitSet.{SharedBitSet}
@@ -29,7 +30,7 @@ IsShared old set seat = Came set seat × ((i : ℕ) → old i ↔ IsOld set i)
 abbrev pub IsLeft : (ℕ → Type 0) → (AtomicBitSet → Type 0) → List (Vec ℕ Global) → Refused → Type 0
 IsLeft old same lists (Sharing set) = same set
 IsLeft old same lists (Working set seat) = IsShared old set seat
-IsLeft old same lists (Settling set seat) = IsShared old set seat × (weight_of seat ≡ 65536) × ((i : ℕ) → IsListed lists i → Known seat i)
+IsLeft old same lists (Settling set seat) = IsShared old set seat × (weight_of seat ≡ SHARES) × ((i : ℕ) → IsListed lists i → Known seat i)
 
 abbrev pub list_of : Job → List ℕ
 list_of job = job.list.items

@@ -2,6 +2,7 @@
 ghost use Rattle.std.specs.Prelude.{◌≡◌, ◌⊎◌, ◌↔◌, ℕ, ◌+◌, ◌<◌, [], true, All, Any, Contains, length, IfOk, IfErr};
 ghost use Rattle.std.specs.List.{sum_by, flat_map, AllZip};
 ghost use Rattle.hibitset_atomic.specs.declared.atomic.TheConstants.{ATOMIC_MAX_EID};
+ghost use Rattle.hibitset_atomic.specs.declared.shared.sizes.TheConstants.{SHARES};
 ghost use Rattle.hibitset_atomic.specs.AtomicBitSet.{has};
 ghost use Rattle.hibitset_atomic.specs.Lists.{Has};
 ghost use Rattle.hibitset_atomic.specs.Seats.{IsOld, Came, Known, weight_of, reports_of};
@@ -147,7 +148,7 @@ pub fn add_lists<R: Threads + Sync>(
     set: AtomicBitSet,
     lists: Vec<Vec<Index>>,
 ) -> Result<Added, Refused>
-    requires { length lists.items < 65536 }
+    requires { length lists.items < SHARES }
     ensures members { IfOk result (λ added. (i : ℕ) → (has added.set i ≡ true) ↔ ((has set i ≡ true) ⊎ IsListed lists.items i)) }
     ensures new { IfOk result (λ added. IsNumberOfNew (λ i. has set i ≡ true) (has added.set) added.new) }
     ensures left { IfErr result (IsLeft (λ i. has set i ≡ true) (λ s. s ≡ set) lists.items) }
@@ -166,8 +167,8 @@ fn add_shared<R: Threads + Sync>(
     seat: Seat,
     lists: Vec<Vec<Index>>,
 ) -> Result<Added, Refused>
-    requires seat { Came set seat × (reports_of seat ≡ []) × (weight_of seat ≡ 65536) }
-    requires few { length lists.items < 65536 }
+    requires seat { Came set seat × (reports_of seat ≡ []) × (weight_of seat ≡ SHARES) }
+    requires few { length lists.items < SHARES }
     ensures members { IfOk result (λ added. (i : ℕ) → (has added.set i ≡ true) ↔ (IsOld set i ⊎ IsListed lists.items i)) }
     ensures new { IfOk result (λ added. IsNumberOfNew (IsOld set) (has added.set) added.new) }
     ensures left { IfErr result (IsLeft (IsOld set) (λ _. ⊥) lists.items) }

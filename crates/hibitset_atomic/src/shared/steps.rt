@@ -6,11 +6,13 @@ ghost use Rattle.hibitset_atomic.specs.Levels.{first_mark};
 ghost use Rattle.hibitset_atomic.specs.Rule.{Settled, Grew, Gap, Knows, Lit, Looks_at};
 ghost use Rattle.hibitset_atomic.specs.declared.layers.TheConstants.{ATOMIC_LAYERS};
 ghost use Rattle.hibitset_atomic.specs.declared.atomic.TheConstants.{ATOMIC_MAX_EID};
+ghost use Rattle.hibitset_atomic.specs.declared.shared.sizes.TheConstants.{ROW_WORDS};
 
 use crate::atomic::ATOMIC_MAX_EID;
 use crate::layers::ATOMIC_LAYERS;
 use crate::shared::parts::{Pass, SharedBitSet};
 use crate::shared::rule::{Enters, Looks, Marks};
+use crate::shared::sizes::{LAYER1_START, LAYER2_START, LAYER3_START};
 use crate::steps::bit_over;
 use hibitset_base::util::Index;
 
@@ -21,9 +23,9 @@ pub(crate) fn first_word(layer: usize) -> usize
 {
     match layer {
         0 => 0,
-        1 => 262_144,
-        2 => 266_240,
-        _ => 266_304,
+        1 => LAYER1_START,
+        2 => LAYER2_START,
+        _ => LAYER3_START,
     }
 }
 
@@ -33,7 +35,7 @@ pub(crate) fn mark_of(id: Index, layer: usize) -> u32
     requires id { id < ATOMIC_MAX_EID }
     requires layer { layer < ATOMIC_LAYERS }
     ensures mark { result ≡ first_mark layer + id / 64 ^ layer }
-    ensures within { result < 17043520 }
+    ensures within { result < 64 * ROW_WORDS }
 {
     let (place, bit) = bit_over(id, layer);
     ((first_word(layer) + place) * 64) as u32 + bit
@@ -44,7 +46,7 @@ impl SharedBitSet {
     pub(crate) fn enter(&self, pass: &mut Pass, id: u32) -> bool
         requires came { pass.old.table_id ≡ self.now.table.shared.table_id }
         requires seat { (0 < length pass.old.me.0.shares) × Settled pass.old.me.0 }
-        requires id { id < 16777216 }
+        requires id { id < ATOMIC_MAX_EID }
         ensures same { (pass.new.table_id ≡ pass.old.table_id) × (pass.new.id ≡ pass.old.id) × Grew pass.old.me pass.new.me × Has pass.new.me.0.seen id }
         ensures there { result ≡ true → pass.new.me.0.reports ≡ pass.old.me.0.reports }
         ensures new { result ≡ false → (pass.new.me.0.reports ≡ id ∷ pass.old.me.0.reports) × ¬ Lit pass.old.me.0.old id × ¬ Has pass.old.me.0.seen id }
@@ -93,7 +95,7 @@ impl SharedBitSet {
     pub(crate) fn look(&self, pass: &mut Pass, place: usize) -> u64
         requires came { pass.old.table_id ≡ self.now.table.shared.table_id }
         requires seat { 0 < length pass.old.me.0.shares }
-        requires place { place < 266305 }
+        requires place { place < ROW_WORDS }
         ensures same { (pass.new.table_id ≡ pass.old.table_id) × (pass.new.id ≡ pass.old.id) }
         ensures found { Looks_at place pass.old.me result pass.new.me }
         ensures counts { (pass.new.me.0.loads ≡ pass.old.me.0.loads + 1) × (pass.new.me.0.exchanges ≡ pass.old.me.0.exchanges) }
@@ -104,7 +106,7 @@ impl SharedBitSet {
     pub(crate) fn stands(&self, pass: &mut Pass, mark: u32) -> bool
         requires came { pass.old.table_id ≡ self.now.table.shared.table_id }
         requires seat { 0 < length pass.old.me.0.shares }
-        requires mark { mark < 17043520 }
+        requires mark { mark < 64 * ROW_WORDS }
         ensures same { (pass.new.table_id ≡ pass.old.table_id) × (pass.new.id ≡ pass.old.id) × Grew pass.old.me pass.new.me × (pass.new.me.0.reports ≡ pass.old.me.0.reports) }
         ensures stands { result ≡ true → Has pass.new.me.0.seen mark }
         ensures gap { result ≡ false → Gap pass.new.me.0 mark }
@@ -124,7 +126,7 @@ impl SharedBitSet {
         ensures some { Has pass.old.me.0.seen (first_mark (layer + 1) + position) → 0 < result }
         ensures seen { (b : ℕ) → b < 64 → bit_at result b ≡ 1 → Has pass.new.me.0.seen (first_mark layer + (64 * position + b)) }
         ensures known { (i : ℕ) → Knows pass.old.me.0 i → i / 64 ^ (layer + 1) ≡ position → bit_at result (i / 64 ^ layer % 64) ≡ 1 }
-        ensures old { (i : ℕ) → i < 16777216 → Lit pass.old.me.0.old i → i / 64 ^ (layer + 1) ≡ position → bit_at result (i / 64 ^ layer % 64) ≡ 1 }
+        ensures old { (i : ℕ) → i < ATOMIC_MAX_EID → Lit pass.old.me.0.old i → i / 64 ^ (layer + 1) ≡ position → bit_at result (i / 64 ^ layer % 64) ≡ 1 }
         ensures counts { (pass.new.me.0.loads ≡ pass.old.me.0.loads + 1) × (pass.new.me.0.exchanges ≡ pass.old.me.0.exchanges) }
     {
         self.look(pass, first_word(layer) + position as usize)

@@ -6,8 +6,53 @@ use hibitset_base::{BitSetLike, Index};
 use std::alloc::{AllocError, Global};
 use std::test::Fail;
 
-// The turn of the walk; those of the two calls are 0 and 1.
-const WALK: u8 = 2;
+// Whose turn it is.
+#[derive(Clone, Copy, Debug, Drop, PartialEq)]
+enum Player {
+    FirstCall,
+    SecondCall,
+    Walk,
+}
+
+use Player::{FirstCall, SecondCall, Walk};
+
+impl Player {
+    // Players in the manner of a dictionary.
+    fn rank(self) -> u8 {
+        match self {
+            FirstCall => 0,
+            SecondCall => 1,
+            Walk => 2,
+        }
+    }
+
+    fn event(self) -> Event {
+        match self {
+            FirstCall => Event::Step { call: 0 },
+            SecondCall => Event::Step { call: 1 },
+            Walk => Event::Read { walk: 0 },
+        }
+    }
+}
+
+// In what a world and the model differ.
+#[derive(Debug, Drop, PartialEq)]
+enum Difference {
+    Beginning,
+    Answer,
+    Items,
+    // the walk missed an index whose call had ended before it was opened
+    Missing,
+    Unrest,
+    Words,
+}
+
+// An order of turns, and what differs in it.
+#[derive(Debug, Drop, PartialEq)]
+struct Failing {
+    order: Vec<Player>,
+    by: Difference,
+}
 
 // The words of four layers. Two words a layer are in use: the one at position 0, and one other.
 #[derive(Drop)]
@@ -47,6 +92,10 @@ struct Adding {
 }
 
 impl Adding {
+    fn new(id: Index) -> Adding {
+        Adding { id, passed: 0 }
+    }
+
     fn step(&mut self, words: &mut Words) -> Result<Reply, StepError> {
         let layer = self.passed;
         if layer >= 4 {
@@ -103,7 +152,7 @@ impl Walking {
 #[derive(Drop)]
 struct Model {
     words: Words,
-    calls: [Adding; 2],
+    calls: (Adding, Adding),
     walk: Walking,
 }
 
@@ -111,16 +160,7 @@ impl Model {
     fn new(alloc: Global, ids: (Index, Index)) -> Result<Model, AllocError> {
         Ok(Model {
             words: Words { words: [0; 8] },
-            calls: [
-                Adding {
-                    id: ids.0,
-                    passed: 0,
-                },
-                Adding {
-                    id: ids.1,
-                    passed: 0,
-                },
-            ],
+            calls: (Adding::new(ids.0), Adding::new(ids.1)),
             walk: Walking {
                 left: vec![in alloc; (3, 0)]?,
                 items: Vec::new(alloc),
@@ -129,20 +169,11 @@ impl Model {
     }
 
     // What the next turn answers.
-    fn turn(&mut self, player: u8) -> Result<Result<Reply, StepError>, AllocError> {
-        match self.calls.get_mut(player as usize) {
-            None => self.walk.read(&self.words),
-            Some(call) => Ok(call.step(&mut self.words)),
-        }
-    }
-}
-
-fn event(player: u8) -> Event {
-    if player == WALK {
-        Event::Read { walk: 0 }
-    } else {
-        Event::Step {
-            call: player as u32,
+    fn turn(&mut self, player: Player) -> Result<Result<Reply, StepError>, AllocError> {
+        match player {
+            FirstCall => Ok(self.calls.0.step(&mut self.words)),
+            SecondCall => Ok(self.calls.1.step(&mut self.words)),
+            Walk => self.walk.read(&self.words),
         }
     }
 }
@@ -152,42 +183,51 @@ fn misses_none(model: &Model, due: &[Index]) -> bool {
     !model.walk.left.is_empty() || due.iter().all(|id| model.walk.items.contains(id))
 }
 
-// Plays one order of turns, the walk opened right before its first, and answers the model after it; none where an answer or an item differs from the model's, or the walk missed an index whose call had ended before it.
+// The indices whose calls have ended.
+fn ended(alloc: Global, model: &Model) -> Result<Vec<Index>, AllocError> {
+    let mut due = Vec::new(alloc);
+    for call in [&model.calls.0, &model.calls.1] {
+        if call.passed == 4 {
+            due.push(call.id)?;
+        }
+    }
+    Ok(due)
+}
+
+// Plays one order of turns, the walk opened right before its first, and answers the model after it, or in what the world differed from it.
 fn play(
     alloc: Global,
     world: &mut World,
     ids: (Index, Index),
-    turns: &[u8],
-) -> Result<Option<Model>, AllocError> {
+    turns: &[Player],
+) -> Result<Result<Model, Difference>, AllocError> {
     let mut model = Model::new(alloc, ids)?;
     let mut due = Vec::new(alloc);
     let mut is_open = false;
     for (call, id) in [(0, ids.0), (1, ids.1)] {
         if world.apply(Event::Begin { call, id }) != Ok(Reply::Begun) {
-            return Ok(None);
+            return Ok(Err(Difference::Beginning));
         }
     }
     for player in turns {
-        if *player == WALK && !is_open {
+        if *player == Walk && !is_open {
             is_open = true;
             if world.apply(Event::Open { walk: 0 }) != Ok(Reply::Opened) {
-                return Ok(None);
+                return Ok(Err(Difference::Beginning));
             }
-            for call in &model.calls {
-                if call.passed == 4 {
-                    due.push(call.id)?;
-                }
-            }
+            due = ended(alloc, &model)?;
         }
-        if world.apply(event(*player)) != model.turn(*player)? {
-            return Ok(None);
+        if world.apply(player.event()) != model.turn(*player)? {
+            return Ok(Err(Difference::Answer));
         }
     }
-    let same_items = world.items(0) == Some(model.walk.items.as_slice());
-    if same_items && misses_none(&model, &due) {
-        return Ok(Some(model));
+    if world.items(0) != Some(model.walk.items.as_slice()) {
+        return Ok(Err(Difference::Items));
     }
-    Ok(None)
+    if !misses_none(&model, &due) {
+        return Ok(Err(Difference::Missing));
+    }
+    Ok(Ok(model))
 }
 
 // Whether the set has the model's words.
@@ -202,10 +242,10 @@ fn has_words(set: &AtomicBitSet, words: &Words, other: Index) -> bool {
 }
 
 // Puts the turns into the next order in the manner of a dictionary; false where this is the last.
-fn next_order(turns: &mut [u8]) -> bool {
+fn next_order(turns: &mut [Player]) -> bool {
     let mut last = 0;
     for place in 1..turns.len() {
-        if turns[place - 1] < turns[place] {
+        if turns[place - 1].rank() < turns[place].rank() {
             last = place;
         }
     }
@@ -215,7 +255,7 @@ fn next_order(turns: &mut [u8]) -> bool {
     let before = turns[last - 1];
     let mut larger = last;
     for place in last..turns.len() {
-        if turns[place] > before {
+        if turns[place].rank() > before.rank() {
             larger = place;
         }
     }
@@ -226,60 +266,86 @@ fn next_order(turns: &mut [u8]) -> bool {
     true
 }
 
-// Plays the opening turns and then every order of the others, from an empty set, and answers how many orders there are; none where an answer differs from the model's.
+// Plays one order from a set that is empty and is so again afterwards. It answers the set, or in what the world differed from the model.
+fn play_from(
+    set: AtomicBitSet,
+    alloc: Global,
+    ids: (Index, Index),
+    turns: &[Player],
+) -> Result<Result<AtomicBitSet, Difference>, AllocError> {
+    let mut world = World::new(set);
+    let model = match play(alloc, &mut world, ids, turns)? {
+        Ok(model) => model,
+        Err(by) => return Ok(Err(by)),
+    };
+    if !world.is_at_rest() {
+        return Ok(Err(Difference::Unrest));
+    }
+    let mut set = world.settle();
+    if !has_words(&set, &model.words, ids.1) {
+        return Ok(Err(Difference::Words));
+    }
+    set.clear();
+    Ok(Ok(set))
+}
+
+// Plays the opening turns and then every order of the others, and answers how many orders there are, or the first in which the world differs from the model.
 fn play_all(
     alloc: Global,
     ids: (Index, Index),
-    opening: &[u8],
-    turns: &mut [u8],
-) -> Result<Option<u32>, AllocError> {
+    opening: &[Player],
+    turns: &mut [Player],
+) -> Result<Result<u32, Failing>, AllocError> {
     let mut set = AtomicBitSet::new(alloc)?;
-    for orders in 1..1_000_000 {
+    let mut orders = 0;
+    for played in 1..1_000_000 {
         let mut order = Vec::new(alloc);
         order.extend_from_slice(opening)?;
         order.extend_from_slice(turns)?;
-        let mut world = World::new(set);
-        let Some(model) = play(alloc, &mut world, ids, &order)? else {
-            return Ok(None);
+        set = match play_from(set, alloc, ids, &order)? {
+            Ok(set) => set,
+            Err(by) => return Ok(Err(Failing { order, by })),
         };
-        if !world.is_at_rest() {
-            return Ok(None);
-        }
-        set = world.settle();
-        if !has_words(&set, &model.words, ids.1) {
-            return Ok(None);
-        }
-        set.clear();
+        orders = played;
         if !next_order(turns) {
-            return Ok(Some(orders));
+            break;
         }
     }
-    Ok(None)
+    Ok(Ok(orders))
 }
 
 // Every order of the four steps of each of two calls on two indices of one word and four reads of a walk: 12! / (4! 4! 4!).
 #[test]
 fn of_one_word(rt: HostRuntime) -> Result<(), Fail> {
-    let mut turns = [0, 0, 0, 0, 1, 1, 1, 1, 2, 2, 2, 2];
+    let mut turns = [
+        FirstCall, FirstCall, FirstCall, FirstCall, SecondCall, SecondCall, SecondCall, SecondCall,
+        Walk, Walk, Walk, Walk,
+    ];
     let played = play_all(rt.alloc(), (5, 6), &[], &mut turns)?;
-    assert_eq!(rt; played, Some(34_650));
+    assert_eq!(rt; played, Ok(34_650));
     Ok(())
 }
 
 // The same for one index, where a step comes first, and is the first call's: of the orders left out, some only change the names of the calls, and in the others the walk reads an empty top word and has ended. 11! / (3! 4! 4!).
 #[test]
 fn of_the_same_index(rt: HostRuntime) -> Result<(), Fail> {
-    let mut turns = [0, 0, 0, 1, 1, 1, 1, 2, 2, 2, 2];
-    let played = play_all(rt.alloc(), (5, 5), &[0], &mut turns)?;
-    assert_eq!(rt; played, Some(11_550));
+    let mut turns = [
+        FirstCall, FirstCall, FirstCall, SecondCall, SecondCall, SecondCall, SecondCall, Walk,
+        Walk, Walk, Walk,
+    ];
+    let played = play_all(rt.alloc(), (5, 5), &[FirstCall], &mut turns)?;
+    assert_eq!(rt; played, Ok(11_550));
     Ok(())
 }
 
 // Two indices of different blocks, where a walk that finds both makes six reads. The first two steps of each come first: they set bits of words of their own, to which no walk comes before the third. 10! / (2! 2! 6!).
 #[test]
 fn of_different_blocks(rt: HostRuntime) -> Result<(), Fail> {
-    let mut turns = [0, 0, 1, 1, 2, 2, 2, 2, 2, 2];
-    let played = play_all(rt.alloc(), (5, 4096), &[0, 1, 0, 1], &mut turns)?;
-    assert_eq!(rt; played, Some(1_260));
+    let mut turns = [
+        FirstCall, FirstCall, SecondCall, SecondCall, Walk, Walk, Walk, Walk, Walk, Walk,
+    ];
+    let opening = [FirstCall, SecondCall, FirstCall, SecondCall];
+    let played = play_all(rt.alloc(), (5, 4096), &opening, &mut turns)?;
+    assert_eq!(rt; played, Ok(1_260));
     Ok(())
 }

@@ -2,6 +2,8 @@
 ghost use Rattle.std.specs.Prelude.{◌≡◌, ◌+◌, ◌<◌, ◌≤◌, ◌++◌, All, length, IfSome};
 ghost use Rattle.std.specs.List.{sum_by, flat_map};
 ghost use Rattle.hibitset_atomic.specs.Seats.{Came, weight_of, reports_of};
+ghost use Rattle.hibitset_atomic.specs.declared.atomic.TheConstants.{ATOMIC_MAX_EID};
+ghost use Rattle.hibitset_atomic.specs.declared.shared.sizes.TheConstants.{SHARES};
 
 use crate::tests::list;
 use hibitset_atomic::{AtomicBitSet, Seat, SharedBitSet};
@@ -11,7 +13,7 @@ use std::test::Fail;
 
 // Adds each index below a bound twice and then asks for it, and counts the first answers false, the second ones true, and the last ones true.
 fn add_twice(set: &SharedBitSet, seat: &mut Seat, count: u32) -> (u32, u32, u32)
-    requires { Came set.now seat.old × (count < 16777216) }
+    requires { Came set.now seat.old × (count < ATOMIC_MAX_EID) }
     ensures { Came set.now seat.new }
 {
     let mut new = 0u32;
@@ -127,7 +129,7 @@ fn a_seat_that_is_dropped(rt: HostRuntime) -> Result<(), Fail> {
 
 // The weights of n seats of a whole one, or none where memory was refused.
 fn weights_among(alloc: Global, n: usize) -> Option<Vec<u32>>
-    requires { (0 < n) × (n ≤ 65536) }
+    requires { (0 < n) × (n ≤ SHARES) }
 {
     let (set, seat) = AtomicBitSet::new(alloc).ok()?.share().ok()?;
     let seats = set.divide_among(seat, n, alloc).ok()?;

@@ -1,8 +1,8 @@
 //! Worlds of calls and walks that take turns.
 use crate::tests::list;
 use hibitset_atomic::laws::world_laws;
-use hibitset_atomic::{AtomicBitSet, Event, Reply, StepError, World, path};
-use hibitset_base::BitSetLike;
+use hibitset_atomic::{ATOMIC_MAX_EID, AtomicBitSet, Event, Reply, StepError, World, path};
+use hibitset_base::{BitSetLike, Index};
 use std::test::Fail;
 
 #[test]
@@ -108,7 +108,36 @@ fn a_walk_meets_a_call(rt: HostRuntime) -> Result<(), Fail> {
         );
     }
     assert!(rt; world.is_at_rest());
-    let out_of_range = 16_777_216;
+    if !world.is_at_rest() {
+        assert!(rt; false, "a call has not passed all layers");
+        return Ok(());
+    }
+    let set = world.settle();
+    assert_eq!(rt; list(rt.alloc(), &set)?.as_slice(), [0, 63].as_slice());
+    Ok(())
+}
+
+// After one call and one walk that have ended.
+#[test]
+fn refused_events(rt: HostRuntime) -> Result<(), Fail> {
+    let mut world = World::new(AtomicBitSet::new(rt.alloc())?);
+    let begun = [
+        Event::Begin { call: 1, id: 63 },
+        Event::Step { call: 1 },
+        Event::Step { call: 1 },
+        Event::Step { call: 1 },
+        Event::Step { call: 1 },
+        Event::Open { walk: 1 },
+        Event::Read { walk: 1 },
+        Event::Read { walk: 1 },
+        Event::Read { walk: 1 },
+        Event::Read { walk: 1 },
+    ];
+    for event in begun {
+        assert!(rt; world.apply(event).is_ok());
+    }
+    assert_eq!(rt; world.items(1), Some([63].as_slice()));
+    let out_of_range = ATOMIC_MAX_EID as Index;
     let refusals = [
         (Event::Step { call: 1 }, StepError::Ended),
         (
@@ -134,12 +163,6 @@ fn a_walk_meets_a_call(rt: HostRuntime) -> Result<(), Fail> {
         assert_eq!(rt; world.apply(event), Err(error));
     }
     assert_eq!(rt; world.items(7), None);
-    if !world.is_at_rest() {
-        assert!(rt; false, "a call has not passed all layers");
-        return Ok(());
-    }
-    let set = world.settle();
-    assert_eq!(rt; list(rt.alloc(), &set)?.as_slice(), [0, 63].as_slice());
     Ok(())
 }
 

@@ -1,4 +1,5 @@
 use Rattle.std.proofs.Common.{◌≡◌, inl, inr, Contains, refl, sym, subst, arith}
+use Rattle.hibitset_atomic.specs.declared.shared.sizes.TheConstants.{SHARES}
 use Rattle.hibitset_atomic.specs.Lists.{Has}
 use Rattle.hibitset_atomic.specs.Seats.{weight_of, reports_of}
 use Rattle.uses.proofs.Working.{all_sound, same_weights, listed_known, reported_listed}
@@ -17,7 +18,7 @@ returns-in-Ok-settle-clause-members g c =
     let lists = c.in-Ok.ensures.lists in
     let settled = c.in-Ok-settle.ensures in
     let weights = same_weights c.args.set jobs works each in
-    let whole : weight_of c.together-seat.result.seat ≡ 65536 = (let a = joined.weight in let b = c.in-Ok.ensures.weight in let d = c.requires.seat.2 in omega (arith, a, b, d, weights)) in
+    let whole : weight_of c.together-seat.result.seat ≡ SHARES = (let a = joined.weight in let b = c.in-Ok.ensures.weight in let d = c.requires.seat.2 in omega (arith, a, b, d, weights)) in
     λ i. (
       (λ on. elim (settled.whole whole i on) [
         | inl old ↦ inl old
@@ -36,7 +37,7 @@ returns-in-Ok-settle-clause-new g c =
     let joined = c.together-seat.ensures in
     let settled = c.in-Ok-settle.ensures in
     let weights = same_weights c.args.set jobs works c.in-Ok-run.ensures in
-    let whole : weight_of c.together-seat.result.seat ≡ 65536 = (let a = joined.weight in let b = c.in-Ok.ensures.weight in let d = c.requires.seat.2 in omega (arith, a, b, d, weights)) in (
+    let whole : weight_of c.together-seat.result.seat ≡ SHARES = (let a = joined.weight in let b = c.in-Ok.ensures.weight in let d = c.requires.seat.2 in omega (arith, a, b, d, weights)) in (
       reports_of c.together-seat.result.seat,
       sym joined.new,
       (settled.once refl).0,
@@ -55,7 +56,7 @@ returns-in-Err-settle-clause-left g c =
     let lists = c.in-Ok.ensures.lists in
     let back = c.in-Err-settle.ensures.back in
     let weights = same_weights c.args.set jobs works each in
-    let whole : weight_of c.together-seat.result.seat ≡ 65536 = (let a = joined.weight in let b = c.in-Ok.ensures.weight in let d = c.requires.seat.2 in omega (arith, a, b, d, weights)) in
+    let whole : weight_of c.together-seat.result.seat ≡ SHARES = (let a = joined.weight in let b = c.in-Ok.ensures.weight in let d = c.requires.seat.2 in omega (arith, a, b, d, weights)) in
     rw (back.0, back.1) (
       (joined.came, λ i. ((λ old. old), (λ old. old))),
       whole,

@@ -2,13 +2,15 @@ use Rattle.std.proofs.Common.{◌≡◌, ℕ, ◌+◌, ◌*◌, ◌/◌, ◌%◌
 use Rattle.hibitset_atomic.specs.Levels.{first_mark}
 use Rattle.hibitset_atomic.proofs.Levels.{whole_words, mark-lt}
 use Rattle.hibitset_atomic.proofs.shared.steps.mark_of.Goals as goal
+use Rattle.hibitset_atomic.specs.declared.shared.sizes.TheConstants.{ROW_WORDS}
+use Rattle.hibitset_atomic.specs.declared.atomic.TheConstants.{ATOMIC_MAX_EID}
 
 -- the bit of a word, and what comes before the word
-module _ (i l first place bit : ℕ) (id : i < 16777216) (layer : l < 4) (word : first ≡ first_mark l / 64) (at : place ≡ i / 64 ^ l / 64) (of : bit ≡ i / 64 ^ l % 64) where
+module _ (i l first place bit : ℕ) (id : i < ATOMIC_MAX_EID) (layer : l < 4) (word : first ≡ first_mark l / 64) (at : place ≡ i / 64 ^ l / 64) (of : bit ≡ i / 64 ^ l % 64) where
   is_mark : (first + place) * 64 + bit ≡ first_mark l + i / 64 ^ l
   is_mark = let whole = whole_words l layer in omega (arith, whole, word, at, of)
 
-  is_within : (first + place) * 64 + bit < 17043520
+  is_within : (first + place) * 64 + bit < 64 * ROW_WORDS
   is_within = let lt = mark-lt i l id layer in omega (arith, is_mark, lt)
 
 pub overflow_add-result : goal.overflow_add-result

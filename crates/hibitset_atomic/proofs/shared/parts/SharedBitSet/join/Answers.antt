@@ -4,6 +4,7 @@ use Rattle.hibitset_atomic.proofs.Keeps.{joins, both_fit}
 use Rattle.hibitset_atomic.proofs.Told.{looked_once, united_parts, united_knows, united_settled, united_counts}
 use Rattle.hibitset_atomic.specs.Seats.{Came, Known, IsOld, weight_of, reports_of, loads_by, exchanges_by}
 use Rattle.hibitset_atomic.proofs.shared.parts.SharedBitSet.join.Goals as goal
+use Rattle.hibitset_atomic.specs.declared.shared.sizes.TheConstants.{LAYER3_START}
 
 pub join_seat-requires : goal.join_seat-requires
 unfolding Came Known IsOld weight_of reports_of
@@ -18,31 +19,31 @@ join_seat-requires c = (
 pub invariant_of-result : goal.invariant_of-result
 unfolding Came Known IsOld weight_of reports_of
 invariant_of-result c =
-    let t = united_parts 266304 c.look.result c.args.a.pass.me.0 c.args.b.pass.me.0 c.args.a.pass.me.1 _ _ c.look.ensures.found c.join_seat.ensures.2 c.requires.0.2 c.requires.1.2 in
-    let f = (both_fit 266304 c.look.result c.args.a.pass.me.0 c.args.b.pass.me.0 _ _ c.look.ensures.found (ap (λ m. m.0) c.join_seat.ensures.2)).1 in
+    let t = united_parts LAYER3_START c.look.result c.args.a.pass.me.0 c.args.b.pass.me.0 c.args.a.pass.me.1 _ _ c.look.ensures.found c.join_seat.ensures.2 c.requires.0.2 c.requires.1.2 in
+    let f = (both_fit LAYER3_START c.look.result c.args.a.pass.me.0 c.args.b.pass.me.0 _ _ c.look.ensures.found (ap (λ m. m.0) c.join_seat.ensures.2)).1 in
     let l = length-append c.args.a.pass.me.0.shares c.args.b.pass.me.0.shares in let d = c.args.a.counted in let e = c.args.b.counted in let k = ap length t.2 in let p = c.args.a.some_share.0 in
     record { counted = omega (arith, l, d, e, k); some_share = (omega (arith, p), omega (arith, f, d, e)); empty_handed = ap length t.0 ∙ c.args.a.empty_handed }
 
 pub returns-clause-came : goal.returns-clause-came
 unfolding Came Known IsOld weight_of reports_of
 returns-clause-came c =
-    let t = united_parts 266304 c.look.result c.args.a.pass.me.0 c.args.b.pass.me.0 c.args.a.pass.me.1 _ _ c.look.ensures.found c.join_seat.ensures.2 c.requires.0.2 c.requires.1.2 in (
+    let t = united_parts LAYER3_START c.look.result c.args.a.pass.me.0 c.args.b.pass.me.0 c.args.a.pass.me.1 _ _ c.look.ensures.found c.join_seat.ensures.2 c.requires.0.2 c.requires.1.2 in (
       c.look.ensures.same.0 ∙ c.join_seat.ensures.0 ∙ c.requires.0.0,
       t.1 ∙ c.requires.0.1,
-      united_settled 266304 c.look.result c.args.a.pass.me.0 c.args.b.pass.me.0 c.args.a.pass.me.1 _ _ c.look.ensures.found c.join_seat.ensures.2 c.requires.0.2 c.requires.1.2,
+      united_settled LAYER3_START c.look.result c.args.a.pass.me.0 c.args.b.pass.me.0 c.args.a.pass.me.1 _ _ c.look.ensures.found c.join_seat.ensures.2 c.requires.0.2 c.requires.1.2,
     )
 
 pub returns-clause-weight : goal.returns-clause-weight
 unfolding Came Known IsOld weight_of reports_of
-returns-clause-weight c = let f = (both_fit 266304 c.look.result c.args.a.pass.me.0 c.args.b.pass.me.0 _ _ c.look.ensures.found (ap (λ m. m.0) c.join_seat.ensures.2)).1 in let d = c.args.a.counted in let e = c.args.b.counted in (refl, omega (arith, f, d, e))
+returns-clause-weight c = let f = (both_fit LAYER3_START c.look.result c.args.a.pass.me.0 c.args.b.pass.me.0 _ _ c.look.ensures.found (ap (λ m. m.0) c.join_seat.ensures.2)).1 in let d = c.args.a.counted in let e = c.args.b.counted in (refl, omega (arith, f, d, e))
 
 pub returns-clause-reports : goal.returns-clause-reports
 unfolding Came Known IsOld weight_of reports_of
-returns-clause-reports c = let t = united_parts 266304 c.look.result c.args.a.pass.me.0 c.args.b.pass.me.0 c.args.a.pass.me.1 _ _ c.look.ensures.found c.join_seat.ensures.2 c.requires.0.2 c.requires.1.2 in t.3
+returns-clause-reports c = let t = united_parts LAYER3_START c.look.result c.args.a.pass.me.0 c.args.b.pass.me.0 c.args.a.pass.me.1 _ _ c.look.ensures.found c.join_seat.ensures.2 c.requires.0.2 c.requires.1.2 in t.3
 
 pub returns-clause-apart : goal.returns-clause-apart
 unfolding Came Known IsOld weight_of reports_of
-returns-clause-apart c = (both_fit 266304 c.look.result c.args.a.pass.me.0 c.args.b.pass.me.0 _ _ c.look.ensures.found (ap (λ m. m.0) c.join_seat.ensures.2)).0
+returns-clause-apart c = (both_fit LAYER3_START c.look.result c.args.a.pass.me.0 c.args.b.pass.me.0 _ _ c.look.ensures.found (ap (λ m. m.0) c.join_seat.ensures.2)).0
 
 pub returns-clause-once : goal.returns-clause-once
 unfolding Came Known IsOld weight_of reports_of
@@ -52,9 +53,9 @@ pub returns-clause-known : goal.returns-clause-known
 unfolding Came Known IsOld weight_of reports_of
 returns-clause-known c = λ i k. (
   ⊎_elim (λ x. x.0) (λ y. y.0) k,
-  united_knows 266304 c.look.result c.args.a.pass.me.0 c.args.b.pass.me.0 c.args.a.pass.me.1 _ _ c.look.ensures.found c.join_seat.ensures.2 c.requires.0.2 c.requires.1.2 i (⊎_elim (λ x. inl x.1) (λ y. inr y.1) k),
+  united_knows LAYER3_START c.look.result c.args.a.pass.me.0 c.args.b.pass.me.0 c.args.a.pass.me.1 _ _ c.look.ensures.found c.join_seat.ensures.2 c.requires.0.2 c.requires.1.2 i (⊎_elim (λ x. inl x.1) (λ y. inr y.1) k),
 )
 
 pub returns-clause-steps : goal.returns-clause-steps
 unfolding Came Known IsOld weight_of reports_of loads_by exchanges_by
-returns-clause-steps c = united_counts 266304 c.look.result c.args.a.pass.me.0 c.args.b.pass.me.0 c.args.a.pass.me.1 _ _ c.look.ensures.found c.join_seat.ensures.2 c.requires.0.2 c.requires.1.2
+returns-clause-steps c = united_counts LAYER3_START c.look.result c.args.a.pass.me.0 c.args.b.pass.me.0 c.args.a.pass.me.1 _ _ c.look.ensures.found c.join_seat.ensures.2 c.requires.0.2 c.requires.1.2
