@@ -6,6 +6,7 @@ ghost use Rattle.hibitset_store.specs.Columns.{entries_of, entry_seen, keys_of, 
 ghost use Rattle.hibitset_store.specs.Joins.{joined, joined_within, seen};
 ghost use Rattle.hibitset_store.specs.Room.{HasRoom};
 ghost use Rattle.hibitset_store.specs.Walks.{reads_of};
+ghost use Rattle.hibitset_store.specs.declared.pages.TheConstants.{PAGE};
 
 use super::*;
 use hibitset_store::Join;
