@@ -348,8 +348,10 @@ def library(pool):
 
 
 def runs(pool):
-    for name in CALLS[PROGRAM]["run"].split():
-        tests(pool, PROGRAM, {name}, ["--", name])
+    # One run for both, as each builds the program.
+    names = set(CALLS[PROGRAM]["run"].split())
+    (word,) = {name.split("::")[-1] for name in names}
+    tests(pool, PROGRAM, names, ["--", word])
 
 
 def scripts(pool):

@@ -4,16 +4,11 @@ pub use Rattle.hibitset.proofs.Sizes.{members-with, members-there, members-witho
 pub use Rattle.hibitset.proofs.Stepping.{StepsTo, step_from, ended_from, some_member, first_or_rest}
 pub use Rattle.hibitset.proofs.Folding.{answer_of_parts}
 pub use Rattle.hibitset.proofs.Differing.{differ-comm, differ-twice, differ-back}
-use Rattle.std.proofs.Common.{◌≡◌, ℕ, zero, suc, ◌+◌, ◌-◌, ◌*◌, ◌/◌, ◌%◌, ◌^◌, ◌<◌, Bool, true, false, ◌==◌, ◌&&◌, ◌||◌, not, nat_lt, List, get_or, length, arith, inl, inr}
+use Rattle.std.proofs.Common.{◌≡◌, ℕ, ◌+◌, ◌-◌, ◌*◌, ◌/◌, ◌%◌, ◌^◌, ◌<◌, Bool, true, ◌==◌, ◌&&◌, ◌||◌, not, nat_lt, List, get_or, length, arith}
 use Rattle.std.specs.Int.{bit_at}
 use Rattle.std.proofs.lemmas.Bool.Decides.{nat_tests}
-use Rattle.hibitset_base.specs.Deciding.{same_or_not}
 use Rattle.hibitset_base.specs.Places.{IsWellFormed}
-
--- a test that holds of each number below n
-abbrev holds_below : ℕ → (ℕ → Bool) → Bool
-holds_below zero p = true
-holds_below (suc n) p = p n && holds_below n p
+use Rattle.hibitset.proofs.Testing.{holds_below, below_holds, both}
 
 -- whole words within the set
 abbrev is_aligned : ℕ → ℕ → ℕ → ℕ → Bool
@@ -33,18 +28,6 @@ is_formed n masks prefixes =
     is_aligned n (get_or masks m 0) (get_or prefixes m 0) m && holds_below m (λ l.
     is_nested (get_or masks l 0) (get_or masks m 0) (get_or prefixes l 0) (get_or prefixes m 0) l m
     && holds_below 64 (is_before (get_or masks l 0) (get_or masks m 0) (get_or prefixes l 0) (get_or prefixes m 0) l m)))
-
-both : (a b : Bool) → (a && b) ≡ true → (a ≡ true) × (b ≡ true)
-both true true h = (h, h)
-both true false h = absurd (let k : false ≡ true = h in cc)
-both false b h = absurd (let k : false ≡ true = h in cc)
-
-below_holds : (n : ℕ) (p : ℕ → Bool) → holds_below n p ≡ true → (i : ℕ) → i < n → p i ≡ true
-below_holds zero p all i within = absurd (omega arith)
-below_holds (suc n) p all i within = elim (same_or_not i n) [
-  | inl e ↦ rw e (both (p n) (holds_below n p) all).0
-  | inr other ↦ below_holds n p (both (p n) (holds_below n p) all).1 i (omega arith)
-]
 
 aligned_by : (n mask prefix l : ℕ) → is_aligned n mask prefix l ≡ true → 0 < mask → (prefix % 64 ≡ 0) × (prefix < 64 ^ (n - l))
 aligned_by n mask prefix l test some = (grind (arith, nat_tests), grind (arith, nat_tests))

@@ -524,10 +524,3 @@ module _ (n : ℕ) (words new : List ℕ) (room len top : ℕ) (laid : IsLaid n 
 
   pub lowest_lengths : (l : ℕ) → length (get_or (parts new room len top 0 (n - 1)) l []) ≡ length (get_or (parts words room len top 0 (n - 1)) l [])
   lowest_lengths l = same_lengths n words room len top new room len top laid lowest_laid refl l
-
--- the words of a piece are those of the list, where they lie in the piece or past the list's end
-pub piece_word : (xs : List ℕ) (from count b : ℕ) → (count ≤ b → length xs ≤ from + b) → get_or (take count (drop from xs)) b 0 ≡ get_or xs (from + b) 0
-piece_word xs from count b ends = elim (cases_lt b count) [
-  | inl here ↦ get_or-take count (drop from xs) b 0 here ∙ get_or-drop from xs b 0
-  | inr past ↦ get_or_past (take count (drop from xs)) b 0 (let h = length-take count (drop from xs) in omega (arith, h, past)) ∙ sym (get_or_past xs (from + b) 0 (ends past))
-]

@@ -9,7 +9,8 @@ pub mod Comparing
 pub mod Equality
 pub mod Ending
 pub mod Ends
-pub mod Pushing
+pub mod Testing
+pub mod Tabling
 pub mod Lengths
 pub mod Sizes
 pub mod Ranging

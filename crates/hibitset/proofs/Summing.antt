@@ -1,5 +1,5 @@
 -- One word is changed, and the summaries over it are set right from the lowest up.
-use Rattle.std.proofs.Common.{◌≡◌, ◌≢◌, ℕ, ◌+◌, ◌-◌, ◌*◌, ◌/◌, ◌%◌, ◌<◌, ◌≤◌, ◌==◌, not, ◌↔◌, List, take, drop, get_or, length, min, ◌∙◌, ap, arith, inl, inr}
+use Rattle.std.proofs.Common.{◌≡◌, ◌≢◌, ℕ, ◌+◌, ◌*◌, ◌/◌, ◌%◌, ◌<◌, ◌≤◌, ◌==◌, not, ◌↔◌, List, get_or, ◌∙◌, ap, arith, inl, inr}
 use Rattle.std.specs.Int.{bit_at}
 use Rattle.std.proofs.lemmas.Nat.Bits.{bit_at-zero}
 use Rattle.hibitset_base.specs.Deciding.{same_or_not, some_bit}
@@ -7,7 +7,6 @@ use Rattle.hibitset_base.specs.Sets.{bit_of}
 use Rattle.hibitset_base.specs.Words.{IsSummed}
 use Rattle.hibitset.specs.Merging.{Summarizes}
 use Rattle.hibitset.specs.Laying.{IsSummedBut}
-use Rattle.hibitset.proofs.Laying.{piece_word}
 
 -- the bit over word q of layer k tells whether that word is 0
 abbrev pub Tells : (ℕ → ℕ → ℕ) → ℕ → ℕ → Type 0
@@ -98,14 +97,9 @@ but_top n k q v top but = record { summed = λ l p b below small. but.off l p b 
 pub summary_same : (u v : ℕ → ℕ) (p a b : ℕ) → ((q : ℕ) → u q ≡ v q) → a ≡ b → Summarizes v p b → Summarizes u p a
 summary_same u v p a b same is summary = record { bits = λ i small. rw (is, same (64 * p + i)) (summary.bits i small) }
 
--- the summary of a piece is that of the words there
-pub summed_piece : (below : List ℕ) (words : ℕ → ℕ) (place count summary : ℕ) → ((p : ℕ) → get_or below p 0 ≡ words p) → count ≡ min (length below) (64 * place + 64) - 64 * place
-    → ((b : ℕ) → b < 64 → (bit_at summary b ≡ 1) ↔ (0 < get_or (take count (drop (64 * place) below)) b 0)) → Summarizes words place summary
-summed_piece below words place count summary same is bits = record {
-  bits = λ b small.
-      let at : get_or (take count (drop (64 * place) below)) b 0 ≡ words (64 * place + b) = piece_word below (64 * place) count b (λ past. omega (arith, is, small, past)) ∙ same (64 * place + b) in
-      rw at at (bits b small);
-}
+-- the summary of the words of a list from a place on is that of the words that it has
+pub summed_list : (below : List ℕ) (words : ℕ → ℕ) (place summary : ℕ) → ((p : ℕ) → get_or below p 0 ≡ words p) → ((b : ℕ) → b < 64 → (bit_at summary b ≡ 1) ↔ (0 < get_or below (64 * place + b) 0)) → Summarizes words place summary
+summed_list below words place summary same is = record { bits = λ b small. rw (same (64 * place + b)) at (is b small) }
 
 -- past the end of its layer a word is 0, and so are those below
 pub none_past : (words : ℕ → ℕ) (p summary : ℕ) → summary ≡ 0 → ((b : ℕ) → b < 64 → words (64 * p + b) ≡ 0) → Summarizes words p summary

@@ -145,22 +145,46 @@ fn move_layers(
     }
 }
 
-// The summary of up to 64 words: the bit of each that is not 0. Each bit comes in at the top, and the later ones push it down to its place.
+// The words of one bit each, from bit 0 up.
+const ONE_BIT: [usize; 64] = [
+    1, 1 << 1, 1 << 2, 1 << 3, 1 << 4, 1 << 5, 1 << 6, 1 << 7,
+    1 << 8, 1 << 9, 1 << 10, 1 << 11, 1 << 12, 1 << 13, 1 << 14, 1 << 15,
+    1 << 16, 1 << 17, 1 << 18, 1 << 19, 1 << 20, 1 << 21, 1 << 22, 1 << 23,
+    1 << 24, 1 << 25, 1 << 26, 1 << 27, 1 << 28, 1 << 29, 1 << 30, 1 << 31,
+    1 << 32, 1 << 33, 1 << 34, 1 << 35, 1 << 36, 1 << 37, 1 << 38, 1 << 39,
+    1 << 40, 1 << 41, 1 << 42, 1 << 43, 1 << 44, 1 << 45, 1 << 46, 1 << 47,
+    1 << 48, 1 << 49, 1 << 50, 1 << 51, 1 << 52, 1 << 53, 1 << 54, 1 << 55,
+    1 << 56, 1 << 57, 1 << 58, 1 << 59, 1 << 60, 1 << 61, 1 << 62, 1 << 63,
+];
+
+// The summary of up to 64 words: the bit of each that is not 0. It comes from a table, since a loop that shifts by a count does not go by vectors.
 #[inline]
 fn summary_of(words: &[usize]) -> usize
     requires { length words.now ≤ 64 }
     ensures { (b : ℕ) → b < 64 → (bit_at result b ≡ 1) ↔ (0 < get_or words.now b 0) }
 {
-    if words.is_empty() {
-        return 0;
-    }
     let mut summary = 0;
     let mut at = 0;
     while at < words.len() {
-        summary = summary >> 1 | usize::from(words[at] != 0) << 63;
+        if words[at] != 0 {
+            summary |= ONE_BIT[at];
+        }
         at += 1;
     }
-    summary >> (64 - words.len())
+    summary
+}
+
+// The summary of the 64 words from a place on, or of those that are left. The 64 have a call of their own, whose loop is unrolled.
+#[inline]
+fn summary_at(words: &[usize], start: usize) -> usize
+    requires { start ≤ length words.now }
+    ensures { (b : ℕ) → b < 64 → (bit_at result b ≡ 1) ↔ (0 < get_or words.now (start + b) 0) }
+{
+    if words.len() - start < 64 {
+        summary_of(&words[start..])
+    } else {
+        summary_of(&words[start..start + 64])
+    }
 }
 
 // Tells whether a word turns from 0 or to 0 as one of its bits is set or cleared: it is 0 before the one, and after the other.
@@ -242,9 +266,7 @@ impl Layers {
     {
         let mut place = 0;
         while place < self.slice(layer).len() {
-            let below = self.slice(layer - 1);
-            let end = below.len().min(64 * place + 64);
-            let word = summary_of(&below[64 * place..end]);
+            let word = summary_at(self.slice(layer - 1), 64 * place);
             self.put(layer, place, word);
             place += 1;
         }

@@ -8,6 +8,7 @@ use Rattle.hibitset_atomic.specs.Pasts.{some_in, bits, Walk, read_word, read_fir
 use Rattle.hibitset_atomic.specs.Lists.{Has}
 use Rattle.hibitset_atomic.specs.Honest.{is_finished, finished_before, items_in, WasThere, IsHonest}
 use Rattle.hibitset_atomic.proofs.Spans.{true_or_false, members-has, members-holds, members-between, between-has, between-wider, ranges-le, has-append, has-left, has-right}
+use Rattle.hibitset_atomic.proofs.Lists.{contains-from_has, has-from_contains}
 use Rattle.hibitset_atomic.proofs.Standing.{eq_true, summary, stands-stays, path-stands, finished-stays}
 use Rattle.hibitset_atomic.proofs.WordReads.{Sane, sane-more, sane_items, sane_places, zero_or_more, first_layer, not_nil}
 
@@ -211,7 +212,7 @@ walks_there n old (Read number ∷ past) w layers = λ i h. elim (true_or_false 
       let h2 : Has (items_in (reads_on (stands old past) (walk_of n old past w))) i = (let k = rw same at h in k) in
       elim (on_items n (stands old past) (walk_of n old past w) i (walks_sane n old past w layers) h2) [
         | inl was ↦ inr (walks_there n old past w layers i was)
-        | inr new ↦ inl (eq_true number w same, new.0, h, new.1)
+        | inr new ↦ inl (eq_true number w same, (λ was. new.0 (has-from_contains (items_in (walk_of n old past w)) i was)), contains-from_has (items_in (walk_of n old (Read number ∷ past) w)) i h, new.1)
       ]
   | inr other ↦ inr (walks_there n old past w layers i (let k = rw other at h in k))
 ]
@@ -230,6 +231,6 @@ honest n old past w walk layers e =
     let there = subst (AllThere n old past w) e (walks_there n old past w layers) in
     record {
       ascending = between-wider 0 sane.middle (64 ^ n) walk.items (ranges-le sane.middle (64 ^ n) walk.left sane.ranges) sane.given;
-      there = there;
-      complete = λ none i below h. elim (covers i below h) [ inl has ↦ has | inr leads ↦ absurd (no_leads walk.left i none leads) ];
+      there = λ i has. there i (has-from_contains walk.items i has);
+      complete = λ none i below h. elim (covers i below h) [ inl has ↦ contains-from_has walk.items i has | inr leads ↦ absurd (no_leads walk.left i none leads) ];
     }

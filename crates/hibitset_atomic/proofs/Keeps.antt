@@ -378,6 +378,15 @@ module _ (old : List ℕ) (id : ℕ) (v : View) (ws front : List ℕ) (s : State
   pub front_reported : (i : ℕ) → Has v.reports i → Lit front i
   front_reported i k = let t = (h.2 id v e).0.0 i k in to_front i t.2 t.0
 
+  pub report_below : (i : ℕ) → Has v.reports i → i < ATOMIC_MAX_EID
+  report_below i k = ((h.2 id v e).0.0 i k).2
+
+  pub report_new : (i : ℕ) → Has v.reports i → ¬ Lit old i
+  report_new i k = ((h.2 id v e).0.0 i k).1
+
+  pub reports_once : Distinct v.reports
+  reports_once = (h.2 id v e).0.1
+
   pub front_whole : length v.shares ≡ SHARES → (i : ℕ) → i < ATOMIC_MAX_EID → Lit front i → ((i < ATOMIC_MAX_EID) × Lit old i) ⊎ Has v.reports i
   front_whole all i lt k = ⊎_elim (λ o. inl (lt, o)) (λ r. inr r) (whole old s id v h e all i lt (from_front i lt k))
 

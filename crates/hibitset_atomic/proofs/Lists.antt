@@ -1,5 +1,7 @@
 -- Lists of numbers: members, and how many there can be.
-use Rattle.std.proofs.Common.{◌≡◌, ◌≢◌, ◌⊎◌, inl, inr, ⊎_elim, ℕ, zero, suc, ◌<◌, ◌≤◌, List, [], ◌∷◌, ◌++◌, length, take, drop, sym, refl, ap, ◌∙◌, subst, arith}
+use Rattle.std.proofs.Common.{◌≡◌, ◌≢◌, ◌⊎◌, inl, inr, ⊎_elim, ℕ, zero, suc, ◌<◌, ◌≤◌, List, [], ◌∷◌, ◌++◌, length, false, nat_eq, Contains, take, drop, sym, refl, ap, ◌∙◌, subst, arith}
+use Rattle.std.specs.List.{IsDistinct, AllByRecursion}
+use Rattle.std.proofs.lemmas.Bool.Decides.{nat_tests}
 use native.Mathlib.Decide.{ℕ_discrete}
 use Rattle.hibitset_atomic.specs.Lists.{Has, Distinct, Apart, below}
 
@@ -85,3 +87,41 @@ pub take_drop : (n : ℕ) (xs : List ℕ) → Distinct xs → Distinct (drop n x
 take_drop zero xs d = (d, tt, λ x h k. k)
 take_drop (suc n) [] d = (tt, tt, λ x h k. h)
 take_drop (suc n) (y ∷ ys) d = let t = take_drop n ys d.1 in (t.0, (λ h. d.0 (has_take n ys y h), t.1), λ x h k. ⊎_elim (λ (e : x ≡ y). d.0 (subst (Has ys) e (has_drop n ys x h))) (λ k'. t.2 x h k') k)
+
+-- The same in std's words.
+pub contains-from_has : (xs : List ℕ) (x : ℕ) → Has xs x → Contains xs x
+contains-from_has [] x h = absurd h
+contains-from_has (y ∷ ys) x h = elim h [
+  | inl e ↦ (0, omega arith, sym e)
+  | inr later ↦ let there = contains-from_has ys x later in (suc there.0, (let within = there.1 in omega (arith, within)), there.2)
+]
+
+pub has-from_contains : (xs : List ℕ) (x : ℕ) → Contains xs x → Has xs x
+has-from_contains [] x h = absurd (let within = h.1 in omega (arith, within))
+has-from_contains (y ∷ ys) x (zero, within, e) = inl (sym e)
+has-from_contains (y ∷ ys) x (suc k, within, e) = inr (has-from_contains ys x (k, omega arith, e))
+
+others-from : (x : ℕ) (ys : List ℕ) → ¬ Has ys x → AllByRecursion (λ y. nat_eq x y ≡ false) ys
+others-from x [] none = tt
+others-from x (y ∷ ys) none = (let other : x ≢ y = λ e. none (inl e) in grind (arith, nat_tests), others-from x ys (λ h. none (inr h)))
+
+none-from : (x : ℕ) (ys : List ℕ) → AllByRecursion (λ y. nat_eq x y ≡ false) ys → ¬ Has ys x
+none-from x [] others = λ h. h
+none-from x (y ∷ ys) others = λ h. elim h [
+  | inl e ↦ (let test = others.0 in grind (arith, nat_tests))
+  | inr later ↦ none-from x ys others.1 later
+]
+
+pub is_distinct-from : (xs : List ℕ) → Distinct xs → IsDistinct nat_eq xs
+unfolding IsDistinct
+is_distinct-from [] d = tt
+is_distinct-from (x ∷ xs) d = (others-from x xs d.0, is_distinct-from xs d.1)
+
+pub distinct-from : (xs : List ℕ) → IsDistinct nat_eq xs → Distinct xs
+unfolding IsDistinct
+distinct-from [] d = tt
+distinct-from (x ∷ xs) d = (none-from x xs d.0, distinct-from xs d.1)
+
+-- distinct numbers below n are at most n, in std's words
+pub few_below : (n : ℕ) (xs : List ℕ) → IsDistinct nat_eq xs → ((x : ℕ) → Contains xs x → x < n) → length xs ≤ n
+few_below n xs once all = fits n xs (distinct-from xs once) (λ x there. all x (contains-from_has xs x there))

@@ -64,6 +64,9 @@ looked p n v w t = (grew_to p n v w (loading v.0) t.0 t.1 refl refl (λ x h. h),
 pub looked_once : (p n : ℕ) (v w : Me (Unit {0}) View) → Looks_at p v n w → Distinct w.0.reports
 looked_once p n v w t = subst (λ (x : View). Distinct x.reports) (sym t.1) t.2.2.0.1
 
+pub looked_honest : (p n : ℕ) (v w : Me (Unit {0}) View) → Looks_at p v n w → (i : ℕ) → Has w.0.reports i → ¬ Lit w.0.old i
+looked_honest p n v w t i h = subst (λ (x : View). ¬ Lit x.old i) (sym t.1) (t.2.2.0.0 i (subst (λ (x : View). Has x.reports i) t.1 h)).1
+
 pub look_stands : (m n : ℕ) (v w : Me (Unit {0}) View) → Looks_at (m / 64) v n w → bit_at n (m % 64) ≡ 1 → Has w.0.seen m
 look_stands m n v w t o = subst (λ x. Has x.seen m) (sym t.1) (has_left (marks (m / 64) n 64) v.0.seen m (has_marks (m / 64) n 64 m refl (omega arith) o))
 

@@ -1,9 +1,8 @@
 -- What is said of every past.
-use Rattle.std.specs.Prelude.{◌≡◌, ℕ, suc, ◌+◌, ◌-◌, ◌*◌, ◌^◌, ◌<◌, ◌≤◌, Bool, true, false, cond, ◌&&◌, ◌||◌, not, ◌==◌, List, [], ◌∷◌, Option, Some, None, ◌⊎◌}
+use Rattle.std.specs.Prelude.{◌≡◌, ℕ, suc, ◌+◌, ◌-◌, ◌*◌, ◌^◌, ◌<◌, ◌≤◌, Bool, true, false, cond, ◌&&◌, ◌||◌, not, ◌==◌, List, [], ◌∷◌, Option, Some, None, ◌⊎◌, Contains}
 use Rattle.hibitset_atomic.specs.declared.steps.event.Event.{Event}
 use Rattle.hibitset_atomic.specs.declared.steps.event.Event.TheVariants.{Begin, Step, Open, Read}
 use Rattle.hibitset_atomic.specs.declared.steps.calls.Call.{Call}
-use Rattle.hibitset_atomic.specs.Lists.{Has}
 use Rattle.hibitset_base.specs.Sets.{bit_of}
 use Rattle.hibitset_base.specs.Places.{Place}
 use Rattle.hibitset_atomic.specs.Pasts.{some_in, call_of, passes, has_passed, is_there, stands, Walk, walk_of}
@@ -38,7 +37,7 @@ abbrev pub Comes : ℕ → (ℕ → Bool) → List Event → Event → ℕ → �
 Comes n old past (Begin number index) w i = ⊥
 Comes n old past (Step number) w i = ⊥
 Comes n old past (Open number) w i = ⊥
-Comes n old past (Read number) w i = (number ≡ w) × (Has (items_in (walk_of n old past w)) i → ⊥) × Has (items_in (walk_of n old (Read number ∷ past) w)) i × (stands old past 0 i ≡ true)
+Comes n old past (Read number) w i = (number ≡ w) × (¬ Contains (items_in (walk_of n old past w)) i) × Contains (items_in (walk_of n old (Read number ∷ past) w)) i × (stands old past 0 i ≡ true)
 
 -- the index was old or written when the walk read it
 abbrev pub WasThere : ℕ → (ℕ → Bool) → List Event → ℕ → ℕ → Type 0
@@ -48,8 +47,8 @@ WasThere n old (e ∷ past) w i = Comes n old past e w i ⊎ WasThere n old past
 -- A walk in a past is honest.
 pub record IsHonest (n : ℕ) (old : ℕ → Bool) (past : List Event) (w : ℕ) (walk : Walk) : Type 0 where
   pub ascending : Between 0 (64 ^ n) walk.items
-  pub there : (i : ℕ) → Has walk.items i → WasThere n old past w i
-  pub complete : walk.left ≡ [] → (i : ℕ) → i < 64 ^ n → finished_before n old past w i ≡ true → Has walk.items i
+  pub there : (i : ℕ) → Contains walk.items i → WasThere n old past w i
+  pub complete : walk.left ≡ [] → (i : ℕ) → i < 64 ^ n → finished_before n old past w i ≡ true → Contains walk.items i
 
 -- every word that is left lies in a layer at or above one, and each next one at or above it
 abbrev pub Rises : ℕ → List Place → Type 0

@@ -2,9 +2,9 @@
 //!
 //! `AtomicBitSet::share` gives the set and a seat; `divide` gives seats for further threads, each of which adds and asks with its own; `join` puts seats together, and `settle` ends it. A call on the shared set takes no lock and tries nothing again: it makes at most eleven atomic steps, each of them sequentially consistent. Loads and exchanges are counted where the words are touched, and its seat tells how many it has made (`loads_by`, `exchanges_by`).
 
-ghost use Rattle.std.specs.Prelude.{◌≡◌, ◌≢◌, ℕ, ◌+◌, ◌-◌, ◌*◌, ◌/◌, ◌<◌, ◌≤◌, ◌⊎◌, true, false, [], ◌∷◌, ◌++◌, length, slice_index, IsOk, IfOk, IfSome, IsNone, IfErr, ◌↔◌};
+ghost use Rattle.std.specs.Prelude.{◌≡◌, ◌≢◌, ℕ, ◌+◌, ◌-◌, ◌*◌, ◌/◌, ◌<◌, ◌≤◌, ◌⊎◌, true, false, [], ◌∷◌, ◌++◌, length, slice_index, nat_eq, Contains, IsOk, IfOk, IfSome, IsNone, IfErr, ◌↔◌};
 ghost use Rattle.std.specs.Slots.{slots_items, slots_len, IsFull};
-ghost use Rattle.hibitset_atomic.specs.Lists.{Has, Apart, Distinct};
+ghost use Rattle.std.specs.List.{IsDistinct};
 ghost use Rattle.hibitset_atomic.specs.AtomicBitSet.{has, word_of, HasAllRoom};
 ghost use Rattle.hibitset_atomic.specs.Blocks.{HasRoom};
 ghost use Rattle.hibitset_atomic.specs.Row.{word_in_row};
@@ -126,7 +126,7 @@ impl SharedBitSet {
         ensures known { Known seat.new id × ((i : ℕ) → Known seat.old i → Known seat.new i) }
         ensures there { result ≡ true → reports_of seat.new ≡ reports_of seat.old }
         ensures new { result ≡ false → (reports_of seat.new ≡ id ∷ reports_of seat.old) × ¬ IsOld self.now id × ¬ Known seat.old id }
-        ensures once { result ≡ false → ¬ Has (reports_of seat.old) id }
+        ensures once { result ≡ false → ¬ Contains (reports_of seat.old) id }
         ensures loads { loads_by seat.new ≤ loads_by seat.old + (2 * ATOMIC_LAYERS - 1) }
         ensures exchanges { exchanges_by seat.new ≤ exchanges_by seat.old + ATOMIC_LAYERS }
         ensures still { IsOld self.now id ⊎ Known seat.old id → (loads_by seat.new ≤ loads_by seat.old + ATOMIC_LAYERS) × (exchanges_by seat.new ≡ exchanges_by seat.old) }
@@ -220,9 +220,9 @@ impl SharedBitSet {
         ensures came { Came self.now result }
         ensures weight { (weight_of result ≡ weight_of a + weight_of b) × (weight_of a + weight_of b ≤ SHARES) }
         ensures reports { reports_of result ≡ reports_of a ++ reports_of b }
-        ensures apart { Apart (reports_of a) (reports_of b) }
-        ensures once { Distinct (reports_of result) }
-        ensures honest { (i : ℕ) → Has (reports_of result) i → ¬ IsOld self.now i }
+        ensures apart { (i : ℕ) → Contains (reports_of a) i → ¬ Contains (reports_of b) i }
+        ensures once { IsDistinct nat_eq (reports_of result) }
+        ensures honest { (i : ℕ) → Contains (reports_of result) i → ¬ IsOld self.now i }
         ensures known { (i : ℕ) → Known a i ⊎ Known b i → Known result i }
         ensures steps { (loads_by result ≡ loads_by a + loads_by b + 1) × (exchanges_by result ≡ exchanges_by a + exchanges_by b) }
     {
@@ -252,10 +252,10 @@ impl SharedBitSet {
         ensures exact { IfOk result (λ set. IsSummed ATOMIC_LAYERS (word_of set)) }
         ensures old { IfOk result (λ set. (i : ℕ) → IsOld self i → has set i ≡ true) }
         ensures known { IfOk result (λ set. (i : ℕ) → Known seat i → has set i ≡ true) }
-        ensures reported { IfOk result (λ set. (i : ℕ) → Has (reports_of seat) i → has set i ≡ true) }
+        ensures reported { IfOk result (λ set. (i : ℕ) → Contains (reports_of seat) i → has set i ≡ true) }
         ensures all { IfOk result (λ set. HasAllReports self seat (has set)) }
-        ensures whole { IfOk result (λ set. weight_of seat ≡ SHARES → (i : ℕ) → has set i ≡ true → IsOld self i ⊎ Has (reports_of seat) i) }
-        ensures once { IsOk result → Distinct (reports_of seat) × ((i : ℕ) → Has (reports_of seat) i → ¬ IsOld self i) }
+        ensures whole { IfOk result (λ set. weight_of seat ≡ SHARES → (i : ℕ) → has set i ≡ true → IsOld self i ⊎ Contains (reports_of seat) i) }
+        ensures once { IsOk result → IsDistinct nat_eq (reports_of seat) × ((i : ℕ) → Contains (reports_of seat) i → ¬ IsOld self i) }
         ensures room { IfOk result (λ set. HasAllRoom set) }
     {
         let Ok(mut set) = AtomicBitSet::with_room(self.alloc) else {

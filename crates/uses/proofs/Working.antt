@@ -6,10 +6,8 @@ use Rattle.std.proofs.lemmas.List.Concat.{flat_map-cons}
 use Rattle.std.proofs.lemmas.List.{get_or_append_left}
 use Rattle.std.proofs.Math.Seq.{get_or-append_seam}
 use Rattle.std.proofs.lemmas.List.Elements.{All-cons, Contains-append_left, Contains-append_right, Contains-append_cases}
-use Rattle.hibitset_atomic.proofs.Lists.{has_split}
 use Rattle.hibitset_atomic.specs.declared.atomic.TheConstants.{ATOMIC_MAX_EID}
 use Rattle.hibitset_atomic.specs.declared.shared.parts.SharedBitSet.{SharedBitSet}
-use Rattle.hibitset_atomic.specs.Lists.{Has}
 use Rattle.hibitset_atomic.specs.Seats.{Known, weight_of}
 use Rattle.uses.specs.declared.workers.Job.{Job}
 use Rattle.uses.specs.declared.workers.Work.{Work}
@@ -37,8 +35,8 @@ contained_at (x ∷ xs) i (suc k, below, same) = let t = contained_at xs i (k, o
 
 -- ---- the reports of two
 
-pub range_of_both : (a b both : List ℕ) → both ≡ a ++ b → ((i : ℕ) → Has a i → i < ATOMIC_MAX_EID) → ((i : ℕ) → Has b i → i < ATOMIC_MAX_EID) → (i : ℕ) → Has both i → i < ATOMIC_MAX_EID
-range_of_both a b both same first second i h = elim (has_split a b i (subst (λ r. Has r i) same h)) [ inl before ↦ first i before | inr after ↦ second i after ]
+pub range_of_both : (a b both : List ℕ) → both ≡ a ++ b → ((i : ℕ) → Contains a i → i < ATOMIC_MAX_EID) → ((i : ℕ) → Contains b i → i < ATOMIC_MAX_EID) → (i : ℕ) → Contains both i → i < ATOMIC_MAX_EID
+range_of_both a b both same first second i h = elim (Contains-append_cases a b i (subst (λ r. Contains r i) same h)) [ inl before ↦ first i before | inr after ↦ second i after ]
 
 pub number_of_both : (a b both : List ℕ) (m n : ℕ) → both ≡ a ++ b → m ≡ length a → n ≡ length b → m + n ≡ length both
 number_of_both a b both m n same first second = let k = ap length same in let l = length-append a b in omega (arith, k, l, first, second)
@@ -85,13 +83,13 @@ module _ (set : SharedBitSet) where
         | inr there ↦ any_there P w works (listed_known jobs works i each.1 range there)
       ]
 
-  pub reported_listed : (jobs : List Job) (works : List Work) (i : ℕ) → AllZip (IsWorkOf set) jobs works → Has (flat_map new_reports works) i → Contains (flat_map list_of jobs) i × (i < ATOMIC_MAX_EID)
-  reported_listed [] [] i each h = absurd h
+  pub reported_listed : (jobs : List Job) (works : List Work) (i : ℕ) → AllZip (IsWorkOf set) jobs works → Contains (flat_map new_reports works) i → Contains (flat_map list_of jobs) i × (i < ATOMIC_MAX_EID)
+  reported_listed [] [] i each h = absurd (let k = h.1 in omega (arith, k))
   reported_listed [] (w ∷ works) i each h = absurd each
   reported_listed (j ∷ jobs) [] i each h = absurd each
   reported_listed (j ∷ jobs) (w ∷ works) i each h =
-      let parts : Has (new_reports w ++ flat_map new_reports works) i = rw (sym (flat_map-cons new_reports w works)) h in
-      rw (flat_map-cons list_of j jobs) (elim (has_split (new_reports w) (flat_map new_reports works) i parts) [
+      let parts : Contains (new_reports w ++ flat_map new_reports works) i = rw (sym (flat_map-cons new_reports w works)) h in
+      rw (flat_map-cons list_of j jobs) (elim (Contains-append_cases (new_reports w) (flat_map new_reports works) i parts) [
         | inl here ↦ (Contains-append_left (list_of j) (flat_map list_of jobs) i (each.0.reported i here), each.0.sound.2 i here)
         | inr there ↦ let t = reported_listed jobs works i each.1 there in (Contains-append_right (list_of j) (flat_map list_of jobs) i t.0, t.1)
       ])

@@ -1,12 +1,11 @@
 -- Lists that workers put into a set.
-use Rattle.std.specs.Prelude.{◌≡◌, ◌↔◌, ℕ, ◌<◌, Bool, true, List, [], length, Contains, Vec}
-use Rattle.std.specs.List.{flat_map}
+use Rattle.std.specs.Prelude.{◌≡◌, ◌↔◌, ℕ, ◌<◌, Bool, true, List, [], length, nat_eq, Contains, Vec}
+use Rattle.std.specs.List.{flat_map, IsDistinct}
 use Rattle.hibitset_atomic.specs.declared.atomic.TheConstants.{ATOMIC_MAX_EID}
 use Rattle.hibitset_atomic.specs.declared.shared.sizes.TheConstants.{SHARES}
 use Rattle.hibitset_atomic.specs.declared.atomic.AtomicBitSet.{AtomicBitSet}
 use Rattle.hibitset_atomic.specs.declared.shared.parts.Seat.{Seat}
 use Rattle.hibitset_atomic.specs.declared.shared.parts.SharedBitSet.{SharedBitSet}
-use Rattle.hibitset_atomic.specs.Lists.{Has, Distinct}
 use Rattle.hibitset_atomic.specs.Seats.{IsOld, Came, Known, weight_of, reports_of}
 use Rattle.std.specs.declared.alloc.Global.{Global}
 use Rattle.uses.specs.declared.workers.Job.{Job}
@@ -20,7 +19,7 @@ IsListed lists i = Contains (flat_map (λ list. list.items) lists) i × (i < ATO
 
 -- so many indices are new: as many as there are in a list of them, each once
 abbrev pub IsNumberOfNew : (ℕ → Type 0) → (ℕ → Bool) → ℕ → Type 0
-IsNumberOfNew old members n = (fresh : List ℕ) × (length fresh ≡ n) × Distinct fresh × ((i : ℕ) → Has fresh i ↔ ((members i ≡ true) × ¬ old i))
+IsNumberOfNew old members n = (fresh : List ℕ) × (length fresh ≡ n) × IsDistinct nat_eq fresh × ((i : ℕ) → Contains fresh i ↔ ((members i ≡ true) × ¬ old i))
 
 -- the set was shared with these old members, and the seat came from it
 abbrev pub IsShared : (ℕ → Type 0) → SharedBitSet → Seat → Type 0
@@ -47,11 +46,11 @@ IsJob set job = Came set job.seat × (reports_of job.seat ≡ [])
 
 -- a worker's seat came from the set, its reports are counted and lie in range
 abbrev pub IsWork : SharedBitSet → Work → Type 0
-IsWork set work = Came set work.seat × (work.new ≡ length (reports_of work.seat)) × ((i : ℕ) → Has (reports_of work.seat) i → i < ATOMIC_MAX_EID)
+IsWork set work = Came set work.seat × (work.new ≡ length (reports_of work.seat)) × ((i : ℕ) → Contains (reports_of work.seat) i → i < ATOMIC_MAX_EID)
 
 -- the worker knows each index of its list that lies in range, and has reported no others
 pub record IsWorkOf (set : SharedBitSet) (job : Job) (work : Work) : Type 0 where
   pub sound : IsWork set work
   pub weight : weight_of work.seat ≡ weight_of job.seat
   pub known : (i : ℕ) → Contains job.list.items i → i < ATOMIC_MAX_EID → Known work.seat i
-  pub reported : (i : ℕ) → Has (reports_of work.seat) i → Contains job.list.items i
+  pub reported : (i : ℕ) → Contains (reports_of work.seat) i → Contains job.list.items i

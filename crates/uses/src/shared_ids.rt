@@ -1,7 +1,6 @@
 //! Identifiers that many threads take from one set, none of them twice.
-ghost use Rattle.std.specs.Prelude.{◌≡◌, ◌⊎◌, ℕ, ◌+◌, ◌<◌, ◌≤◌, ◌∷◌, [], true, IfSome, IfNone, length, reverse};
+ghost use Rattle.std.specs.Prelude.{◌≡◌, ◌⊎◌, ℕ, ◌+◌, ◌<◌, ◌≤◌, ◌∷◌, [], true, Contains, IfSome, IfNone, length, reverse};
 ghost use Rattle.hibitset_atomic.specs.declared.atomic.TheConstants.{ATOMIC_MAX_EID};
-ghost use Rattle.hibitset_atomic.specs.Lists.{Has};
 ghost use Rattle.hibitset_atomic.specs.Seats.{IsOld, Came, Known, weight_of, reports_of};
 
 use hibitset::{ATOMIC_MAX_EID, Index, Seat, SharedBitSet};
@@ -23,7 +22,7 @@ pub fn take_fresh(set: &SharedBitSet, seat: &mut Seat, start: Index, tries: u32)
     ensures came { Came set.now seat.new × (weight_of seat.new ≡ weight_of seat.old) }
     ensures known { (i : ℕ) → Known seat.old i → Known seat.new i }
     ensures within { IfSome result (λ id. (start ≤ id) × (id < start + tries) × (id < ATOMIC_MAX_EID)) }
-    ensures fresh { IfSome result (λ id. ¬ IsOld set.now id × ¬ Known seat.old id × ¬ Has (reports_of seat.old) id) }
+    ensures fresh { IfSome result (λ id. ¬ IsOld set.now id × ¬ Known seat.old id × ¬ Contains (reports_of seat.old) id) }
     ensures given { IfSome result (λ id. reports_of seat.new ≡ id ∷ reports_of seat.old) }
     ensures first { IfSome result (λ id. (i : ℕ) → start ≤ i → i ≤ id → Known seat.new i) }
     ensures none { IfNone result (reports_of seat.new ≡ reports_of seat.old) }

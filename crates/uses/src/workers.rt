@@ -4,7 +4,6 @@ ghost use Rattle.std.specs.List.{sum_by, flat_map, AllZip};
 ghost use Rattle.hibitset_atomic.specs.declared.atomic.TheConstants.{ATOMIC_MAX_EID};
 ghost use Rattle.hibitset_atomic.specs.declared.shared.sizes.TheConstants.{SHARES};
 ghost use Rattle.hibitset_atomic.specs.AtomicBitSet.{has};
-ghost use Rattle.hibitset_atomic.specs.Lists.{Has};
 ghost use Rattle.hibitset_atomic.specs.Seats.{IsOld, Came, Known, weight_of, reports_of};
 ghost use Rattle.uses.specs.Workers.{IsJob, IsWork, IsWorkOf, IsListed, IsNumberOfNew, IsLeft, list_of, seat_weight, new_reports};
 
@@ -51,7 +50,7 @@ fn add_list(set: &SharedBitSet, seat: &mut Seat, list: &[Index]) -> usize
     ensures came { Came set.now seat.new × (weight_of seat.new ≡ weight_of seat.old) }
     ensures new { result ≡ length (reports_of seat.new) }
     ensures known { (i : ℕ) → Contains list.now i → i < ATOMIC_MAX_EID → Known seat.new i }
-    ensures reported { (i : ℕ) → Has (reports_of seat.new) i → (i < ATOMIC_MAX_EID) × Contains list.now i }
+    ensures reported { (i : ℕ) → Contains (reports_of seat.new) i → (i < ATOMIC_MAX_EID) × Contains list.now i }
 {
     let mut new = 0;
     for id in list {

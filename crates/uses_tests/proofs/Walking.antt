@@ -12,6 +12,7 @@ use Rattle.hibitset_atomic.specs.declared.steps.event.Event.{Event}
 use Rattle.hibitset_atomic.specs.declared.steps.event.Event.TheVariants.{Begin, Step, Open, Read}
 use Rattle.hibitset_atomic.specs.declared.steps.event.Reply.TheVariants.{Word}
 use Rattle.hibitset_atomic.specs.Lists.{Has}
+use Rattle.hibitset_atomic.proofs.Lists.{contains-from_has, has-from_contains}
 use Rattle.hibitset_atomic.specs.Pasts.{some_in, has_passed, is_there, stands, Walk, new_walk, bits, read_word, read_first, reads_on, walk_of}
 use Rattle.hibitset_atomic.specs.Honest.{Between, IsFirst, IsNext, is_finished, finished_before, WasThere, IsWithin, HasBits}
 use Rattle.hibitset_atomic.specs.Replies.{IsWord, ReadAnswer}
@@ -21,18 +22,6 @@ use Rattle.hibitset_atomic.proofs.After.{stands-lowest}
 use Rattle.uses_tests.specs.Turns.{items_or_none, reads_or_none, left_or_none, HasLeaf}
 
 -- ---- lists
-
-pub has_it : (xs : List ℕ) (i : ℕ) → Contains xs i → Has xs i
-has_it [] i h = absurd (let k = h.1 in omega (arith, k))
-has_it (x ∷ xs) i (zero, below, e) = inl (sym e)
-has_it (x ∷ xs) i (suc k, below, e) = inr (has_it xs i (k, omega arith, e))
-
-pub contains_it : (xs : List ℕ) (i : ℕ) → Has xs i → Contains xs i
-contains_it [] i h = absurd h
-contains_it (x ∷ xs) i h = elim h [
-  | inl e ↦ (0, omega arith, sym e)
-  | inr later ↦ let c = contains_it xs i later in (suc c.0, (let k = c.1 in omega (arith, k)), c.2)
-]
 
 pub increasing : (a b : ℕ) (xs : List ℕ) → Between a b xs → IsStrictlyIncreasing xs
 increasing a b [] h k below = absurd (omega arith)
@@ -124,8 +113,8 @@ module _ (old : ℕ → Bool) (past : List Event) (word : ℕ) (ended : Bool) wh
 
   pub read_holds : (walk : Option Walk) → ReadAnswer old past walk (Word word ended) → (i : ℕ) → Contains (items_or_none (reads_on (stands old past) walk)) i → Contains (items_or_none walk) i ⊎ (bit_at word (i % 64) ≡ 1)
   read_holds None h i c = absurd h
-  read_holds (Some v) h i c = elim (items_after v v.left i h.0 (has_it (read_first (stands old past) v.items v.reads v.left).items i c)) [
-    | inl before ↦ inl (contains_it v.items i before)
+  read_holds (Some v) h i c = elim (items_after v v.left i h.0 (has-from_contains (read_first (stands old past) v.items v.reads v.left).items i c)) [
+    | inl before ↦ inl (contains-from_has v.items i before)
     | inr bit ↦ inr bit
   ]
 

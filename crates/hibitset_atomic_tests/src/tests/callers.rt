@@ -1,8 +1,8 @@
 //! Callers of the shared set, who prove what their contracts say from the public clauses alone.
-ghost use Rattle.std.specs.Prelude.{◌≡◌, ℕ, ◌+◌, ◌≤◌, ◌⊎◌, ◌↔◌, [], true, length, IfSome, IfOk, IfErr, ◌<◌};
+ghost use Rattle.std.specs.Prelude.{◌≡◌, ℕ, ◌+◌, ◌≤◌, ◌⊎◌, ◌↔◌, [], true, length, nat_eq, Contains, IfSome, IfOk, IfErr, ◌<◌};
 ghost use Rattle.hibitset_atomic.specs.declared.atomic.TheConstants.{ATOMIC_MAX_EID};
 ghost use Rattle.hibitset_atomic.specs.AtomicBitSet.{has};
-ghost use Rattle.hibitset_atomic.specs.Lists.{Has, Distinct};
+ghost use Rattle.std.specs.List.{IsDistinct};
 ghost use Rattle.hibitset_atomic.specs.Seats.{IsOld, Came, reports_of, loads_by, exchanges_by};
 
 use crate::tests::list;
@@ -105,9 +105,9 @@ pub fn add_from_two<R: Threads + Wait + Sync>(
 ) -> Option<Settled>
     requires came { Came set seat × (reports_of seat ≡ []) }
     requires count { count ≤ ATOMIC_MAX_EID }
-    ensures once { IfSome result (λ r. Distinct (reports_of r.seat.value)) }
+    ensures once { IfSome result (λ r. IsDistinct nat_eq (reports_of r.seat.value)) }
     ensures new { IfSome result (λ r. length (reports_of r.seat.value) ≡ r.new) }
-    ensures members { IfSome result (λ r. (i : ℕ) → (has r.set i ≡ true) ↔ (IsOld set i ⊎ Has (reports_of r.seat.value) i)) }
+    ensures members { IfSome result (λ r. (i : ℕ) → (has r.set i ≡ true) ↔ (IsOld set i ⊎ Contains (reports_of r.seat.value) i)) }
 {
     let (a, b) = set.divide(seat);
     let (one, two) = on_two_threads(rt, &set, a, b?, count)?;

@@ -1,6 +1,6 @@
 //! Two threads that take identifiers from one set, none of them twice.
-ghost use Rattle.std.specs.Prelude.{◌≡◌, ◌++◌, [], IfSome, reverse};
-ghost use Rattle.hibitset_atomic.specs.Lists.{Distinct};
+ghost use Rattle.std.specs.Prelude.{◌≡◌, ◌++◌, [], nat_eq, IfSome, reverse};
+ghost use Rattle.std.specs.List.{IsDistinct};
 ghost use Rattle.hibitset_atomic.specs.Seats.{Came, reports_of};
 
 use hibitset::{AtomicBitSet, BitSetLike, Index, Seat, SharedBitSet};
@@ -79,7 +79,7 @@ fn take_by_two<R: Threads + Wait + Sync>(
 ) -> Option<TakenByTwo>
     requires { Came set.now seat × (reports_of seat ≡ []) }
     ensures came { IfSome result (λ r. Came set.now r.seat) }
-    ensures once { IfSome result (λ r. Distinct (reverse r.one.items ++ reverse r.two.items)) }
+    ensures once { IfSome result (λ r. IsDistinct nat_eq (reverse r.one.items ++ reverse r.two.items)) }
 {
     let (a, b) = set.divide(seat);
     let (one, two) = on_two_threads(rt, alloc, set, a, b?, count)?;

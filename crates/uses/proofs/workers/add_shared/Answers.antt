@@ -1,6 +1,5 @@
 use Rattle.std.proofs.Common.{◌≡◌, inl, inr, Contains, refl, sym, subst, arith}
 use Rattle.hibitset_atomic.specs.declared.shared.sizes.TheConstants.{SHARES}
-use Rattle.hibitset_atomic.specs.Lists.{Has}
 use Rattle.hibitset_atomic.specs.Seats.{weight_of, reports_of}
 use Rattle.uses.proofs.Working.{all_sound, same_weights, listed_known, reported_listed}
 use Rattle.uses.proofs.workers.add_shared.Goals as goal
@@ -22,7 +21,7 @@ returns-in-Ok-settle-clause-members g c =
     λ i. (
       (λ on. elim (settled.whole whole i on) [
         | inl old ↦ inl old
-        | inr reported ↦ inr (let t = reported_listed c.args.set jobs works i each (subst (λ r. Has r i) joined.reports reported) in (subst (λ is. Contains is i) lists t.0, t.1))
+        | inr reported ↦ inr (let t = reported_listed c.args.set jobs works i each (subst (λ r. Contains r i) joined.reports reported) in (subst (λ is. Contains is i) lists t.0, t.1))
       ]),
       (λ h. elim h [
         | inl old ↦ settled.old i old

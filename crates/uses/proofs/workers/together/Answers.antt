@@ -1,13 +1,12 @@
-use Rattle.std.proofs.Common.{◌≡◌, inl, inr, ◌+◌, ◌∷◌, ◌++◌, [], Any, flat_map, length, sym, ap, subst, ◌∙◌, append_assoc, arith}
+use Rattle.std.proofs.Common.{◌≡◌, inl, inr, ◌+◌, ◌∷◌, ◌++◌, [], Any, Contains, flat_map, length, sym, ap, subst, ◌∙◌, append_assoc, arith}
 use Rattle.std.specs.List.{sum_by}
 use Rattle.std.specs.Vec.Iter.{into_iter_items}
 use Rattle.std.proofs.lemmas.List.Elements.{All-rest, All-head, All-same}
 use Rattle.std.proofs.lemmas.List.Sums.{sum_by-cons}
 use Rattle.std.proofs.lemmas.List.Concat.{flat_map-cons}
 use Rattle.hibitset_atomic.specs.declared.atomic.TheConstants.{ATOMIC_MAX_EID}
-use Rattle.hibitset_atomic.specs.Lists.{Has}
 use Rattle.hibitset_atomic.specs.Seats.{Known, weight_of, reports_of}
-use Rattle.hibitset_atomic.proofs.Lists.{fits}
+use Rattle.hibitset_atomic.proofs.Lists.{few_below}
 use Rattle.uses.specs.declared.workers.Work.{Work}
 use Rattle.uses.specs.Workers.{IsWork, seat_weight, new_reports}
 use Rattle.uses.proofs.Working.{any_cases, range_of_both, number_of_both}
@@ -24,7 +23,7 @@ works-init c =
       known = λ i h. inr (subst (λ works. Any {X = Work} (λ work. Known work.seat i) works) (sym all) h);
       reports = ap (λ r. r ++ flat_map new_reports (into_iter_items c.into_iter-work-iterator.result)) none ∙ ap (λ works. flat_map new_reports works) all;
       new = sym (ap length none);
-      range = λ i h. absurd (let k : Has [] i = subst (λ r. Has r i) none h in k);
+      range = λ i h. absurd (let k : Contains [] i = subst (λ r. Contains r i) none h in let within = k.1 in omega (arith, within));
     }
 
 pub overflow_add-new : goal.overflow_add-new
@@ -33,7 +32,7 @@ overflow_add-new c =
     let work = c.in-Some.work in
     let joined : IsWork c.args.set.now work = All-head (IsWork c.args.set.now) work (into_iter_items c.next.new.self) (All-same (IsWork c.args.set.now) _ _ (sym c.in-Some.ensures.steps.0) inv.left) in
     let range = range_of_both (reports_of c.works.seat) (reports_of work.seat) (reports_of c.join-seat.result) c.join-seat.ensures.reports inv.range joined.2 in
-    let few = fits ATOMIC_MAX_EID (reports_of c.join-seat.result) c.join-seat.ensures.once range in
+    let few = few_below ATOMIC_MAX_EID (reports_of c.join-seat.result) c.join-seat.ensures.once range in
     let same = number_of_both (reports_of c.works.seat) (reports_of work.seat) (reports_of c.join-seat.result) c.works.new work.new c.join-seat.ensures.reports inv.new joined.1 in
     omega (arith, few, same)
 

@@ -1,8 +1,7 @@
-use Rattle.std.proofs.Common.{◌≡◌, ◌⊎◌, ℕ, ◌+◌, ◌<◌, ◌++◌, All, Any, length, flat_map}
+use Rattle.std.proofs.Common.{◌≡◌, ◌⊎◌, ℕ, ◌+◌, ◌<◌, ◌++◌, All, Any, Contains, length, flat_map}
 use Rattle.std.specs.List.{sum_by}
 use Rattle.std.specs.Vec.Iter.{into_iter_items}
 use Rattle.hibitset_atomic.specs.declared.atomic.TheConstants.{ATOMIC_MAX_EID}
-use Rattle.hibitset_atomic.specs.Lists.{Has}
 use Rattle.hibitset_atomic.specs.Seats.{Came, Known, weight_of, reports_of}
 use Rattle.uses.specs.Workers.{IsWork, seat_weight, new_reports}
 use Rattle.uses.proofs.workers.together.Given as goal
@@ -16,5 +15,5 @@ invariant-works l = record {
   known : (i : ℕ) → Any (λ work. Known work.seat i) l.fn.works.items → Known l.seat i ⊎ Any (λ work. Known work.seat i) (into_iter_items l.work-iterator);
   reports : reports_of l.seat ++ flat_map new_reports (into_iter_items l.work-iterator) ≡ flat_map new_reports l.fn.works.items;
   new : l.new ≡ length (reports_of l.seat);
-  range : (i : ℕ) → Has (reports_of l.seat) i → i < ATOMIC_MAX_EID;
+  range : (i : ℕ) → Contains (reports_of l.seat) i → i < ATOMIC_MAX_EID;
 }

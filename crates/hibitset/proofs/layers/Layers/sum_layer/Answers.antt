@@ -1,55 +1,34 @@
-use Rattle.std.proofs.Common.{rules, ◌≡◌, ◌≢◌, ℕ, ◌+◌, ◌-◌, ◌*◌, ◌<◌, length, ◌∙◌, arith, inl, inr}
+use Rattle.std.proofs.Common.{◌≡◌, ◌≢◌, ℕ, ◌+◌, ◌-◌, ◌*◌, ◌<◌, length, ◌∙◌, arith, inl, inr}
 use Rattle.std.proofs.lemmas.Bool.{cases_lt}
 use Rattle.hibitset_base.specs.Deciding.{same_or_not}
 use Rattle.hibitset.specs.Layers.{word_in, len_in}
-use Rattle.hibitset.proofs.Summing.{summed_piece, none_past}
+use Rattle.hibitset.proofs.Summing.{summed_list, none_past}
 use Rattle.hibitset.proofs.Layered.{has_below, covers_below, past_end}
 use Rattle.hibitset.proofs.layers.Layers.sum_layer.Goals as goal
 
 -- the words below begin within the layer below
-begins : (c : goal.After-slice-below) → 64 * c.loop-place.place < length c.slice-below.result.now
+begins : (c : goal.After-slice-in-loop-place) → 64 * c.loop-place.place < length c.slice-in-loop-place.result.now
 begins c =
     let h = has_below c.loop-place.self c.args.layer c.loop-place.place c.requires.layer.0 c.requires.layer.1 (omega (arith, c.loop-place-test.true, c.slice.ensures.length)) in
-    omega (arith, h, c.slice-below.ensures.length)
+    omega (arith, h, c.slice-in-loop-place.ensures.length)
 
 pub overflow_mul-place : goal.overflow_mul-place
-overflow_mul-place c = let h = begins c in omega (arith, h, c.slice-below.type_inv)
+overflow_mul-place c = let h = begins c in omega (arith, h, c.slice-in-loop-place.type_inv)
 
-pub overflow_add-place : goal.overflow_add-place
-overflow_add-place c = let h = begins c in omega (arith, h, c.slice-below.type_inv)
-
-begins_at : (c : goal.After-min-end) → 64 * c.loop-place.place < length c.slice-below.result.now
-begins_at c =
-    let h = has_below c.loop-place.self c.args.layer c.loop-place.place c.requires.layer.0 c.requires.layer.1 (omega (arith, c.loop-place-test.true, c.slice.ensures.length)) in
-    omega (arith, h, c.slice-below.ensures.length)
-
-pub overflow_mul-place-in-loop-place : goal.overflow_mul-place-in-loop-place
-overflow_mul-place-in-loop-place c = let h = begins_at c in omega (arith, h, c.slice-below.type_inv)
-
-pub offset_bounds-below-place : goal.offset_bounds-below-place
-offset_bounds-below-place c = let h = begins_at c in omega (arith, h, c.slice-below.type_inv)
-
-pub slice_bounds-summary_of-count : goal.slice_bounds-summary_of-count
-slice_bounds-summary_of-count c = let h = begins_at c in omega (arith, h, c.min-end.ensures)
-
-pub slice_bounds-summary_of-start : goal.slice_bounds-summary_of-start
-slice_bounds-summary_of-start c =
-    let h = begins_at c in
-    let end = c.min-end.ensures in
-    search (rules, h, end)
+pub summary_at-word-requires : goal.summary_at-word-requires
+summary_at-word-requires c = let h = begins c in omega (arith, h)
 
 pub loop-place-preserved : goal.loop-place-preserved
 loop-place-preserved c =
     let h = c.loop-place.invariant in
     let place : ℕ = c.loop-place.place in
     let layer : ℕ = c.args.layer in
-    let below = c.slice-below.result.now in
     let under : layer - 1 ≢ layer = omega (arith, c.requires.layer.0) in
-    let end = c.min-end.ensures in
+    let same : (p : ℕ) → _ = λ p. c.slice-in-loop-place.ensures.words p ∙ h.layers (layer - 1) p under in
     record {
       upto = omega (arith, c.loop-place-test.true, c.slice.ensures.length, h.lengths layer);
       done = λ p here. elim (same_or_not p place) [
-        | inl e ↦ rw (e, c.put.ensures.here) (summed_piece below (word_in c.args.self.now (layer - 1)) place (c.min-end.result - 64 * place) c.summary_of-word.result (λ q. c.slice-below.ensures.words q ∙ h.layers (layer - 1) q under) (omega (arith, end)) c.summary_of-word.ensures)
+        | inl e ↦ rw (e, c.put.ensures.here) (summed_list c.slice-in-loop-place.result.now (word_in c.args.self.now (layer - 1)) place c.summary_at-word.result same c.summary_at-word.ensures)
         | inr other ↦ rw (c.put.ensures.others p other) (h.done p (omega (arith, here, other)))
       ];
       layers = λ k p other. c.put.ensures.layers k p other ∙ h.layers k p other;

@@ -3,7 +3,7 @@ use Rattle.std.specs.List.Sorted.{IsStrictlyIncreasing}
 use Rattle.hibitset_atomic.specs.Worlds.{old_of, past_of}
 use Rattle.hibitset_atomic.specs.Pasts.{new_walk}
 use Rattle.uses_tests.specs.Turns.{items_or_none, reads_or_none}
-use Rattle.uses_tests.proofs.Walking.{has_it, contains_it, increasing, ReadsOn, reads_one, opened_by, few_reads, there_now, done_before, still_before, done_is_there}
+use Rattle.uses_tests.proofs.Walking.{increasing, ReadsOn, reads_one, opened_by, few_reads, there_now, done_before, still_before, done_is_there}
 use Rattle.uses_tests.proofs.tests.turns.read_all.Goals as goal
 use Rattle.uses_tests.proofs.tests.turns.read_all.Goals.{In-Word}
 
@@ -59,7 +59,7 @@ returns-clause-there c = λ i has.
     let v = c.words.invariant.there.0 in
     let is = c.words.invariant.there.1 in
     let item : Contains v.items i = subst (λ xs. Contains xs i) (ap items_or_none is) has in
-    there_now 4 (old_of c.words.world) (past_of c.words.world) c.args.walk i ((c.world_laws.ensures.honest c.words.world c.args.walk v is).there i (has_it v.items i item))
+    there_now 4 (old_of c.words.world) (past_of c.words.world) c.args.walk i ((c.world_laws.ensures.honest c.words.world c.args.walk v is).there i item)
 
 pub returns-clause-all : goal.returns-clause-all
 returns-clause-all c = λ i done.
@@ -68,4 +68,4 @@ returns-clause-all c = λ i done.
     let first = c.args.world.now in
     let within = c.world_laws.ensures.within first i (done_is_there (old_of first) (past_of first) i done) in
     let item = (c.world_laws.ensures.honest c.words.world c.args.walk v is).complete (c.words.invariant.there.2 c.words-test.false) i within (c.words.invariant.before i done) in
-    subst (λ xs. Contains xs i) (sym (ap items_or_none is)) (contains_it v.items i item)
+    subst (λ xs. Contains xs i) (sym (ap items_or_none is)) item

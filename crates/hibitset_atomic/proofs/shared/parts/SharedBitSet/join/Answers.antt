@@ -1,7 +1,9 @@
-use Rattle.std.proofs.Common.{arith, refl, ap, inl, inr, ⊎_elim, ◌∙◌, length}
+use Rattle.std.proofs.Common.{arith, refl, sym, subst, ap, inl, inr, ⊎_elim, ◌∙◌, length}
 use Rattle.std.proofs.lemmas.List.{nil_from_length, length-append}
 use Rattle.hibitset_atomic.proofs.Keeps.{joins, both_fit}
-use Rattle.hibitset_atomic.proofs.Told.{looked_once, united_parts, united_knows, united_settled, united_counts}
+use Rattle.hibitset_atomic.proofs.Told.{looked_once, united_parts, united_knows, united_settled, united_counts, looked_honest}
+use Rattle.hibitset_atomic.proofs.Lists.{has-from_contains, is_distinct-from}
+use Rattle.hibitset_atomic.specs.Rule.{Lit}
 use Rattle.hibitset_atomic.specs.Seats.{Came, Known, IsOld, weight_of, reports_of, loads_by, exchanges_by}
 use Rattle.hibitset_atomic.proofs.shared.parts.SharedBitSet.join.Goals as goal
 use Rattle.hibitset_atomic.specs.declared.shared.sizes.TheConstants.{LAYER3_START}
@@ -43,11 +45,19 @@ returns-clause-reports c = let t = united_parts LAYER3_START c.look.result c.arg
 
 pub returns-clause-apart : goal.returns-clause-apart
 unfolding Came Known IsOld weight_of reports_of
-returns-clause-apart c = (both_fit LAYER3_START c.look.result c.args.a.pass.me.0 c.args.b.pass.me.0 _ _ c.look.ensures.found (ap (λ m. m.0) c.join_seat.ensures.2)).0
+returns-clause-apart c = λ i first second.
+    let apart = (both_fit LAYER3_START c.look.result c.args.a.pass.me.0 c.args.b.pass.me.0 _ _ c.look.ensures.found (ap (λ m. m.0) c.join_seat.ensures.2)).0 in
+    apart i (has-from_contains _ i first) (has-from_contains _ i second)
 
 pub returns-clause-once : goal.returns-clause-once
 unfolding Came Known IsOld weight_of reports_of
-returns-clause-once c = looked_once _ _ _ _ c.look.ensures.found
+returns-clause-once c = is_distinct-from _ (looked_once _ _ _ _ c.look.ensures.found)
+
+pub returns-clause-honest : goal.returns-clause-honest
+unfolding Came Known IsOld weight_of reports_of
+returns-clause-honest c = λ i there old.
+    let t = united_parts LAYER3_START c.look.result c.args.a.pass.me.0 c.args.b.pass.me.0 c.args.a.pass.me.1 _ _ c.look.ensures.found c.join_seat.ensures.2 c.requires.0.2 c.requires.1.2 in
+    looked_honest _ _ _ _ c.look.ensures.found i (has-from_contains _ i there) (subst (λ items. Lit items i) (sym (t.1 ∙ c.requires.0.1)) old.1)
 
 pub returns-clause-known : goal.returns-clause-known
 unfolding Came Known IsOld weight_of reports_of
