@@ -1,5 +1,6 @@
 use Rattle.std.proofs.Common.{◌≡◌, ℕ, ◌<◌, ◌≤◌, length, slice_index, Contains}
 use Rattle.hibitset_atomic.specs.declared.atomic.TheConstants.{ATOMIC_MAX_EID}
+use Rattle.hibitset_atomic.specs.Lists.{Has}
 use Rattle.hibitset_atomic.specs.Seats.{Came, Known, weight_of, reports_of}
 use Rattle.uses.proofs.workers.add_list.Given as goal
 
@@ -11,5 +12,5 @@ invariant-loop-id l = record {
   number : l.new ≤ l.id-index;
   new : l.new ≡ length (reports_of l.seat);
   known : (k : ℕ) → k < l.id-index → slice_index l.list k < ATOMIC_MAX_EID → Known l.seat (slice_index l.list k);
-  reported : (i : ℕ) → Contains (reports_of l.seat) i → (i < ATOMIC_MAX_EID) × Contains l.list i;
+  reported : (i : ℕ) → Has (reports_of l.seat) i → (i < ATOMIC_MAX_EID) × Contains l.list i;
 }
