@@ -1,13 +1,13 @@
--- How many words walks over what two sets have in common read.
-use Rattle.std.proofs.Common.{◌≡◌, inl, inr, Option, Some, None, IfSome, ℕ, suc, ◌+◌, ◌*◌, ◌^◌, ◌<◌, ◌≤◌, Bool, true, false, List, [], ◌∷◌, ◌++◌, length, filter, refl, sym, ap, ◌∙◌, arith, lit<, length-append}
+-- How many words walks over what two sets have in common read, and where they lie.
+use Rattle.std.proofs.Common.{◌≡◌, ◌⊎◌, inl, inr, Option, Some, None, IfSome, ℕ, suc, ◌+◌, ◌*◌, ◌/◌, ◌^◌, ◌<◌, ◌≤◌, Bool, true, false, List, [], ◌∷◌, ◌++◌, length, filter, refl, sym, ap, ◌∙◌, arith, lit<, length-append}
 use Rattle.std.specs.List.{All}
-use Rattle.std.proofs.Math.Nat.{div-lt_iff_lt-mul, one-le-pow}
+use Rattle.std.proofs.Math.Nat.{div-lt_iff_lt-mul, div-mul-le_self, one-le-pow}
 use Rattle.std.proofs.lemmas.Bool.{lt-ltb, le-ltb, cases_lt}
-use Rattle.std.proofs.lemmas.List.Elements.{filter-append}
+use Rattle.std.proofs.lemmas.List.Elements.{filter-append, All-weaker}
 use Rattle.hibitset_base.specs.Places.{Place}
 use Rattle.hibitset_base.specs.From.{IsAheadFrom, BeginsBy, BeginsAfter}
 use Rattle.std.specs.Borrow.{Bor}
-use Rattle.hibitset_base.specs.Reading.{IsBoundBy, words_under}
+use Rattle.hibitset_base.specs.Reading.{IsBoundBy, LiesOver, words_under}
 use Rattle.hibitset.specs.Laws.{intersected}
 use Rattle.hibitset_base.specs.declared.util.TheConstants.{LAYERS, MAX_EID}
 use Rattle.hibitset_base.specs.Members.{members_below}
@@ -15,7 +15,7 @@ use Rattle.hibitset_base.specs.Splits.{SplitReads, part_reads, part_words}
 use Rattle.hibitset_base.specs.declared.parallel.BitProducer.{BitProducer}
 use Rattle.hibitset.specs.BitSet.{has}
 use Rattle.hibitset.specs.declared.set.BitSet.{BitSet}
-use Rattle.uses.specs.Budget.{Both, words_in_both, is_after, budget, part_reads_in_all, other_reads_in_all}
+use Rattle.uses.specs.Budget.{Both, words_in_both, is_after, budget, part_reads_in_all, other_reads_in_all, EndsBy, BeginsBefore}
 
 module _ (index : ℕ) (place : Place) where
   some : 0 < 64 ^ (place.layer + 1)
@@ -102,3 +102,19 @@ parts_read whole looks part (Some other) h none =
     let sum = length_three h.read (part_words words_in_both part) (part_words words_in_both other) in
     let count = h.count in
     omega (arith, long, sum, count, none)
+
+-- A word over members of a set begins before the set ends.
+pub begins_before : (end : ℕ) (set : BitSet) → EndsBy set end → (place : Place) → LiesOver (has set) place → BeginsBefore end place
+begins_before end set ends place h =
+    let size : ℕ = 64 ^ (place.layer + 1) in
+    let low : h.0 / size * size ≤ h.0 = div-mul-le_self h.0 size in
+    let same : h.0 / size * size ≡ place.position * size = ap (λ q. q * size) h.2 in
+    let below : h.0 < end = ends h.0 h.1 in
+    omega (arith, low, same, below)
+
+-- Words that lie within both sets begin before either ends.
+pub within_both : (a b : BitSet) (words : List Place) → IsBoundBy LAYERS (has a) words → IsBoundBy LAYERS (has b) words → (end : ℕ) → EndsBy a end ⊎ EndsBy b end → All (BeginsBefore end) words
+within_both a b words one two end ends = elim ends [
+  | inl first ↦ All-weaker (LiesOver (has a)) (BeginsBefore end) (begins_before end a first) words one.over
+  | inr second ↦ All-weaker (LiesOver (has b)) (BeginsBefore end) (begins_before end b second) words two.over
+]

@@ -1,5 +1,5 @@
--- How many words walks read in all.
-use Rattle.std.specs.Prelude.{ℕ, ◌+◌, ◌*◌, ◌^◌, min, Bool, List, length, filter, nat_lt, ◌&&◌, Option, Some, None}
+-- How many words walks read in all, and where they lie.
+use Rattle.std.specs.Prelude.{◌≡◌, ℕ, ◌+◌, ◌*◌, ◌^◌, ◌<◌, min, Bool, true, List, length, filter, nat_lt, ◌&&◌, Option, Some, None}
 use Rattle.std.specs.Borrow.{Bor}
 use Rattle.hibitset_base.specs.Places.{Place}
 use Rattle.hibitset_base.specs.Splits.{part_words, part_reads}
@@ -46,3 +46,11 @@ is_after index place = nat_lt index (place.position * 64 ^ (place.layer + 1))
 -- the words ahead of a walk that have only indices after this one
 abbrev pub ahead_after : ℕ → BitIter Both → List Place
 ahead_after index walk = filter (is_after index) (words_ahead words_in_both walk)
+
+-- the set has no index from this one on
+abbrev pub EndsBy : BitSet → ℕ → Type 0
+EndsBy set end = (i : ℕ) → has set i ≡ true → i < end
+
+-- the word at a place begins before this index
+abbrev pub BeginsBefore : ℕ → Place → Type 0
+BeginsBefore end place = place.position * 64 ^ (place.layer + 1) < end

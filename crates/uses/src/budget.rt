@@ -1,11 +1,11 @@
 //! Walks over what two sets have in common, and how many words they read.
-ghost use Rattle.std.specs.Prelude.{◌≡◌, ◌+◌, ◌-◌, ◌≤◌, ◌&&◌, ◌++◌};
+ghost use Rattle.std.specs.Prelude.{◌≡◌, ◌⊎◌, ℕ, ◌+◌, ◌-◌, ◌≤◌, ◌&&◌, ◌++◌, All};
 ghost use Rattle.hibitset_base.specs.Members.{members, members_below};
 ghost use Rattle.hibitset_base.specs.Splits.{part_reads, part_items, other_items};
 ghost use Rattle.hibitset_base.specs.Walk.{words_ahead, items_left};
 ghost use Rattle.hibitset_base.specs.declared.util.TheConstants.{MAX_EID};
 ghost use Rattle.hibitset.specs.BitSet.{has};
-ghost use Rattle.uses.specs.Budget.{is_in_both, budget, reads_in_all, part_reads_in_all, other_reads_in_all, ahead_after, words_in_both};
+ghost use Rattle.uses.specs.Budget.{is_in_both, budget, reads_in_all, part_reads_in_all, other_reads_in_all, ahead_after, words_in_both, EndsBy, BeginsBefore};
 
 use hibitset::laws::laws;
 use hibitset::{BitIter, BitProducer, BitSet, BitSetAnd, BitSetLike, Index};
@@ -13,10 +13,11 @@ use hibitset::{BitIter, BitProducer, BitSet, BitSetAnd, BitSetLike, Index};
 /// What two sets have in common.
 pub type Both<'a> = BitSetAnd<&'a BitSet, &'a BitSet>;
 
-/// A walk over what both sets have. However far it goes, it reads at most four words of each for each member of the smaller one, and one.
+/// A walk over what both sets have. However far it goes, it reads at most four words of each for each member of the smaller one, and one. Where one of the two has no index from `end` on, no word ahead of the walk begins at `end` or after it.
 pub fn in_both<'a>(a: &'a BitSet, b: &'a BitSet) -> BitIter<Both<'a>>
     ensures items { items_left is_in_both result ≡ members_below MAX_EID (λ i. has a.now i && has b.now i) }
     ensures few { reads_in_all result ≤ budget a.now b.now }
+    ensures within { (end : ℕ) → EndsBy a.now end ⊎ EndsBy b.now end → All (BeginsBefore end) (words_ahead words_in_both result) }
 {
     laws();
     (a & b).into_iter()

@@ -1,8 +1,8 @@
-//! Sets made of lists, and extended by them.
-ghost use Rattle.std.specs.Prelude.{◌≡◌, ℕ, ◌-◌, ◌*◌, ◌/◌, ◌^◌, ◌<◌, ◌≤◌, ◌↔◌, ◌⊎◌, true, length, take, IfOk, IfErr, OnOk, Contains};
+//! Sets made of lists and of ranges, and extended by lists.
+ghost use Rattle.std.specs.Prelude.{◌≡◌, ℕ, ◌+◌, ◌-◌, ◌*◌, ◌/◌, ◌^◌, ◌<◌, ◌≤◌, ◌↔◌, ◌⊎◌, true, length, take, IfOk, IfErr, OnOk, Contains};
 ghost use Rattle.hibitset_base.specs.declared.util.TheConstants.{LAYERS, MAX_EID};
 ghost use Rattle.hibitset.specs.BitSet.{has, slice_len};
-ghost use Rattle.uses.specs.Lists.{place_of, InRangeBefore, IsWhy, LacksRoom, LiesApartIn};
+ghost use Rattle.uses.specs.Lists.{place_of, InRangeBefore, IsWhy, LacksRoom, LiesApartIn, IsWhyFrom, BeginsWord};
 
 use hibitset::{BitSet, BuildError, Index};
 use std::alloc::Global;
@@ -18,6 +18,18 @@ pub fn set_of(alloc: Global, list: &[Index]) -> Result<BitSet, BuildError>
     ensures apart { IfErr result (LiesApartIn (λ i j. i / 64 < j / 64) list.now) }
 {
     BitSet::from_index_refs(alloc, list)
+}
+
+/// The set of the indices from `start` on and below `end`. Where one is refused, the error tells its place: it is the first out of range, or one for which there was no memory, and then it is `start`, or the first index of a word.
+pub fn set_of_range(alloc: Global, start: Index, end: Index) -> Result<BitSet, BuildError>
+    ensures members { IfOk result (λ set. (i : ℕ) → (has set i ≡ true) ↔ ((start ≤ i) × (i < end))) }
+    ensures in_range { IfOk result (λ _. start < end → end ≤ MAX_EID) }
+    ensures place { IfErr result (λ error. start + place_of error < end) }
+    ensures before { IfErr result (λ error. (k : ℕ) → k < place_of error → start + k < MAX_EID) }
+    ensures why { IfErr result (IsWhyFrom MAX_EID start) }
+    ensures word { IfErr result (BeginsWord start) }
+{
+    BitSet::from_indices(alloc, start..end)
 }
 
 /// Adds the indices of a list to a set. Where one is refused, those before it are added: it is the first out of range, or one for which there was no memory, and then the set has no word for it.

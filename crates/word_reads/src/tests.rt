@@ -10,7 +10,8 @@ mod words;
 
 use hibitset::util::MAX_EID;
 use hibitset::{BitSet, BitSetLike, Index};
-use std::alloc::{AllocError, Global};
+use std::alloc::{AllocError, AllocGlobal, Global};
+use std::process::Abort;
 
 // The set of these indices, those that are out of range left out.
 fn set_of(alloc: Global, ids: &[Index]) -> Result<BitSet, AllocError> {
@@ -37,4 +38,31 @@ fn run_of(alloc: Global, end: Index) -> Result<BitSet, AllocError> {
 // What a walk over a set gives.
 fn list<T: BitSetLike>(alloc: Global, set: T) -> Result<Vec<Index>, AllocError> {
     set.iter().collect(alloc)
+}
+
+// The functions below compare for many tests: a comparison in a test makes the proof of all that follows there longer, and a call of one of these hardly does.
+
+// Sees that a walk over a set gives these indices.
+fn assert_members<T: BitSetLike>(
+    rt: &(impl Abort + AllocGlobal),
+    set: T,
+    ids: &[Index],
+) -> Result<(), AllocError> {
+    let members = list(rt.alloc(), set)?;
+    assert_eq!(rt; members.as_slice(), ids);
+    Ok(())
+}
+
+// Sees that these indices were given.
+fn assert_indices(rt: &impl Abort, found: &[Index], ids: &[Index]) {
+    assert_eq!(rt; found, ids);
+}
+
+// Sees that this index was given, or none.
+fn assert_index(rt: &impl Abort, found: Option<Index>, wanted: Option<Index>) {
+    assert_eq!(rt; found, wanted);
+}
+
+fn assert_count(rt: &impl Abort, found: usize, wanted: usize) {
+    assert_eq!(rt; found, wanted);
 }

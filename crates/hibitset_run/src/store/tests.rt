@@ -67,11 +67,14 @@ fn runs_commands_on_the_columns_that_are_there(rt: HostRuntime) -> Result<(), Fa
     Ok(())
 }
 
+// The key of both columns in such a run. It lies on the first page, so that the table of pages asks for memory once.
+const KEY: Index = 700;
+
 // A run with one command that takes memory of each kind.
 fn commands() -> [StoreCommand; 5] {
     let column = Side::P;
     let other = Side::Q;
-    let id = 70_000;
+    let id = KEY;
     [
         StoreCommand::Put {
             column,
@@ -97,7 +100,7 @@ fn is_run(replies: &[StoreReply]) -> bool {
     let p = *first != StoreReply::NoMemory;
     let q = *second != StoreReply::NoMemory;
     let joined = match third {
-        StoreReply::Joined(list) if p && q => list.as_slice() == [(70_000, 1, 2)].as_slice(),
+        StoreReply::Joined(list) if p && q => list.as_slice() == [(KEY, 1, 2)].as_slice(),
         StoreReply::Joined(list) => list.is_empty(),
         StoreReply::NoMemory => p && q,
         _ => false,
@@ -126,7 +129,7 @@ fn refused_and_again(rt: HostRuntime) -> Result<(), Fail> {
         Ok(replies) => assert!(rt; is_run(replies.as_slice())),
         Err(AllocError) => assert!(rt; columns.iter().all(|column| column.is_empty())),
     }
-    columns[0].remove(70_000);
+    columns[0].remove(KEY);
     let again = run(alloc, &mut columns, &commands())?;
     assert!(rt; is_run(again.as_slice()) && !again.contains(&StoreReply::NoMemory));
     Ok(())

@@ -1,21 +1,32 @@
 //! Sets made of the items of an iterator.
-use crate::tests::{list, set_of};
+use crate::tests::{assert_index, assert_members};
 use hibitset::{BitSet, BuildError};
+use std::alloc::AllocError;
 use std::test::Fail;
+
+// Items of which one is out of range, and the error that says so.
+const ITEMS: [u32; 4] = [3, 9, 1073741824, 4];
+
+const REFUSED: BuildError = BuildError::OutOfRange {
+    place: 2,
+    index: 1073741824,
+};
 
 #[test]
 fn building(rt: HostRuntime) -> Result<(), Fail> {
     let set = BitSet::from_indices(rt.alloc(), [9u32, 3, 16777215, 3].iter().copied())?;
-    assert_eq!(rt;
-        list(rt.alloc(), &set)?.as_slice(),
-        [3, 9, 16777215].as_slice()
-    );
+    assert_members(&rt, &set, &[3, 9, 16777215])?;
+    let one = BitSet::from_indices(rt.alloc(), [16777216u32].iter().copied())?;
+    assert_members(&rt, &one, &[16777216])?;
+    Ok(())
+}
+
+#[test]
+fn building_by_references(rt: HostRuntime) -> Result<(), Fail> {
     let refs = BitSet::from_index_refs(rt.alloc(), &[5u32, 5, 3])?;
-    assert_eq!(rt; list(rt.alloc(), &refs)?.as_slice(), [3, 5].as_slice());
+    assert_members(&rt, &refs, &[3, 5])?;
     let other = BitSet::from_indices(rt.alloc(), &refs)?;
     assert!(rt; other == refs);
-    let one = BitSet::from_indices(rt.alloc(), [16777216u32].iter().copied())?;
-    assert_eq!(rt; list(rt.alloc(), &one)?.as_slice(), [16777216].as_slice());
     Ok(())
 }
 
@@ -40,34 +51,15 @@ fn building_past_the_range(rt: HostRuntime) {
 }
 
 #[test]
-fn extending_past_the_range(rt: HostRuntime) -> Result<(), Fail> {
-    let items = [3u32, 9, 1073741824, 4];
+fn extending_past_the_range(rt: HostRuntime) -> Result<(), AllocError> {
     let mut set = BitSet::new(rt.alloc());
-    let mut iter = items.iter().copied();
-    let ended = set.extend_indices(&mut iter);
-    assert_eq!(rt;
-        ended,
-        Err(BuildError::OutOfRange {
-            place: 2,
-            index: 1073741824
-        })
-    );
-    assert_eq!(rt; iter.next(), Some(4));
-    assert_eq!(rt; list(rt.alloc(), &set)?.as_slice(), [3, 9].as_slice());
-    let ended = set.extend_index_refs(&items);
-    assert_eq!(rt;
-        ended,
-        Err(BuildError::OutOfRange {
-            place: 2,
-            index: 1073741824
-        })
-    );
-    assert_eq!(rt; set.extend_indices(10..12), Ok(()));
-    assert_eq!(rt;
-        list(rt.alloc(), &set)?.as_slice(),
-        [3, 9, 10, 11].as_slice()
-    );
-    Ok(())
+    let mut iter = ITEMS.iter().copied();
+    assert!(rt; set.extend_indices(&mut iter) == Err(REFUSED));
+    assert_index(&rt, iter.next(), Some(4));
+    assert_members(&rt, &set, &[3, 9])?;
+    assert!(rt; set.extend_index_refs(&ITEMS) == Err(REFUSED));
+    assert!(rt; set.extend_indices(10..12) == Ok(()));
+    assert_members(&rt, &set, &[3, 9, 10, 11])
 }
 
 #[test]
@@ -90,30 +82,25 @@ fn errors_are_told(rt: HostRuntime) -> Result<(), Fail> {
 
 // After a refusal, the iterator goes on after the item that was refused.
 #[test]
-fn no_item_is_drawn_after_one_out_of_range(rt: HostRuntime) -> Result<(), Fail> {
-    let items = [3u32, 9, 1073741824, 4];
-    let refused = BuildError::OutOfRange {
-        place: 2,
-        index: 1073741824,
-    };
+fn no_item_is_drawn_after_one_out_of_range(rt: HostRuntime) {
     let mut set = BitSet::new(rt.alloc());
-    let mut left = items.iter().copied();
-    assert_eq!(rt; set.extend_indices(&mut left), Err(refused));
-    assert_eq!(rt; left.next(), Some(4));
-    let mut left = items.iter();
-    assert_eq!(rt; set.extend_index_refs(&mut left), Err(refused));
-    assert_eq!(rt; left.next(), Some(&4));
-    let mut left = items.iter().copied();
-    assert_eq!(rt;
-        BitSet::from_indices(rt.alloc(), &mut left).err(),
-        Some(refused)
-    );
-    assert_eq!(rt; left.next(), Some(4));
-    let mut left = items.iter();
-    assert_eq!(rt;
-        BitSet::from_index_refs(rt.alloc(), &mut left).err(),
-        Some(refused)
-    );
-    assert_eq!(rt; left.next(), Some(&4));
-    Ok(())
+    let mut left = ITEMS.iter().copied();
+    assert!(rt; set.extend_indices(&mut left) == Err(REFUSED));
+    assert_index(&rt, left.next(), Some(4));
+    let mut left = ITEMS.iter();
+    assert!(rt; set.extend_index_refs(&mut left) == Err(REFUSED));
+    assert_index(&rt, left.next().copied(), Some(4));
+}
+
+// The same where a set is made of the items.
+#[test]
+fn no_item_is_drawn_for_a_set_that_is_not_made(rt: HostRuntime) {
+    let mut left = ITEMS.iter().copied();
+    let refused = BitSet::from_indices(rt.alloc(), &mut left).err();
+    assert!(rt; refused == Some(REFUSED));
+    assert_index(&rt, left.next(), Some(4));
+    let mut left = ITEMS.iter();
+    let refused = BitSet::from_index_refs(rt.alloc(), &mut left).err();
+    assert!(rt; refused == Some(REFUSED));
+    assert_index(&rt, left.next().copied(), Some(4));
 }

@@ -7,12 +7,11 @@ ghost use Rattle.hibitset_base.specs.declared.util.TheConstants.{LAYERS, MAX_EID
 ghost use Rattle.hibitset.specs.BitSet.{has, word_of, slice_len};
 ghost use Rattle.hibitset.specs.Merging.{NoWordsFrom};
 
-use crate::tests::set_of;
+use crate::tests::{assert_count, assert_index, assert_indices, assert_words, set_of};
 use hibitset::laws::{laws, list_laws};
 use hibitset::{BitIter, BitSet, BitSetLike, DrainableBitSet, Index};
 use hibitset_base::util::MAX_EID;
 use std::alloc::{AllocError, Global};
-use std::test::Fail;
 
 // The members, by a loop.
 fn looped(alloc: Global, set: &BitSet) -> Result<Vec<Index>, AllocError>
@@ -167,71 +166,70 @@ fn widen_within(set: &mut BitSet, other: &BitSet, end: usize) -> Result<(), Allo
 }
 
 #[test]
-fn rooms_of_callers(rt: HostRuntime) -> Result<(), Fail> {
-    let set = alone(rt.alloc(), 5)?;
-    assert_eq!(rt; set.layer3_as_slice(), [1].as_slice());
+fn rooms_of_callers(rt: HostRuntime) -> Result<(), AllocError> {
     let room = room_for_a_block(rt.alloc())?;
-    assert_eq!(rt; room.layer0_as_slice().len(), 64);
-    assert_eq!(rt; room.layer1_as_slice().len(), 1);
-    let mut one = alone(rt.alloc(), 5)?;
-    add_one(&mut one, 6)?;
-    assert_eq!(rt; one.layer0_as_slice(), [96].as_slice());
-    assert_eq!(rt;
-        read_again(rt.alloc(), &one)?.layer0_as_slice(),
-        [96].as_slice()
-    );
-    remove_all(&mut one);
-    assert!(rt; one.is_empty());
-    let mut wide = alone(rt.alloc(), 6)?;
-    widen_within(&mut wide, &set, 64)?;
-    assert_eq!(rt; wide.layer0_as_slice(), [96].as_slice());
+    assert_count(&rt, room.layer0_as_slice().len(), 64);
+    assert_count(&rt, room.layer1_as_slice().len(), 1);
     Ok(())
 }
 
 #[test]
-fn walks_of_callers(rt: HostRuntime) -> Result<(), Fail> {
+fn unions_of_callers(rt: HostRuntime) -> Result<(), AllocError> {
+    let set = alone(rt.alloc(), 5)?;
+    assert_words(&rt, set.layer3_as_slice(), &[1]);
+    let mut wide = alone(rt.alloc(), 6)?;
+    widen_within(&mut wide, &set, 64)?;
+    assert_words(&rt, wide.layer0_as_slice(), &[96]);
+    Ok(())
+}
+
+#[test]
+fn ranges_of_callers(rt: HostRuntime) -> Result<(), AllocError> {
+    let mut one = alone(rt.alloc(), 5)?;
+    add_one(&mut one, 6)?;
+    assert_words(&rt, one.layer0_as_slice(), &[96]);
+    let again = read_again(rt.alloc(), &one)?;
+    assert_words(&rt, again.layer0_as_slice(), &[96]);
+    remove_all(&mut one);
+    assert!(rt; one.is_empty());
+    Ok(())
+}
+
+#[test]
+fn walks_of_callers(rt: HostRuntime) -> Result<(), AllocError> {
     let mut a = set_of(rt.alloc(), &[3, 70, 700])?;
-    assert_eq!(rt; looped(rt.alloc(), &a)?.as_slice(), [3, 70, 700].as_slice());
-    assert_eq!(rt; counted(&a), 3);
+    assert_indices(&rt, looped(rt.alloc(), &a)?.as_slice(), &[3, 70, 700]);
+    assert_count(&rt, counted(&a), 3);
     let mut walk = (&a).iter();
-    assert_eq!(rt; step(&mut walk), Some(3));
+    assert_index(&rt, step(&mut walk), Some(3));
     let rest: Vec<Index> = copied(&walk)?.collect(rt.alloc())?;
-    assert_eq!(rt; rest.as_slice(), [70, 700].as_slice());
-    assert_eq!(rt;
-        drained(rt.alloc(), &mut a)?.as_slice(),
-        [3, 70, 700].as_slice()
-    );
+    assert_indices(&rt, rest.as_slice(), &[70, 700]);
+    let all = drained(rt.alloc(), &mut a)?;
+    assert_indices(&rt, all.as_slice(), &[3, 70, 700]);
     assert!(rt; a.is_empty());
     Ok(())
 }
 
 #[test]
-fn lists_of_callers(rt: HostRuntime) -> Result<(), Fail> {
+fn lists_of_callers(rt: HostRuntime) -> Result<(), AllocError> {
     let a = set_of(rt.alloc(), &[3, 70, 700])?;
     let b = set_of(rt.alloc(), &[70, 71, 700])?;
-    assert_eq!(rt;
-        collected(rt.alloc(), &a)?.as_slice(),
-        [3, 70, 700].as_slice()
-    );
-    assert_eq!(rt;
-        shared_by(rt.alloc(), &a, &b)?.as_slice(),
-        [70, 700].as_slice()
-    );
-    assert_eq!(rt;
-        collected_from(rt.alloc(), &a, 4)?.as_slice(),
-        [70, 700].as_slice()
-    );
+    assert_indices(&rt, collected(rt.alloc(), &a)?.as_slice(), &[3, 70, 700]);
+    let both = shared_by(rt.alloc(), &a, &b)?;
+    assert_indices(&rt, both.as_slice(), &[70, 700]);
+    let rest = collected_from(rt.alloc(), &a, 4)?;
+    assert_indices(&rt, rest.as_slice(), &[70, 700]);
     Ok(())
 }
 
 #[test]
-fn assignments_of_callers(rt: HostRuntime) -> Result<(), Fail> {
+fn assignments_of_callers(rt: HostRuntime) -> Result<(), AllocError> {
     let mut a = set_of(rt.alloc(), &[3, 70])?;
     let b = set_of(rt.alloc(), &[70, 71])?;
     widen(&mut a, &b)?;
-    assert_eq!(rt; looped(rt.alloc(), &a)?.as_slice(), [3, 70, 71].as_slice());
+    assert_indices(&rt, looped(rt.alloc(), &a)?.as_slice(), &[3, 70, 71]);
     exchange(&mut a, &b)?;
-    assert_eq!(rt; looped(rt.alloc(), &a)?.as_slice(), [3].as_slice());
+    assert_indices(&rt, looped(rt.alloc(), &a)?.as_slice(), &[3]);
     narrow(&mut a, &b);
     assert!(rt; a.is_empty());
     Ok(())

@@ -1,13 +1,32 @@
 //! Sets compared, and copied.
 ghost use Rattle.std.specs.Prelude.{◌≤◌};
 
-use crate::tests::{list, set_of};
+use crate::tests::{assert_members, set_of};
 use hibitset::{BitSet, Index};
 use std::alloc::{AllocError, Global};
-use std::test::Fail;
+
+// Tells whether the first set contains the second, as it is said, and whether they contain each other and are equal, either way, as it is said.
+fn compare_as(
+    alloc: Global,
+    ours: &[Index],
+    theirs: &[Index],
+    contains: bool,
+    same: bool,
+) -> Result<bool, AllocError> {
+    let ours = set_of(alloc, ours)?;
+    let theirs = set_of(alloc, theirs)?;
+    let is_around = ours.contains_set(&theirs);
+    let is_within = theirs.contains_set(&ours);
+    Ok(
+        is_around == contains
+            && (is_within && contains) == same
+            && (ours == theirs) == same
+            && (theirs == ours) == same,
+    )
+}
 
 #[test]
-fn equal_and_contained(rt: HostRuntime) -> Result<(), Fail> {
+fn equal_and_contained(rt: HostRuntime) -> Result<(), AllocError> {
     let rows: [(&[Index], &[Index], bool, bool); 6] = [
         (&[], &[], true, true),
         (&[0], &[], true, false),
@@ -17,23 +36,15 @@ fn equal_and_contained(rt: HostRuntime) -> Result<(), Fail> {
         (&[5, 64, 16777215], &[64], true, false),
     ];
     for (a, b, contains, same) in rows {
-        let ours = set_of(rt.alloc(), a)?;
-        let theirs = set_of(rt.alloc(), b)?;
-        assert_eq!(rt; ours.contains_set(&theirs), contains, "{a:?} and {b:?}");
-        assert_eq!(rt;
-            theirs.contains_set(&ours) && contains,
-            same,
-            "{a:?} and {b:?}"
-        );
-        assert_eq!(rt; ours == theirs, same, "{a:?} and {b:?}");
-        assert_eq!(rt; theirs == ours, same, "{a:?} and {b:?}");
+        let is_so = compare_as(rt.alloc(), a, b, contains, same)?;
+        assert!(rt; is_so, "{a:?} and {b:?}");
     }
     Ok(())
 }
 
 // Sets of another length, or with other words left from before, are equal by their members alone.
 #[test]
-fn room_does_not_matter(rt: HostRuntime) -> Result<(), Fail> {
+fn room_does_not_matter(rt: HostRuntime) -> Result<(), AllocError> {
     let small = set_of(rt.alloc(), &[5])?;
     let mut large = set_of(rt.alloc(), &[5, 16777215])?;
     assert!(rt; small != large);
@@ -44,16 +55,12 @@ fn room_does_not_matter(rt: HostRuntime) -> Result<(), Fail> {
 }
 
 #[test]
-fn a_copy_stands_alone(rt: HostRuntime) -> Result<(), Fail> {
+fn a_copy_stands_alone(rt: HostRuntime) -> Result<(), AllocError> {
     let mut set = set_of(rt.alloc(), &[1, 70, 300000])?;
     let copy = set.clone()?;
     assert!(rt; set == copy);
     assert!(rt; set.remove(70));
-    assert_eq!(rt;
-        list(rt.alloc(), &copy)?.as_slice(),
-        [1, 70, 300000].as_slice()
-    );
-    Ok(())
+    assert_members(&rt, &copy, &[1, 70, 300000])
 }
 
 // A set with a member in each of the first words.
@@ -69,7 +76,7 @@ fn one_a_word(alloc: Global, words: Index) -> Result<BitSet, AllocError>
 
 // Blocks of 64 words are compared as a whole where both sets have all of them.
 #[test]
-fn whole_blocks(rt: HostRuntime) -> Result<(), Fail> {
+fn whole_blocks(rt: HostRuntime) -> Result<(), AllocError> {
     for words in [63, 64, 65, 127, 128] {
         let ours = one_a_word(rt.alloc(), words)?;
         let mut theirs = ours.clone()?;

@@ -5,11 +5,10 @@ ghost use Rattle.hibitset_base.specs.Members.{members_below};
 ghost use Rattle.hibitset_base.specs.declared.util.TheConstants.{MAX_EID};
 ghost use Rattle.hibitset.specs.BitSet.{has, slice_len};
 
-use crate::tests::set_of;
+use crate::tests::{assert_count, assert_index, assert_indices, set_of};
 use hibitset::{BitSet, DrainableBitSet, Index};
 use hibitset_base::util::MAX_EID;
 use std::alloc::{AllocError, Global};
-use std::test::Fail;
 
 // Takes the first member out, by a drain that is dropped early.
 fn take_first(set: &mut BitSet) -> Option<Index>
@@ -34,12 +33,12 @@ fn take_all(alloc: Global, set: &mut BitSet) -> Result<Vec<Index>, AllocError>
 }
 
 #[test]
-fn members_are_taken_out(rt: HostRuntime) -> Result<(), Fail> {
+fn members_are_taken_out(rt: HostRuntime) -> Result<(), AllocError> {
     let mut set = set_of(rt.alloc(), &[3, 70, 700])?;
-    assert_eq!(rt; take_first(&mut set), Some(3));
+    assert_index(&rt, take_first(&mut set), Some(3));
     let rest = take_all(rt.alloc(), &mut set)?;
-    assert_eq!(rt; rest.as_slice(), [70, 700].as_slice());
-    assert_eq!(rt; take_first(&mut set), None);
-    assert_eq!(rt; set.layer0_as_slice().len(), 11);
+    assert_indices(&rt, rest.as_slice(), &[70, 700]);
+    assert_index(&rt, take_first(&mut set), None);
+    assert_count(&rt, set.layer0_as_slice().len(), 11);
     Ok(())
 }

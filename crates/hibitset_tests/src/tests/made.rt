@@ -1,35 +1,35 @@
 //! Walks that begin in a state made by hand.
-use crate::tests::set_of;
+use crate::tests::{assert_index, assert_indices, set_of};
 use hibitset::{BitIter, BitSet, DrainBitIter};
-use std::test::Fail;
+use std::alloc::AllocError;
 
 #[test]
 fn a_state_made_by_hand(rt: HostRuntime) {
     let empty = BitSet::new(rt.alloc());
     let mut walk = BitIter::new(&empty, [0b101, 0, 0, 0, 0], [128, 0, 0, 0]);
-    assert_eq!(rt; walk.next(), Some(128));
-    assert_eq!(rt; walk.next(), Some(130));
-    assert_eq!(rt; walk.next(), None);
+    assert_index(&rt, walk.next(), Some(128));
+    assert_index(&rt, walk.next(), Some(130));
+    assert_index(&rt, walk.next(), None);
 }
 
 #[test]
-fn a_state_in_all_layers(rt: HostRuntime) -> Result<(), Fail> {
+fn a_state_in_all_layers(rt: HostRuntime) -> Result<(), AllocError> {
     let mut set = set_of(rt.alloc(), &[7, 200, 5000, 300000])?;
     let walk: Vec<u32> = BitIter::new(&set, [4, 8, 2, 2, 0], [128, 0, 0, 0]).collect(rt.alloc())?;
-    assert_eq!(rt; walk.as_slice(), [130, 200, 5000, 300000].as_slice());
+    assert_indices(&rt, walk.as_slice(), &[130, 200, 5000, 300000]);
     let mut copy = set.clone()?;
     {
         let mut drain = DrainBitIter::new(&mut copy, [4, 8, 2, 2, 0], [128, 0, 0, 0]);
-        assert_eq!(rt; drain.next(), Some(130));
-        assert_eq!(rt; drain.next(), Some(200));
+        assert_index(&rt, drain.next(), Some(130));
+        assert_index(&rt, drain.next(), Some(200));
     }
     let kept: Vec<u32> = (&copy).into_iter().collect(rt.alloc())?;
-    assert_eq!(rt; kept.as_slice(), [7, 5000, 300000].as_slice());
+    assert_indices(&rt, kept.as_slice(), &[7, 5000, 300000]);
     let drain: Vec<u32> = DrainBitIter::new(&mut set, [4, 8, 2, 2, 0], [128, 0, 0, 0]).collect(
         rt.alloc(),
     )?;
-    assert_eq!(rt; drain.as_slice(), [130, 200, 5000, 300000].as_slice());
+    assert_indices(&rt, drain.as_slice(), &[130, 200, 5000, 300000]);
     let left: Vec<u32> = (&set).into_iter().collect(rt.alloc())?;
-    assert_eq!(rt; left.as_slice(), [7].as_slice());
+    assert_indices(&rt, left.as_slice(), &[7]);
     Ok(())
 }

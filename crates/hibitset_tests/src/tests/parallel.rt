@@ -3,10 +3,11 @@ ghost use Rattle.std.specs.Prelude.{◌≡◌, length, IfOk};
 ghost use Rattle.hibitset_base.specs.Members.{members_below};
 ghost use Rattle.hibitset_base.specs.declared.util.TheConstants.{MAX_EID};
 
-use crate::tests::{list, run_of, set_of};
+use crate::tests::{assert_count, assert_indices, every_second, list, run_of, set_of};
 use hibitset::{BitParIter, BitSet, BitSetAnd, BitSetLike, Index};
 use hibitset_base::util::MAX_EID;
 use std::alloc::{AllocError, Global};
+use std::process::Abort;
 use std::sync::atomic::{AtomicUsize, Ordering};
 use std::test::Fail;
 use std::thread::{Threads, available_parallelism};
@@ -46,9 +47,22 @@ fn visits_of<T: BitSetLike + Send + Sync>(
     })
 }
 
-#[test]
-fn clusters(rt: HostRuntime) -> Result<(), Fail> {
-    let mut set = BitSet::new(rt.alloc());
+// Sees how often `for_each` calls its closure, and the sum of what it calls it with.
+fn assert_visits<T: BitSetLike + Send + Sync>(
+    rt: &(impl Abort + Threads + Sync),
+    alloc: Global,
+    walk: BitParIter<T>,
+    times: usize,
+    sum: usize,
+) -> Result<(), AllocError> {
+    let visits = visits_of(rt, alloc, walk)?;
+    assert_count(rt, visits.times, times);
+    assert_count(rt, visits.sum, sum);
+    Ok(())
+}
+
+fn made_of_clusters(alloc: Global) -> Result<BitSet, AllocError> {
+    let mut set = BitSet::new(alloc);
     for x in 0..8u32 {
         for y in 0..8u32 {
             for z in 0..8u32 {
@@ -56,20 +70,32 @@ fn clusters(rt: HostRuntime) -> Result<(), Fail> {
             }
         }
     }
-    assert_eq!(rt; list(rt.alloc(), &set)?.len(), 512);
-    assert_eq!(rt; (&set).par_iter().count(&rt, rt.alloc())?, 512);
-    let visits = visits_of(&rt, rt.alloc(), (&set).par_iter())?;
-    assert_eq!(rt; visits.times, 512);
-    assert_eq!(rt; visits.sum, 22_367_744);
+    Ok(set)
+}
+
+#[test]
+fn clusters(rt: HostRuntime) -> Result<(), AllocError> {
+    let set = made_of_clusters(rt.alloc())?;
+    assert_count(&rt, list(rt.alloc(), &set)?.len(), 512);
+    assert_count(&rt, (&set).par_iter().count(&rt, rt.alloc())?, 512);
+    assert_visits(&rt, rt.alloc(), (&set).par_iter(), 512, 22_367_744)
+}
+
+#[test]
+fn no_members_in_parts(rt: HostRuntime) -> Result<(), AllocError> {
     let none = BitSet::new(rt.alloc());
-    assert_eq!(rt; visits_of(&rt, rt.alloc(), (&none).par_iter())?.times, 0);
-    assert_eq!(rt; (&none).par_iter().count(&rt, rt.alloc())?, 0);
-    assert_eq!(rt; none.par_iter().collect(&rt, rt.alloc())?.len(), 0);
+    assert_count(
+        &rt,
+        visits_of(&rt, rt.alloc(), (&none).par_iter())?.times,
+        0,
+    );
+    assert_count(&rt, (&none).par_iter().count(&rt, rt.alloc())?, 0);
+    assert_count(&rt, none.par_iter().collect(&rt, rt.alloc())?.len(), 0);
     Ok(())
 }
 
 #[test]
-fn border_indices_in_parts(rt: HostRuntime) -> Result<(), Fail> {
+fn border_indices_in_parts(rt: HostRuntime) -> Result<(), AllocError> {
     let ids = [
         0, 63, 64, 4095, 4096, 262_143, 262_144, 16_777_215, 16_777_216,
     ];
@@ -79,25 +105,21 @@ fn border_indices_in_parts(rt: HostRuntime) -> Result<(), Fail> {
             .par_iter()
             .layers_split(layers)
             .collect(&rt, rt.alloc())?;
-        assert_eq!(rt; all.as_slice(), ids.as_slice());
+        assert_indices(&rt, all.as_slice(), &ids);
     }
     Ok(())
 }
 
 #[test]
-fn counts_of_small_sets(rt: HostRuntime) -> Result<(), Fail> {
+fn counts_of_small_sets(rt: HostRuntime) -> Result<(), AllocError> {
     let one = set_of(rt.alloc(), &[1_048_575])?;
-    assert_eq!(rt; (&one).par_iter().count(&rt, rt.alloc())?, 1);
-    let mut odd = BitSet::new(rt.alloc());
-    let mut even = BitSet::new(rt.alloc());
-    for k in 0..50_000u32 {
-        odd.add(2 * k + 1)?;
-        even.add(2 * k)?;
-    }
-    assert_eq!(rt; count_members(&rt, rt.alloc(), &odd)?, 50_000);
-    assert_eq!(rt; count_members(&rt, rt.alloc(), &even)?, 50_000);
+    assert_count(&rt, (&one).par_iter().count(&rt, rt.alloc())?, 1);
+    let odd = every_second(rt.alloc(), 1, 50_000)?;
+    let even = every_second(rt.alloc(), 0, 50_000)?;
+    assert_count(&rt, count_members(&rt, rt.alloc(), &odd)?, 50_000);
+    assert_count(&rt, count_members(&rt, rt.alloc(), &even)?, 50_000);
     let both = BitSetAnd(&odd, &even);
-    assert_eq!(rt; count_members(&rt, rt.alloc(), &both)?, 0);
+    assert_count(&rt, count_members(&rt, rt.alloc(), &both)?, 0);
     Ok(())
 }
 
@@ -117,11 +139,17 @@ fn sum_of<T: BitSetLike + Send + Sync>(
 }
 
 #[test]
-fn folds_of_ten_and_of_many(rt: HostRuntime) -> Result<(), Fail> {
+fn folds_of_ten_and_of_many(rt: HostRuntime) -> Result<(), AllocError> {
     let ten = run_of(rt.alloc(), 10)?;
-    assert_eq!(rt; sum_of(&rt, rt.alloc(), &ten)?, 45);
+    assert!(rt; sum_of(&rt, rt.alloc(), &ten)? == 45);
     let many = run_of(rt.alloc(), 524_288)?;
-    assert_eq!(rt; sum_of(&rt, rt.alloc(), &many)?, 137_438_691_328);
+    assert!(rt; sum_of(&rt, rt.alloc(), &many)? == 137_438_691_328);
+    Ok(())
+}
+
+#[test]
+fn folds_count_their_pieces(rt: HostRuntime) -> Result<(), Fail> {
+    let many = run_of(rt.alloc(), 524_288)?;
     // One processor alone walks over it whole.
     let is_cut = available_parallelism(&rt)?.get() > 1;
     for (layers, parts) in [(1u8, 1), (2, 2), (3, 128), (4, 4_096)] {
@@ -133,45 +161,44 @@ fn folds_of_ten_and_of_many(rt: HostRuntime) -> Result<(), Fail> {
             |pieces: u64, _index: Index| pieces,
             |pieces: u64, other: u64| pieces.wrapping_add(other),
         )?;
-        assert_eq!(rt; pieces, wanted);
+        assert!(rt; pieces == wanted, "in {layers} layers");
     }
     Ok(())
 }
 
 #[test]
-fn lists_of_more_than_a_million(rt: HostRuntime) -> Result<(), Fail> {
+fn lists_of_more_than_a_million(rt: HostRuntime) -> Result<(), AllocError> {
     let many = run_of(rt.alloc(), 1_100_000)?;
     let listed = many.to_vec(rt.alloc())?;
     let mut next = 0u32;
     for index in &listed {
-        assert_eq!(rt; *index, next);
+        assert!(rt; *index == next);
         next = next.wrapping_add(1);
     }
-    assert_eq!(rt; (listed.len(), listed.capacity()), (1_100_000, 1_100_000));
+    assert_count(&rt, listed.len(), 1_100_000);
+    assert_count(&rt, listed.capacity(), 1_100_000);
     let collected = (&many).par_iter().collect(&rt, rt.alloc())?;
     assert!(rt; collected == listed);
-    assert_eq!(rt; collected.capacity(), 1_100_000);
+    assert_count(&rt, collected.capacity(), 1_100_000);
     Ok(())
 }
 
 #[test]
-fn each_of_many(rt: HostRuntime) -> Result<(), Fail> {
+fn each_of_many(rt: HostRuntime) -> Result<(), AllocError> {
     let many = run_of(rt.alloc(), 524_288)?;
     for layers in 1..5u8 {
         let walk = (&many).par_iter().layers_split(layers);
-        assert_eq!(rt; walk.count(&rt, rt.alloc())?, 524_288);
+        assert_count(&rt, walk.count(&rt, rt.alloc())?, 524_288);
     }
     let all = (&many).par_iter().collect(&rt, rt.alloc())?;
-    assert_eq!(rt; all.as_slice(), list(rt.alloc(), &many)?.as_slice());
-    let visits = visits_of(&rt, rt.alloc(), (&many).par_iter())?;
-    assert_eq!(rt; visits.times, 524_288);
-    assert_eq!(rt; visits.sum, 137_438_691_328);
-    Ok(())
+    assert!(rt; all == list(rt.alloc(), &many)?);
+    let walk = (&many).par_iter();
+    assert_visits(&rt, rt.alloc(), walk, 524_288, 137_438_691_328)
 }
 
 // What `for_each` visits of a small set, which it walks over in one thread: each index by itself, up to the last.
 #[test]
-fn visits_of_border_indices(rt: HostRuntime) -> Result<(), Fail> {
+fn visits_of_border_indices(rt: HostRuntime) -> Result<(), AllocError> {
     for index in [
         0,
         63,
@@ -187,9 +214,7 @@ fn visits_of_border_indices(rt: HostRuntime) -> Result<(), Fail> {
         let set = set_of(rt.alloc(), &[index])?;
         for layers in 1..5u8 {
             let walk = (&set).par_iter().layers_split(layers);
-            let visits = visits_of(&rt, rt.alloc(), walk)?;
-            assert_eq!(rt; visits.times, 1);
-            assert_eq!(rt; visits.sum, index as usize);
+            assert_visits(&rt, rt.alloc(), walk, 1, index as usize)?;
         }
     }
     Ok(())
@@ -210,18 +235,16 @@ fn four_runs(alloc: Global) -> Result<BitSet, AllocError> {
 }
 
 #[test]
-fn visits_of_four_regions(rt: HostRuntime) -> Result<(), Fail> {
+fn visits_of_four_regions(rt: HostRuntime) -> Result<(), AllocError> {
     let set = four_runs(rt.alloc())?;
     for layers in 1..5u8 {
         let walk = (&set).par_iter().layers_split(layers);
-        let visits = visits_of(&rt, rt.alloc(), walk)?;
-        assert_eq!(rt; visits.times, 600_000);
-        assert_eq!(rt; visits.sum, 241_614_410_100_000);
+        assert_visits(&rt, rt.alloc(), walk, 600_000, 241_614_410_100_000)?;
         let walk = (&set).par_iter().layers_split(layers);
-        assert_eq!(rt; walk.count(&rt, rt.alloc())?, 600_000);
+        assert_count(&rt, walk.count(&rt, rt.alloc())?, 600_000);
     }
     let all = (&set).par_iter().collect(&rt, rt.alloc())?;
-    assert_eq!(rt; all.as_slice(), list(rt.alloc(), &set)?.as_slice());
-    assert_eq!(rt; sum_of(&rt, rt.alloc(), &set)?, 241_614_410_100_000);
+    assert!(rt; all == list(rt.alloc(), &set)?);
+    assert!(rt; sum_of(&rt, rt.alloc(), &set)? == 241_614_410_100_000);
     Ok(())
 }

@@ -4,21 +4,26 @@ ghost use Rattle.hibitset_base.specs.Members.{members_below};
 ghost use Rattle.hibitset_base.specs.Splits.{part_items, other_items};
 ghost use Rattle.hibitset_base.specs.declared.util.TheConstants.{MAX_EID};
 
-use crate::tests::{run_of, set_of};
+use crate::tests::{assert_count, assert_index, assert_indices, run_of, set_of};
 use hibitset::laws::laws;
 use hibitset::{BitProducer, BitSet, BitSetLike, Index};
 use hibitset_base::util::{LAYERS, MAX_EID, average_ones};
-use std::alloc::{AllocError, Global};
+use std::alloc::{AllocError, AllocGlobal, Global};
+use std::process::Abort;
 use std::test::Fail;
 
 #[test]
 fn halving_bits(rt: HostRuntime) {
-    assert_eq!(rt; average_ones(0b10110), Some(4));
-    assert_eq!(rt; average_ones(0b100010), Some(5));
-    assert_eq!(rt; average_ones(0), None);
-    assert_eq!(rt; average_ones(1), None);
-    assert_eq!(rt; average_ones(!0), Some(32));
-    assert_eq!(rt; average_ones((1 << 63) + 1), Some(63));
+    for (word, half) in [
+        (0b10110, Some(4)),
+        (0b100010, Some(5)),
+        (0, None),
+        (1, None),
+        (!0, Some(32)),
+        ((1 << 63) + 1, Some(63)),
+    ] {
+        assert_eq!(rt; average_ones(word), half);
+    }
 }
 
 // How many parts there are where each is split to its end.
@@ -46,13 +51,11 @@ fn parts_to_the_end(alloc: Global, set: &BitSet, layers: u8) -> Result<usize, Al
 }
 
 #[test]
-fn splitting_to_the_end(rt: HostRuntime) -> Result<(), Fail> {
+fn splitting_to_the_end(rt: HostRuntime) -> Result<(), AllocError> {
     let set = run_of(rt.alloc(), 524_288)?;
-    assert_eq!(rt; parts_to_the_end(rt.alloc(), &set, 4)?, 8192);
-    assert_eq!(rt; parts_to_the_end(rt.alloc(), &set, 3)?, 128);
-    assert_eq!(rt; parts_to_the_end(rt.alloc(), &set, 2)?, 2);
-    assert_eq!(rt; parts_to_the_end(rt.alloc(), &set, 1)?, 1);
-    assert_eq!(rt; parts_to_the_end(rt.alloc(), &set, 0)?, 1);
+    for (layers, parts) in [(4, 8192), (3, 128), (2, 2), (1, 1), (0, 1)] {
+        assert_count(&rt, parts_to_the_end(rt.alloc(), &set, layers)?, parts);
+    }
     Ok(())
 }
 
@@ -78,44 +81,50 @@ fn parts_after(
     }
 }
 
-#[test]
-fn a_walk_already_begun(rt: HostRuntime) -> Result<(), Fail> {
-    let set = set_of(rt.alloc(), &[0, 64, 262_144])?;
-    let (low, high) = parts_after(rt.alloc(), &set, 1, 4)?;
-    assert_eq!(rt; low.as_slice(), [64, 262_144].as_slice());
-    assert!(rt; high.is_none());
-    Ok(())
-}
-
-#[test]
-fn walks_in_strange_states(rt: HostRuntime) -> Result<(), Fail> {
-    let set = set_of(rt.alloc(), &[0, 1, 64, 128])?;
-    let (low, high) = parts_after(rt.alloc(), &set, 1, 4)?;
-    assert_eq!(rt; low.as_slice(), [1, 64, 128].as_slice());
-    assert!(rt; high.is_none());
-    let (low, high) = parts_after(rt.alloc(), &set, 2, 4)?;
-    assert_eq!(rt; low.as_slice(), [64].as_slice());
-    let high = high.ok_or("no second part")?;
-    assert_eq!(rt; high.as_slice(), [128].as_slice());
-    let (low, high) = parts_after(rt.alloc(), &set, 3, 4)?;
-    assert_eq!(rt; low.as_slice(), [128].as_slice());
-    assert!(rt; high.is_none());
-    for layers in 0..2u8 {
-        let (low, high) = parts_after(rt.alloc(), &set, 2, layers)?;
-        assert_eq!(rt; low.as_slice(), [64, 128].as_slice());
-        assert!(rt; high.is_none());
+// Sees that these are the parts of a walk that has given some items already.
+fn assert_parts(
+    rt: &(impl Abort + AllocGlobal),
+    set: &BitSet,
+    steps: usize,
+    layers: u8,
+    wanted: (&[Index], Option<&[Index]>),
+) -> Result<(), AllocError> {
+    let (low, high) = parts_after(rt.alloc(), set, steps, layers)?;
+    assert_indices(rt, low.as_slice(), wanted.0);
+    match (&high, wanted.1) {
+        (None, None) => {}
+        (Some(items), Some(ids)) => assert_indices(rt, items.as_slice(), ids),
+        (_, ids) => panic!(rt; "the second part is not {ids:?}"),
     }
     Ok(())
 }
 
 #[test]
-fn a_part_is_folded(rt: HostRuntime) -> Result<(), Fail> {
+fn a_walk_already_begun(rt: HostRuntime) -> Result<(), AllocError> {
+    let set = set_of(rt.alloc(), &[0, 64, 262_144])?;
+    assert_parts(&rt, &set, 1, 4, (&[64, 262_144], None))
+}
+
+#[test]
+fn walks_in_strange_states(rt: HostRuntime) -> Result<(), AllocError> {
+    let set = set_of(rt.alloc(), &[0, 1, 64, 128])?;
+    assert_parts(&rt, &set, 1, 4, (&[1, 64, 128], None))?;
+    assert_parts(&rt, &set, 2, 4, (&[64], Some(&[128])))?;
+    assert_parts(&rt, &set, 3, 4, (&[128], None))?;
+    for layers in 0..2u8 {
+        assert_parts(&rt, &set, 2, layers, (&[64, 128], None))?;
+    }
+    Ok(())
+}
+
+#[test]
+fn a_part_is_folded(rt: HostRuntime) -> Result<(), AllocError> {
     let set = set_of(rt.alloc(), &[3, 70, 70_000])?;
     let sum = BitProducer((&set).iter(), 4).fold_with(
         0u64,
         |sum: u64, index: Index| sum.wrapping_add(u64::from(index)),
     );
-    assert_eq!(rt; sum, 70_073);
+    assert!(rt; sum == 70_073);
     Ok(())
 }
 
@@ -165,20 +174,21 @@ fn halves<'a>(set: &'a BitSet) -> (BitProducer<'a, BitSet>, Option<BitProducer<'
 }
 
 #[test]
-fn three_parts(rt: HostRuntime) -> Result<(), Fail> {
+fn three_parts(rt: HostRuntime) -> Result<(), AllocError> {
     let set = set_of(rt.alloc(), &[0, 64, 4_096, 262_144])?;
-    let thirds = in_thirds(rt.alloc(), &set)?;
-    assert_eq!(rt; thirds.low.as_slice(), [0, 64].as_slice());
-    assert_eq!(rt; thirds.middle.as_slice(), [4_096].as_slice());
-    assert_eq!(rt; thirds.high.as_slice(), [262_144].as_slice());
-    let Thirds {
-        low: _,
-        middle: _,
-        high: _,
-    } = thirds;
+    let Thirds { low, middle, high } = in_thirds(rt.alloc(), &set)?;
+    assert_indices(&rt, low.as_slice(), &[0, 64]);
+    assert_indices(&rt, middle.as_slice(), &[4_096]);
+    assert_indices(&rt, high.as_slice(), &[262_144]);
+    Ok(())
+}
+
+#[test]
+fn two_parts(rt: HostRuntime) -> Result<(), Fail> {
+    let set = set_of(rt.alloc(), &[0, 64, 4_096, 262_144])?;
     let (mut first, second) = halves(&set);
-    assert_eq!(rt; first.0.next(), Some(0));
+    assert_index(&rt, first.0.next(), Some(0));
     let mut second = second.ok_or("no second part")?;
-    assert_eq!(rt; second.0.next(), Some(262_144));
+    assert_index(&rt, second.0.next(), Some(262_144));
     Ok(())
 }

@@ -194,6 +194,24 @@ fn set_of_a_list(rt: HostRuntime) -> Result<(), Fail> {
 }
 
 #[test]
+fn set_of_a_range(rt: HostRuntime) -> Result<(), Fail> {
+    ask(&rt)?;
+    let made = lists::set_of_range(rt.alloc(), 62, 1_000);
+    say(&rt, made.is_err())?;
+    ask(&rt)?;
+    let set = match made {
+        Ok(set) => set,
+        Err(BuildError::Memory { place }) => {
+            assert!(rt; place == 0 || place % 64 == 2);
+            lists::set_of_range(rt.alloc(), 62, 1_000)?
+        }
+        Err(_) => panic!(rt; "out of range"),
+    };
+    assert!(rt; set.len() == 938 && set.contains(62) && set.contains(999));
+    Ok(())
+}
+
+#[test]
 fn add_a_list(rt: HostRuntime) -> Result<(), Fail> {
     let mut set = set_of(rt.alloc(), &[5])?;
     ask(&rt)?;

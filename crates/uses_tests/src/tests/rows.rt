@@ -5,7 +5,7 @@ use crate::tests::turns::{
 use hibitset::{AtomicBitSet, BitSet, BitSetLike, BuildError, Event, Reply, World};
 use std::test::Fail;
 use uses::budget::{halves, in_both, in_both_from};
-use uses::lists::{add_all, set_of};
+use uses::lists::{add_all, set_of, set_of_range};
 use uses::ready::Ready;
 use uses::room::{add_beside, saved, with_one_more};
 use uses::weights::{weight_here, weight_of_both};
@@ -28,6 +28,54 @@ fn what_both_have(rt: HostRuntime) -> Result<(), Fail> {
         70
     );
     assert!(rt; other.is_some());
+    Ok(())
+}
+
+#[test]
+fn what_both_have_below_an_end(rt: HostRuntime) -> Result<(), Fail> {
+    let short = set_of_range(rt.alloc(), 3, 71)?;
+    let long = set_of(rt.alloc(), &[2, 64, 70, 71, 4_096, 300_000])?;
+    let mut walk = in_both(&short, &long);
+    assert_eq!(rt;
+        (walk.next(), walk.next(), walk.next()),
+        (Some(64), Some(70), None)
+    );
+    let mut walk = in_both(&long, &short);
+    assert_eq!(rt;
+        (walk.next(), walk.next(), walk.next()),
+        (Some(64), Some(70), None)
+    );
+    Ok(())
+}
+
+#[test]
+fn sets_of_ranges(rt: HostRuntime) -> Result<(), Fail> {
+    let set = set_of_range(rt.alloc(), 63, 66)?;
+    assert_eq!(rt; set.to_vec(rt.alloc())?.as_slice(), [63, 64, 65].as_slice());
+    let set = set_of_range(rt.alloc(), 60, 5_000)?;
+    assert_eq!(rt; set.len(), 4_940);
+    assert!(rt; set.contains(60) && set.contains(4_999));
+    assert!(rt; !set.contains(59) && !set.contains(5_000));
+    assert!(rt; set_of_range(rt.alloc(), 5, 5)?.is_empty());
+    assert!(rt; set_of_range(rt.alloc(), 4_294_967_295, 3)?.is_empty());
+    assert_eq!(rt;
+        set_of_range(rt.alloc(), 1_073_741_822, 1_073_741_824)?.len(),
+        2
+    );
+    assert_eq!(rt;
+        set_of_range(rt.alloc(), 1_073_741_822, 1_073_741_826).err(),
+        Some(BuildError::OutOfRange {
+            place: 2,
+            index: 1_073_741_824
+        })
+    );
+    assert_eq!(rt;
+        set_of_range(rt.alloc(), 1_073_741_824, 4_294_967_295).err(),
+        Some(BuildError::OutOfRange {
+            place: 0,
+            index: 1_073_741_824
+        })
+    );
     Ok(())
 }
 

@@ -1,9 +1,9 @@
 //! How often a set is cloned, counted by the set.
-use crate::tests::{list, set_of};
+use crate::tests::{assert_count, assert_index, assert_members, set_of};
 use hibitset::{BitSet, BitSetAnd, BitSetLike, BitSetNot, BitSetOr, BitSetXor, Index};
 use std::alloc::{AllocError, Global};
 use std::cell::Cell;
-use std::test::Fail;
+use std::process::Abort;
 
 // A set that counts its clones. Each of them begins to count anew.
 #[derive(Drop)]
@@ -72,32 +72,36 @@ impl BitSetLike for Cloned {
     }
 }
 
+// Sees that two sets were cloned once each since this was last asked.
+fn assert_cloned_once(rt: &impl Abort, a: &Cloned, b: &Cloned) {
+    assert_count(rt, a.clones.replace(0), 1);
+    assert_count(rt, b.clones.replace(0), 1);
+}
+
 #[test]
-fn clones_of_virtual_sets(rt: HostRuntime) -> Result<(), Fail> {
-    let alloc = rt.alloc();
-    let a = Cloned::over(alloc, &[1, 70])?;
-    let b = Cloned::over(alloc, &[70, 300_000])?;
+fn clones_of_virtual_sets(rt: HostRuntime) -> Result<(), AllocError> {
+    let a = Cloned::over(rt.alloc(), &[1, 70])?;
+    let b = Cloned::over(rt.alloc(), &[70, 300_000])?;
     let both = BitSetAnd(a, b);
-    assert_eq!(rt; list(alloc, both.clone()?)?.as_slice(), [70].as_slice());
+    assert_members(&rt, both.clone()?, &[70])?;
+    assert_cloned_once(&rt, &both.0, &both.1);
     let BitSetAnd(a, b) = both;
-    assert_eq!(rt; (a.clones.replace(0), b.clones.replace(0)), (1, 1), "and");
     let either = BitSetOr(a, b);
-    assert_eq!(rt;
-        list(alloc, either.clone()?)?.as_slice(),
-        [1, 70, 300_000].as_slice()
-    );
-    let BitSetOr(a, b) = either;
-    assert_eq!(rt; (a.clones.replace(0), b.clones.replace(0)), (1, 1), "or");
+    assert_members(&rt, either.clone()?, &[1, 70, 300_000])?;
+    assert_cloned_once(&rt, &either.0, &either.1);
+    Ok(())
+}
+
+#[test]
+fn clones_of_exclusive_ors_and_complements(rt: HostRuntime) -> Result<(), AllocError> {
+    let a = Cloned::over(rt.alloc(), &[1, 70])?;
+    let b = Cloned::over(rt.alloc(), &[70, 300_000])?;
     let one = BitSetXor(a, b);
-    assert_eq!(rt;
-        list(alloc, one.clone()?)?.as_slice(),
-        [1, 300_000].as_slice()
-    );
-    let BitSetXor(a, b) = one;
-    assert_eq!(rt; (a.clones.replace(0), b.clones.replace(0)), (1, 1), "xor");
+    assert_members(&rt, one.clone()?, &[1, 300_000])?;
+    assert_cloned_once(&rt, &one.0, &one.1);
+    let BitSetXor(a, _b) = one;
     let others = BitSetNot(a);
-    assert_eq!(rt; others.clone()?.first(), Some(0));
-    let BitSetNot(a) = others;
-    assert_eq!(rt; a.clones.get(), 1, "not");
+    assert_index(&rt, others.clone()?.first(), Some(0));
+    assert_count(&rt, others.0.clones.get(), 1);
     Ok(())
 }

@@ -8,12 +8,11 @@ ghost use Rattle.hibitset.specs.BitSet.{has};
 ghost use Rattle.hibitset.specs.Laws.{intersected};
 
 use crate::tests::reads::{Counting, Everywhere};
-use crate::tests::{list, run_of, set_of};
+use crate::tests::{assert_count, assert_index, assert_indices, assert_members, run_of, set_of};
 use hibitset::laws::laws;
 use hibitset::{BitIter, BitSet, BitSetAll, BitSetAnd, BitSetLike, Index, LAYERS, MAX_EID};
 use std::alloc::{AllocError, Global};
 use std::cell::Cell;
-use std::test::Fail;
 
 // The first and the last index under words of each layer.
 const BORDERS: [Index; 11] = [
@@ -37,43 +36,49 @@ fn list_from<T: BitSetLike>(alloc: Global, set: T, start: Index) -> Result<Vec<I
 
 #[test]
 fn constants_at_the_root(rt: HostRuntime) {
-    assert_eq!(rt; LAYERS, 5);
-    assert_eq!(rt; MAX_EID, 1_073_741_824);
+    assert_count(&rt, LAYERS, 5);
+    assert_count(&rt, MAX_EID, 1_073_741_824);
 }
 
 #[test]
-fn an_empty_set(rt: HostRuntime) -> Result<(), Fail> {
+fn an_empty_set(rt: HostRuntime) -> Result<(), AllocError> {
     let none = BitSet::new(rt.alloc());
-    assert_eq!(rt; none.len(), 0);
-    assert_eq!(rt; none.first(), None);
-    assert_eq!(rt; none.to_vec(rt.alloc())?.len(), 0);
+    assert_count(&rt, none.len(), 0);
+    assert_index(&rt, none.first(), None);
+    assert_count(&rt, none.to_vec(rt.alloc())?.len(), 0);
     for start in BORDERS {
-        assert_eq!(rt; (&none).iter_from(start).next(), None);
+        assert_index(&rt, (&none).iter_from(start).next(), None);
     }
-    assert_eq!(rt; (&none).iter_from(u32::MAX).next(), None);
+    assert_index(&rt, (&none).iter_from(u32::MAX).next(), None);
     Ok(())
 }
 
 #[test]
-fn one_member(rt: HostRuntime) -> Result<(), Fail> {
+fn one_member(rt: HostRuntime) -> Result<(), AllocError> {
     for id in BORDERS {
         let one = set_of(rt.alloc(), &[id])?;
-        assert_eq!(rt; one.len(), 1);
-        assert_eq!(rt; one.first(), Some(id));
-        assert_eq!(rt; one.to_vec(rt.alloc())?.as_slice(), [id].as_slice());
-        assert_eq!(rt; (&one).iter_from(0).next(), Some(id));
-        assert_eq!(rt; (&one).iter_from(id).next(), Some(id));
-        assert_eq!(rt; (&one).iter_from(id.saturating_add(1)).next(), None);
+        assert_count(&rt, one.len(), 1);
+        assert_index(&rt, one.first(), Some(id));
+        assert_indices(&rt, one.to_vec(rt.alloc())?.as_slice(), &[id]);
+        assert_index(&rt, (&one).iter_from(0).next(), Some(id));
+        assert_index(&rt, (&one).iter_from(id).next(), Some(id));
+        assert_index(&rt, (&one).iter_from(id.saturating_add(1)).next(), None);
     }
     Ok(())
 }
 
 #[test]
-fn borders_of_words(rt: HostRuntime) -> Result<(), Fail> {
-    let set = set_of(rt.alloc(), BORDERS.as_slice())?;
-    assert_eq!(rt; set.len(), 11);
-    assert_eq!(rt; set.first(), Some(0));
-    assert_eq!(rt; set.to_vec(rt.alloc())?.as_slice(), BORDERS.as_slice());
+fn borders_of_words(rt: HostRuntime) -> Result<(), AllocError> {
+    let set = set_of(rt.alloc(), &BORDERS)?;
+    assert_count(&rt, set.len(), 11);
+    assert_index(&rt, set.first(), Some(0));
+    assert_indices(&rt, set.to_vec(rt.alloc())?.as_slice(), &BORDERS);
+    Ok(())
+}
+
+#[test]
+fn walks_from_borders_of_words(rt: HostRuntime) -> Result<(), AllocError> {
+    let set = set_of(rt.alloc(), &BORDERS)?;
     // how many of them lie before the index
     let before: [(Index, usize); 21] = [
         (0, 0),
@@ -100,23 +105,27 @@ fn borders_of_words(rt: HostRuntime) -> Result<(), Fail> {
     ];
     for (start, passed) in before {
         let rest = list_from(rt.alloc(), &set, start)?;
-        assert_eq!(rt; rest.as_slice(), &BORDERS[passed.min(11)..], "from {start}");
+        assert_indices(&rt, rest.as_slice(), &BORDERS[passed.min(11)..]);
     }
     Ok(())
 }
 
 #[test]
-fn words_with_many_bits_and_with_few(rt: HostRuntime) -> Result<(), Fail> {
+fn words_with_many_bits(rt: HostRuntime) -> Result<(), AllocError> {
     let dense = run_of(rt.alloc(), 5_000)?;
-    assert_eq!(rt; dense.len(), 5_000);
+    assert_count(&rt, dense.len(), 5_000);
     let listed = dense.to_vec(rt.alloc())?;
-    assert_eq!(rt; listed.as_slice(), list(rt.alloc(), &dense)?.as_slice());
-    assert_eq!(rt; (listed.last(), listed.capacity()), (Some(&4_999), 5_000));
+    assert_members(&rt, &dense, listed.as_slice())?;
+    assert_index(&rt, listed.last().copied(), Some(4_999));
+    assert_count(&rt, listed.capacity(), 5_000);
     let from = list_from(rt.alloc(), &dense, 4_321)?;
-    assert_eq!(rt;
-        from.as_slice(),
-        &listed.as_slice()[4_321.min(listed.len())..]
-    );
+    let rest = &listed.as_slice()[4_321.min(listed.len())..];
+    assert_indices(&rt, from.as_slice(), rest);
+    Ok(())
+}
+
+#[test]
+fn words_with_many_bits_and_with_few(rt: HostRuntime) -> Result<(), AllocError> {
     let mut mixed = BitSet::new(rt.alloc());
     let mut added = 0usize;
     for id in 0..20_000u32 {
@@ -126,71 +135,97 @@ fn words_with_many_bits_and_with_few(rt: HostRuntime) -> Result<(), Fail> {
             added = added.wrapping_add(1);
         }
     }
-    assert_eq!(rt; mixed.len(), added);
+    assert_count(&rt, mixed.len(), added);
     let listed = mixed.to_vec(rt.alloc())?;
-    assert_eq!(rt; listed.as_slice(), list(rt.alloc(), &mixed)?.as_slice());
-    Ok(())
+    assert_members(&rt, &mixed, listed.as_slice())
 }
 
 #[test]
-fn over_virtual_sets(rt: HostRuntime) -> Result<(), Fail> {
+fn over_intersections(rt: HostRuntime) -> Result<(), AllocError> {
     let a = set_of(rt.alloc(), &[0, 5, 63, 4_096, 262_144])?;
     let b = set_of(rt.alloc(), &[5, 64, 4_096, 16_777_215])?;
-    assert_eq!(rt; (&a & &b).len(), 2);
-    assert_eq!(rt; (&a & &b).first(), Some(5));
+    assert_count(&rt, (&a & &b).len(), 2);
+    assert_index(&rt, (&a & &b).first(), Some(5));
     let both = (&a & &b).to_vec(rt.alloc())?;
-    assert_eq!(rt; both.as_slice(), [5, 4_096].as_slice());
-    assert_eq!(rt; (&a & &b).iter_from(6).next(), Some(4_096));
-    assert_eq!(rt; (&a & &b).iter_from(4_097).next(), None);
-    assert_eq!(rt; (&a | &b).len(), 7);
-    let either = list_from(rt.alloc(), &a | &b, 64)?;
-    assert_eq!(rt;
-        either.as_slice(),
-        [64, 4_096, 262_144, 16_777_215].as_slice()
-    );
-    let one = (&a ^ &b).to_vec(rt.alloc())?;
-    assert_eq!(rt; one.as_slice(), [0, 63, 64, 262_144, 16_777_215].as_slice());
-    assert_eq!(rt; (&a ^ &b).first(), Some(0));
-    assert_eq!(rt; (&a & !&a).first(), None);
-    assert_eq!(rt; (&a & !&a).len(), 0);
-    assert_eq!(rt; (!&a).first(), Some(1));
-    assert_eq!(rt; (!&a).iter_from(63).next(), Some(64));
-    assert_eq!(rt; (!&a & &b).len(), 2);
-    assert_eq!(rt; BitSetAnd(BitSetAll, &a).len(), 5);
-    assert_eq!(rt;
-        BitSetAll.iter_from(1_073_741_823).next(),
-        Some(1_073_741_823)
-    );
-    assert_eq!(rt; BitSetAll.iter_from(1_073_741_824).next(), None);
+    assert_indices(&rt, both.as_slice(), &[5, 4_096]);
+    assert_index(&rt, (&a & &b).iter_from(6).next(), Some(4_096));
+    assert_index(&rt, (&a & &b).iter_from(4_097).next(), None);
     Ok(())
 }
 
 #[test]
-fn over_a_stranger(rt: HostRuntime) -> Result<(), Fail> {
-    let everywhere = Everywhere {
-        counting: Counting {
-            set: set_of(rt.alloc(), &[70, 4_096, 300_000])?,
-            reads: Cell::new(0),
-        },
-    };
-    assert_eq!(rt; everywhere.first(), Some(70));
-    assert_eq!(rt; (&everywhere).iter_from(71).next(), Some(4_096));
-    assert_eq!(rt; (&everywhere).iter_from(300_000).next(), Some(300_000));
+fn over_unions_and_exclusive_ors(rt: HostRuntime) -> Result<(), AllocError> {
+    let a = set_of(rt.alloc(), &[0, 5, 63, 4_096, 262_144])?;
+    let b = set_of(rt.alloc(), &[5, 64, 4_096, 16_777_215])?;
+    assert_count(&rt, (&a | &b).len(), 7);
+    let either = list_from(rt.alloc(), &a | &b, 64)?;
+    assert_indices(&rt, either.as_slice(), &[64, 4_096, 262_144, 16_777_215]);
+    let one = (&a ^ &b).to_vec(rt.alloc())?;
+    assert_indices(&rt, one.as_slice(), &[0, 63, 64, 262_144, 16_777_215]);
+    assert_index(&rt, (&a ^ &b).first(), Some(0));
+    Ok(())
+}
+
+#[test]
+fn over_complements(rt: HostRuntime) -> Result<(), AllocError> {
+    let a = set_of(rt.alloc(), &[0, 5, 63, 4_096, 262_144])?;
+    let b = set_of(rt.alloc(), &[5, 64, 4_096, 16_777_215])?;
+    assert_index(&rt, (&a & !&a).first(), None);
+    assert_count(&rt, (&a & !&a).len(), 0);
+    assert_index(&rt, (!&a).first(), Some(1));
+    assert_index(&rt, (!&a).iter_from(63).next(), Some(64));
+    assert_count(&rt, (!&a & &b).len(), 2);
+    Ok(())
+}
+
+#[test]
+fn over_all_indices(rt: HostRuntime) -> Result<(), AllocError> {
+    let a = set_of(rt.alloc(), &[0, 5, 63, 4_096, 262_144])?;
+    assert_count(&rt, BitSetAnd(BitSetAll, &a).len(), 5);
+    let last = BitSetAll.iter_from(1_073_741_823).next();
+    assert_index(&rt, last, Some(1_073_741_823));
+    assert_index(&rt, BitSetAll.iter_from(1_073_741_824).next(), None);
+    Ok(())
+}
+
+// The set of these indices, with all bits in the layers above the lowest.
+fn everywhere_of(alloc: Global, ids: &[Index]) -> Result<Everywhere, AllocError> {
+    Ok(Everywhere {
+        counting: counting_of(alloc, ids)?,
+    })
+}
+
+fn counting_of(alloc: Global, ids: &[Index]) -> Result<Counting, AllocError> {
+    Ok(Counting {
+        set: set_of(alloc, ids)?,
+        reads: Cell::new(0),
+    })
+}
+
+#[test]
+fn over_a_stranger(rt: HostRuntime) -> Result<(), AllocError> {
+    let everywhere = everywhere_of(rt.alloc(), &[70, 4_096, 300_000])?;
+    assert_index(&rt, everywhere.first(), Some(70));
+    assert_index(&rt, (&everywhere).iter_from(71).next(), Some(4_096));
+    assert_index(&rt, (&everywhere).iter_from(300_000).next(), Some(300_000));
+    Ok(())
+}
+
+#[test]
+fn over_what_a_stranger_has_too(rt: HostRuntime) -> Result<(), AllocError> {
+    let everywhere = everywhere_of(rt.alloc(), &[70, 4_096, 300_000])?;
     let near = set_of(rt.alloc(), &[0, 70, 4_096, 300_001])?;
     let both = BitSetAnd(&near, &everywhere);
-    assert_eq!(rt; both.len(), 2);
-    assert_eq!(rt; both.to_vec(rt.alloc())?.as_slice(), [70, 4_096].as_slice());
+    assert_count(&rt, both.len(), 2);
+    assert_indices(&rt, both.to_vec(rt.alloc())?.as_slice(), &[70, 4_096]);
     Ok(())
 }
 
 #[test]
-fn one_word_a_layer(rt: HostRuntime) -> Result<(), Fail> {
-    let counting = Counting {
-        set: set_of(rt.alloc(), &[64, 70, 1_073_741_823])?,
-        reads: Cell::new(0),
-    };
-    assert_eq!(rt; counting.first(), Some(64));
-    assert_eq!(rt; counting.reads.replace(0), 5);
+fn one_word_a_layer(rt: HostRuntime) -> Result<(), AllocError> {
+    let counting = counting_of(rt.alloc(), &[64, 70, 1_073_741_823])?;
+    assert_index(&rt, counting.first(), Some(64));
+    assert_count(&rt, counting.reads.replace(0), 5);
     // start, words read when the walk is made, the first item, and words read up to it
     let rows: [(Index, usize, Option<Index>, usize); 9] = [
         (0, 4, Some(64), 1),
@@ -205,29 +240,32 @@ fn one_word_a_layer(rt: HostRuntime) -> Result<(), Fail> {
     ];
     for (start, made, first, later) in rows {
         let mut walk = (&counting).iter_from(start);
-        assert_eq!(rt; counting.reads.replace(0), made, "made from {start}");
-        assert_eq!(rt; walk.next(), first);
-        assert_eq!(rt; counting.reads.replace(0), later, "next from {start}");
+        assert_count(&rt, counting.reads.replace(0), made);
+        assert_index(&rt, walk.next(), first);
+        assert_count(&rt, counting.reads.replace(0), later);
     }
     let mut all = (&counting).iter();
-    assert_eq!(rt; all.nth(2), Some(1_073_741_823));
-    assert_eq!(rt; counting.reads.replace(0), 9);
+    assert_index(&rt, all.nth(2), Some(1_073_741_823));
+    assert_count(&rt, counting.reads.replace(0), 9);
     Ok(())
 }
 
 #[test]
-fn each_word_once(rt: HostRuntime) -> Result<(), Fail> {
-    let counting = Counting {
-        set: set_of(rt.alloc(), &[64, 70, 1_073_741_823])?,
-        reads: Cell::new(0),
-    };
-    assert_eq!(rt; counting.len(), 3);
-    assert_eq!(rt; counting.reads.replace(0), 9);
+fn each_word_once(rt: HostRuntime) -> Result<(), AllocError> {
+    let counting = counting_of(rt.alloc(), &[64, 70, 1_073_741_823])?;
+    assert_count(&rt, counting.len(), 3);
+    assert_count(&rt, counting.reads.replace(0), 9);
     // the top once, and each other word once to count and once to list
     let listed = counting.to_vec(rt.alloc())?;
-    assert_eq!(rt; listed.as_slice(), [64, 70, 1_073_741_823].as_slice());
-    assert_eq!(rt; (counting.reads.replace(0), listed.capacity()), (17, 3));
-    // of words with one bit each 32 are looked at before the list is made
+    assert_indices(&rt, listed.as_slice(), &[64, 70, 1_073_741_823]);
+    assert_count(&rt, counting.reads.replace(0), 17);
+    assert_count(&rt, listed.capacity(), 3);
+    Ok(())
+}
+
+// Of words with one bit each 32 are looked at before the list is made.
+#[test]
+fn words_with_one_bit(rt: HostRuntime) -> Result<(), AllocError> {
     let mut set = BitSet::new(rt.alloc());
     for word in 0..64u32 {
         set.add(64 * word)?;
@@ -236,8 +274,8 @@ fn each_word_once(rt: HostRuntime) -> Result<(), Fail> {
         set,
         reads: Cell::new(0),
     };
-    assert_eq!(rt; counting.to_vec(rt.alloc())?.len(), 64);
-    assert_eq!(rt; counting.reads.replace(0), 103);
+    assert_count(&rt, counting.to_vec(rt.alloc())?.len(), 64);
+    assert_count(&rt, counting.reads.replace(0), 103);
     Ok(())
 }
 
@@ -255,11 +293,11 @@ fn walk_both_from<'a>(
 }
 
 #[test]
-fn a_walk_over_both_from_an_index(rt: HostRuntime) -> Result<(), Fail> {
+fn a_walk_over_both_from_an_index(rt: HostRuntime) -> Result<(), AllocError> {
     let a = set_of(rt.alloc(), &[3, 70, 4_096])?;
     let b = set_of(rt.alloc(), &[3, 70, 71])?;
     let both: Vec<u32> = walk_both_from(&a, &b, 4).collect(rt.alloc())?;
-    assert_eq!(rt; both.as_slice(), [70].as_slice());
+    assert_indices(&rt, both.as_slice(), &[70]);
     Ok(())
 }
 
@@ -277,9 +315,9 @@ fn rest_of<T: BitSetLike>(alloc: Global, set: &T) -> Result<Vec<Index>, AllocErr
 }
 
 #[test]
-fn callers(rt: HostRuntime) -> Result<(), Fail> {
+fn callers(rt: HostRuntime) -> Result<(), AllocError> {
     let set = set_of(rt.alloc(), &[1, 2, 3])?;
-    assert_eq!(rt; without_the_first(&set), 2);
-    assert_eq!(rt; rest_of(rt.alloc(), &set)?.as_slice(), [1, 2, 3].as_slice());
+    assert_count(&rt, without_the_first(&set), 2);
+    assert_indices(&rt, rest_of(rt.alloc(), &set)?.as_slice(), &[1, 2, 3]);
     Ok(())
 }

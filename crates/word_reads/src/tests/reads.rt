@@ -1,8 +1,8 @@
 //! The reads of a walk, counted by the set that is read.
-use crate::tests::set_of;
+use crate::tests::{assert_count, assert_index, set_of};
 use hibitset::{BitSet, BitSetLike, Index};
+use std::alloc::AllocError;
 use std::cell::Cell;
-use std::test::Fail;
 
 // A set that counts the calls of its layer functions and of `contains`.
 #[derive(Drop)]
@@ -60,19 +60,19 @@ impl BitSetLike for Counting {
 }
 
 #[test]
-fn one_word_and_then_four_a_step(rt: HostRuntime) -> Result<(), Fail> {
+fn one_word_and_then_four_a_step(rt: HostRuntime) -> Result<(), AllocError> {
     let counting = Counting {
         set: set_of(rt.alloc(), &[0, 1073741823])?,
         reads: Cell::new(0),
     };
     let mut walk = (&counting).iter();
-    assert_eq!(rt; counting.reads.replace(0), 1);
-    assert_eq!(rt; walk.next(), Some(0));
-    assert_eq!(rt; counting.reads.replace(0), 4);
-    assert_eq!(rt; walk.next(), Some(1073741823));
-    assert_eq!(rt; counting.reads.replace(0), 4);
-    assert_eq!(rt; walk.next(), None);
-    assert_eq!(rt; counting.reads.replace(0), 0);
+    assert_count(&rt, counting.reads.replace(0), 1);
+    assert_index(&rt, walk.next(), Some(0));
+    assert_count(&rt, counting.reads.replace(0), 4);
+    assert_index(&rt, walk.next(), Some(1073741823));
+    assert_count(&rt, counting.reads.replace(0), 4);
+    assert_index(&rt, walk.next(), None);
+    assert_count(&rt, counting.reads.replace(0), 0);
     Ok(())
 }
 
@@ -124,7 +124,7 @@ impl BitSetLike for Everywhere {
 }
 
 #[test]
-fn all_words_under_bits_that_stand_everywhere(rt: HostRuntime) -> Result<(), Fail> {
+fn all_words_under_bits_that_stand_everywhere(rt: HostRuntime) -> Result<(), AllocError> {
     let everywhere = Everywhere {
         counting: Counting {
             set: set_of(rt.alloc(), &[0, 4096])?,
@@ -132,9 +132,9 @@ fn all_words_under_bits_that_stand_everywhere(rt: HostRuntime) -> Result<(), Fai
         },
     };
     let mut walk = (&everywhere).iter();
-    assert_eq!(rt; walk.next(), Some(0));
-    assert_eq!(rt; walk.next(), Some(4096));
-    assert_eq!(rt; walk.next(), None);
-    assert_eq!(rt; everywhere.counting.reads.get(), 17_043_521);
+    assert_index(&rt, walk.next(), Some(0));
+    assert_index(&rt, walk.next(), Some(4096));
+    assert_index(&rt, walk.next(), None);
+    assert_count(&rt, everywhere.counting.reads.get(), 17_043_521);
     Ok(())
 }

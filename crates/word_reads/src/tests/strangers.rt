@@ -2,10 +2,9 @@
 ghost use Rattle.std.specs.Prelude.{◌<◌};
 ghost use Rattle.hibitset_base.specs.declared.util.TheConstants.{LAYERS};
 
-use crate::tests::{list, run_of, set_of};
+use crate::tests::{assert_count, assert_index, assert_indices, assert_members, run_of, set_of};
 use hibitset::{BitSet, BitSetAnd, BitSetLike, BitSetNot, BitSetOr, BitSetXor, Index};
 use std::alloc::{AllocError, Global};
-use std::test::Fail;
 use std::thread::Threads;
 
 // The set that it has, with all bits in the layers above the lowest.
@@ -70,93 +69,87 @@ fn in_parts(rt: &(impl Threads + Sync), alloc: Global, layers: u8) -> Result<Vec
 }
 
 #[test]
-fn a_stranger_is_walked(rt: HostRuntime) -> Result<(), Fail> {
+fn a_stranger_is_walked(rt: HostRuntime) -> Result<(), AllocError> {
     let some = stranger_of(rt.alloc(), &[0, 4096])?;
-    assert_eq!(rt; list(rt.alloc(), &some)?.as_slice(), [0, 4096].as_slice());
+    assert_members(&rt, &some, &[0, 4096])?;
     assert!(rt; !some.is_empty());
     Ok(())
 }
 
 #[test]
-fn a_stranger_without_members(rt: HostRuntime) -> Result<(), Fail> {
+fn a_stranger_without_members(rt: HostRuntime) -> Result<(), AllocError> {
     assert!(rt; stranger_of(rt.alloc(), &[])?.is_empty());
     Ok(())
 }
 
 #[test]
-fn a_stranger_in_parts_of_one_layer(rt: HostRuntime) -> Result<(), Fail> {
-    assert_eq!(rt;
-        in_parts(&rt, rt.alloc(), 1)?.as_slice(),
-        [0, 4096].as_slice()
-    );
+fn a_stranger_in_parts_of_one_layer(rt: HostRuntime) -> Result<(), AllocError> {
+    let items = in_parts(&rt, rt.alloc(), 1)?;
+    assert_indices(&rt, items.as_slice(), &[0, 4096]);
     Ok(())
 }
 
 #[test]
-fn a_stranger_in_parts_of_two_layers(rt: HostRuntime) -> Result<(), Fail> {
-    assert_eq!(rt;
-        in_parts(&rt, rt.alloc(), 2)?.as_slice(),
-        [0, 4096].as_slice()
-    );
+fn a_stranger_in_parts_of_two_layers(rt: HostRuntime) -> Result<(), AllocError> {
+    let items = in_parts(&rt, rt.alloc(), 2)?;
+    assert_indices(&rt, items.as_slice(), &[0, 4096]);
     Ok(())
 }
 
 #[test]
-fn a_stranger_in_parts_of_three_layers(rt: HostRuntime) -> Result<(), Fail> {
-    assert_eq!(rt;
-        in_parts(&rt, rt.alloc(), 3)?.as_slice(),
-        [0, 4096].as_slice()
-    );
+fn a_stranger_in_parts_of_three_layers(rt: HostRuntime) -> Result<(), AllocError> {
+    let items = in_parts(&rt, rt.alloc(), 3)?;
+    assert_indices(&rt, items.as_slice(), &[0, 4096]);
     Ok(())
 }
 
 #[test]
-fn a_stranger_in_parts_of_four_layers(rt: HostRuntime) -> Result<(), Fail> {
-    assert_eq!(rt;
-        in_parts(&rt, rt.alloc(), 4)?.as_slice(),
-        [0, 4096].as_slice()
-    );
+fn a_stranger_in_parts_of_four_layers(rt: HostRuntime) -> Result<(), AllocError> {
+    let items = in_parts(&rt, rt.alloc(), 4)?;
+    assert_indices(&rt, items.as_slice(), &[0, 4096]);
     Ok(())
 }
 
 #[test]
-fn a_large_stranger_in_parts(rt: HostRuntime) -> Result<(), Fail> {
+fn a_large_stranger_in_parts(rt: HostRuntime) -> Result<(), AllocError> {
     let many = Everywhere {
         set: run_of(rt.alloc(), 524_288)?,
     };
     let all = (&many).par_iter().collect(&rt, rt.alloc())?;
-    assert_eq!(rt; (all.len(), all.last().copied()), (524_288, Some(524_287)));
+    assert_count(&rt, all.len(), 524_288);
+    assert_index(&rt, all.last().copied(), Some(524_287));
     Ok(())
 }
 
 #[test]
-fn strangers_nested_four_deep(rt: HostRuntime) -> Result<(), Fail> {
+fn strangers_nested_four_deep(rt: HostRuntime) -> Result<(), AllocError> {
     let some = stranger_of(rt.alloc(), &[0, 9, 4096])?;
     let other = set_of(rt.alloc(), &[9, 300000])?;
     let nested = BitSetAnd(BitSetOr(BitSetXor(BitSetNot(&some), &other), &some), &other);
-    assert_eq!(rt; list(rt.alloc(), &nested)?.as_slice(), [9].as_slice());
+    assert_members(&rt, &nested, &[9])?;
     assert!(rt; nested.contains(9) && !nested.contains(0) && !nested.contains(300000));
     Ok(())
 }
 
 #[test]
-fn a_stranger_is_put_in(rt: HostRuntime) -> Result<(), Fail> {
+fn a_stranger_is_put_in(rt: HostRuntime) -> Result<(), AllocError> {
     let stranger = stranger_of(rt.alloc(), &[0, 4096])?;
     let mut or = BitSet::new(rt.alloc());
     or.bitor_assign(&stranger)?;
-    assert_eq!(rt; list(rt.alloc(), &or)?.as_slice(), [0, 4096].as_slice());
-    assert_eq!(rt; (or.layer4(), or.layer2(0)), (1, 3));
+    assert_members(&rt, &or, &[0, 4096])?;
+    assert_count(&rt, or.layer4(), 1);
+    assert_count(&rt, or.layer2(0), 3);
     let mut and = set_of(rt.alloc(), &[0, 9])?;
     and &= &stranger;
-    assert_eq!(rt; list(rt.alloc(), &and)?.as_slice(), [0].as_slice());
+    assert_members(&rt, &and, &[0])?;
     Ok(())
 }
 
 #[test]
-fn a_stranger_is_put_in_where_it_is_not(rt: HostRuntime) -> Result<(), Fail> {
+fn a_stranger_is_put_in_where_it_is_not(rt: HostRuntime) -> Result<(), AllocError> {
     let stranger = stranger_of(rt.alloc(), &[0, 4096])?;
     let mut xor = set_of(rt.alloc(), &[0, 9])?;
     xor.bitxor_assign(&stranger)?;
-    assert_eq!(rt; list(rt.alloc(), &xor)?.as_slice(), [9, 4096].as_slice());
+    assert_members(&rt, &xor, &[9, 4096])?;
     Ok(())
 }

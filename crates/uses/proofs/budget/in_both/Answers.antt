@@ -2,7 +2,7 @@ use Rattle.std.proofs.Common.{arith}
 use Rattle.hibitset.specs.BitSet.{has, word_of}
 use Rattle.hibitset_base.specs.Walk.{words_ahead}
 use Rattle.uses.specs.Budget.{words_in_both}
-use Rattle.uses.proofs.Bounding.{within_budget}
+use Rattle.uses.proofs.Bounding.{within_budget, within_both}
 use Rattle.uses.proofs.budget.in_both.Goals as goal
 
 pub returns-clause-few : goal.returns-clause-few
@@ -14,3 +14,12 @@ returns-clause-few c =
     let few = within_budget x y (words_ahead words_in_both c.into_iter.result) (starts.bound (has x) (word_of x) within.0) (starts.bound (has y) (word_of y) within.1) in
     let here = rw (c.bitand.ensures.0, c.bitand.ensures.1) at few in
     omega (arith, here, starts.read)
+
+pub returns-clause-within : goal.returns-clause-within
+returns-clause-within c =
+    let x = c.bitand.result.0.now in
+    let y = c.bitand.result.1.now in
+    let starts = c.into_iter.ensures.into_iter_gives in
+    let within = c.laws.ensures.intersection x y in
+    let lie = within_both x y (words_ahead words_in_both c.into_iter.result) (starts.bound (has x) (word_of x) within.0) (starts.bound (has y) (word_of y) within.1) in
+    rw (c.bitand.ensures.0, c.bitand.ensures.1) at lie

@@ -1,4 +1,4 @@
-use Rattle.std.proofs.Common.{ap, ◌∙◌, rules}
+use Rattle.std.proofs.Common.{rules}
 use Rattle.hibitset.specs.BitSet.{has}
 use Rattle.uses.specs.Weights.{both}
 use Rattle.uses.proofs.Weighing.{total_of_parts, items_fit}
