@@ -146,6 +146,7 @@ fn move_layers(
 }
 
 // The words of one bit each, from bit 0 up.
+#[rattlefmt::skip]
 const ONE_BIT: [usize; 64] = [
     1, 1 << 1, 1 << 2, 1 << 3, 1 << 4, 1 << 5, 1 << 6, 1 << 7,
     1 << 8, 1 << 9, 1 << 10, 1 << 11, 1 << 12, 1 << 13, 1 << 14, 1 << 15,
