@@ -1,4 +1,8 @@
 //! Each call that asks for memory is made between two requests of the test's own. Where a request of the call is refused it is seen what stands, and the call is made again. A test prints whether the first request, the call and the last request were refused; `refusals.py` refuses the requests one after the other. The tests of `room` make calls that need no memory as things stand, and print nothing between the two requests.
+ghost use Rattle.std.specs.Prelude.{◌≡◌, [], IfOk};
+ghost use Rattle.hibitset_atomic.specs.Seats.{Came, weight_of, reports_of};
+ghost use Rattle.hibitset_atomic.specs.declared.shared.sizes.TheConstants.{SHARES};
+
 mod atomic;
 mod callers;
 mod columns;
@@ -10,9 +14,10 @@ mod worlds;
 
 use hibitset::atomic::ATOMIC_MAX_EID;
 use hibitset::util::MAX_EID;
-use hibitset::{AtomicBitSet, BitSet, BitSetLike, Index};
+use hibitset::{AtomicBitSet, BitSet, BitSetLike, Index, Seat, SharedBitSet};
 use hibitset_store::Column;
 use std::alloc::{AllocError, Global};
+use std::process::Abort;
 use std::test::Fail;
 
 // Prints whether a call was refused.
@@ -47,6 +52,16 @@ fn atomic_of(alloc: Global, ids: &[Index]) -> Result<AtomicBitSet, AllocError> {
         }
     }
     Ok(set)
+}
+
+// A set of these old indices that many may add to, and its opening seat.
+fn shared_of(alloc: Global, ids: &[Index]) -> Result<(SharedBitSet, Seat), AllocError>
+    ensures { IfOk result (λ r. Came r.0 r.1 × (weight_of r.1 ≡ SHARES) × (reports_of r.1 ≡ [])) }
+{
+    let Ok(shared) = atomic_of(alloc, ids)?.share() else {
+        return Err(AllocError);
+    };
+    Ok(shared)
 }
 
 // The column of these indices and values.
@@ -93,4 +108,27 @@ fn way<T: BitSetLike>(set: &T, id: Index) -> [usize; 5] {
         set.layer1(id >> 12),
         set.layer0(id >> 6),
     ]
+}
+
+// The functions below compare for many tests: a comparison in a test makes the proof of all that follows there longer, and a call of one of these hardly does.
+
+// Sees that a set has exactly these members.
+fn assert_has<T: BitSetLike>(rt: &impl Abort, set: &T, ids: &[Index]) {
+    assert!(rt; has_exactly(set, ids));
+}
+
+// Sees that a set has exactly these members, and these words on the way to an index.
+fn assert_way<T: BitSetLike>(
+    rt: &impl Abort,
+    set: &T,
+    ids: &[Index],
+    id: Index,
+    words: [usize; 5],
+) {
+    assert!(rt; has_exactly(set, ids));
+    assert!(rt; way(set, id) == words);
+}
+
+fn assert_indices(rt: &impl Abort, found: &[Index], ids: &[Index]) {
+    assert!(rt; found == ids);
 }

@@ -4,7 +4,7 @@
 use hibitset_atomic::{AtomicBitSet, Event, Reply, StepError, World};
 use hibitset_base::{BitSetLike, Index};
 use std::alloc::{AllocError, Global};
-use std::test::Fail;
+use std::process::Abort;
 
 // Whose turn it is.
 #[derive(Clone, Copy, Debug, Drop, PartialEq)]
@@ -194,6 +194,11 @@ fn ended(alloc: Global, model: &Model) -> Result<Vec<Index>, AllocError> {
     Ok(due)
 }
 
+// Whether a world answers an event so.
+fn answers(world: &mut World, event: Event, wanted: Result<Reply, StepError>) -> bool {
+    world.apply(event) == wanted
+}
+
 // Plays one order of turns, the walk opened right before its first, and answers the model after it, or in what the world differed from it.
 fn play(
     alloc: Global,
@@ -205,19 +210,20 @@ fn play(
     let mut due = Vec::new(alloc);
     let mut is_open = false;
     for (call, id) in [(0, ids.0), (1, ids.1)] {
-        if world.apply(Event::Begin { call, id }) != Ok(Reply::Begun) {
+        if !answers(world, Event::Begin { call, id }, Ok(Reply::Begun)) {
             return Ok(Err(Difference::Beginning));
         }
     }
     for player in turns {
         if *player == Walk && !is_open {
             is_open = true;
-            if world.apply(Event::Open { walk: 0 }) != Ok(Reply::Opened) {
+            if !answers(world, Event::Open { walk: 0 }, Ok(Reply::Opened)) {
                 return Ok(Err(Difference::Beginning));
             }
             due = ended(alloc, &model)?;
         }
-        if world.apply(player.event()) != model.turn(*player)? {
+        let wanted = model.turn(*player)?;
+        if !answers(world, player.event(), wanted) {
             return Ok(Err(Difference::Answer));
         }
     }
@@ -232,13 +238,25 @@ fn play(
 
 // Whether the set has the model's words.
 fn has_words(set: &AtomicBitSet, words: &Words, other: Index) -> bool {
-    set.layer4() == usize::from(words.word(3, 0) != 0)
-        && set.layer3(0) == words.word(3, 0)
-        && set.layer2(0) == words.word(2, 0)
-        && set.layer1(0) == words.word(1, 0)
-        && set.layer1(other as usize / 4096) == words.word(1, other / 4096)
-        && set.layer0(0) == words.word(0, 0)
-        && set.layer0(other as usize / 64) == words.word(0, other / 64)
+    let found = [
+        set.layer4(),
+        set.layer3(0),
+        set.layer2(0),
+        set.layer1(0),
+        set.layer1(other as usize / 4096),
+        set.layer0(0),
+        set.layer0(other as usize / 64),
+    ];
+    let wanted = [
+        usize::from(words.word(3, 0) != 0),
+        words.word(3, 0),
+        words.word(2, 0),
+        words.word(1, 0),
+        words.word(1, other / 4096),
+        words.word(0, 0),
+        words.word(0, other / 64),
+    ];
+    found == wanted
 }
 
 // Puts the turns into the next order in the manner of a dictionary; false where this is the last.
@@ -314,38 +332,43 @@ fn play_all(
     Ok(Ok(orders))
 }
 
+// Sees that so many orders were played, and that nothing differed.
+fn assert_played(rt: &impl Abort, played: Result<u32, Failing>, orders: u32) {
+    assert_eq!(rt; played, Ok(orders));
+}
+
 // Every order of the four steps of each of two calls on two indices of one word and four reads of a walk: 12! / (4! 4! 4!).
 #[test]
-fn of_one_word(rt: HostRuntime) -> Result<(), Fail> {
+fn of_one_word(rt: HostRuntime) -> Result<(), AllocError> {
     let mut turns = [
         FirstCall, FirstCall, FirstCall, FirstCall, SecondCall, SecondCall, SecondCall, SecondCall,
         Walk, Walk, Walk, Walk,
     ];
     let played = play_all(rt.alloc(), (5, 6), &[], &mut turns)?;
-    assert_eq!(rt; played, Ok(34_650));
+    assert_played(&rt, played, 34_650);
     Ok(())
 }
 
 // The same for one index, where a step comes first, and is the first call's: of the orders left out, some only change the names of the calls, and in the others the walk reads an empty top word and has ended. 11! / (3! 4! 4!).
 #[test]
-fn of_the_same_index(rt: HostRuntime) -> Result<(), Fail> {
+fn of_the_same_index(rt: HostRuntime) -> Result<(), AllocError> {
     let mut turns = [
         FirstCall, FirstCall, FirstCall, SecondCall, SecondCall, SecondCall, SecondCall, Walk,
         Walk, Walk, Walk,
     ];
     let played = play_all(rt.alloc(), (5, 5), &[FirstCall], &mut turns)?;
-    assert_eq!(rt; played, Ok(11_550));
+    assert_played(&rt, played, 11_550);
     Ok(())
 }
 
 // Two indices of different blocks, where a walk that finds both makes six reads. The first two steps of each come first: they set bits of words of their own, to which no walk comes before the third. 10! / (2! 2! 6!).
 #[test]
-fn of_different_blocks(rt: HostRuntime) -> Result<(), Fail> {
+fn of_different_blocks(rt: HostRuntime) -> Result<(), AllocError> {
     let mut turns = [
         FirstCall, FirstCall, SecondCall, SecondCall, Walk, Walk, Walk, Walk, Walk, Walk,
     ];
     let opening = [FirstCall, SecondCall, FirstCall, SecondCall];
     let played = play_all(rt.alloc(), (5, 4096), &opening, &mut turns)?;
-    assert_eq!(rt; played, Ok(1_260));
+    assert_played(&rt, played, 1_260);
     Ok(())
 }

@@ -5,11 +5,13 @@ ghost use Rattle.hibitset_atomic.specs.Seats.{Came, weight_of, reports_of};
 ghost use Rattle.hibitset_atomic.specs.declared.atomic.TheConstants.{ATOMIC_MAX_EID};
 ghost use Rattle.hibitset_atomic.specs.declared.shared.sizes.TheConstants.{SHARES};
 
-use crate::tests::list;
+use crate::tests::{
+    assert_count, assert_members, assert_new, assert_sum, assert_words, set_of, settled, shared,
+};
 use hibitset_atomic::{AtomicBitSet, Seat, SharedBitSet};
 use hibitset_base::BitSetLike;
-use std::alloc::Global;
-use std::test::Fail;
+use std::alloc::{AllocError, AllocGlobal, Global};
+use std::process::Abort;
 
 // Adds each index below a bound twice and then asks for it, and counts the first answers false, the second ones true, and the last ones true.
 fn add_twice(set: &SharedBitSet, seat: &mut Seat, count: u32) -> (u32, u32, u32)
@@ -34,97 +36,90 @@ fn add_twice(set: &SharedBitSet, seat: &mut Seat, count: u32) -> (u32, u32, u32)
 }
 
 #[test]
-fn shared_adds(rt: HostRuntime) -> Result<(), Fail> {
-    let set = AtomicBitSet::new(rt.alloc())?;
-    let Ok((set, mut seat)) = set.share() else {
-        panic!(rt; "no memory")
-    };
-    assert_eq!(rt; add_twice(&set, &mut seat, 1000), (1000, 1000, 1000));
+fn shared_adds(rt: HostRuntime) -> Result<(), AllocError> {
+    let (set, mut seat) = shared(&rt, AtomicBitSet::new(rt.alloc())?);
+    assert!(rt; add_twice(&set, &mut seat, 1000) == (1000, 1000, 1000));
     assert!(rt; seat.is_whole());
-    let Ok(set) = set.settle(seat) else {
-        panic!(rt; "no memory")
-    };
-    assert_eq!(rt; list(rt.alloc(), &set)?.len(), 1000);
-    assert_eq!(rt;
-        (&set)
-            .iter()
-            .fold(0u64, |sum, id| sum.wrapping_add(u64::from(id))),
-        499500
-    );
-    assert_eq!(rt;
-        (set.layer3(0), set.layer2(0), set.layer1(0), set.layer0(15)),
-        (1, 1, 65535, (1 << 40) - 1)
-    );
+    let set = settled(&rt, set, seat);
+    assert_sum(&rt, &set, 1000, 499500)?;
+    let words = [set.layer3(0), set.layer2(0), set.layer1(0), set.layer0(15)];
+    assert_words(&rt, &words, &[1, 1, 65535, (1 << 40) - 1]);
     Ok(())
 }
 
-#[test]
-fn divided_to_the_last_share(rt: HostRuntime) -> Result<(), Fail> {
-    let Ok((set, seat)) = AtomicBitSet::new(rt.alloc())?.share() else {
-        panic!(rt; "no memory")
+// Divides a seat into two of this weight, and answers the first.
+fn halved(rt: &impl Abort, set: &SharedBitSet, seat: Seat, weight: u32) -> Seat
+    requires { Came set.now seat }
+    ensures { Came set.now result }
+{
+    let (kept, given) = set.divide(seat);
+    let Some(given) = given else {
+        panic!(rt; "one part")
     };
+    assert_eq!(rt; (kept.weight(), given.weight()), (weight, weight));
+    kept
+}
+
+// Sees that a seat has one share, which cannot be divided, and gives it back.
+fn undivided(rt: &impl Abort, set: &SharedBitSet, seat: Seat) -> Seat
+    requires { Came set.now seat }
+    ensures { Came set.now result }
+{
+    assert!(rt; seat.weight() == 1);
+    let (last, none) = set.divide(seat);
+    assert!(rt; none.is_none() && last.weight() == 1 && !last.is_whole());
+    last
+}
+
+#[test]
+fn divided_to_the_last_share(rt: HostRuntime) -> Result<(), AllocError> {
+    let (set, seat) = shared(&rt, AtomicBitSet::new(rt.alloc())?);
     let mut first = seat;
     for weight in [
         32768, 16384, 8192, 4096, 2048, 1024, 512, 256, 128, 64, 32, 16, 8, 4, 2, 1,
     ] {
-        let (kept, given) = set.divide(first);
-        let Some(given) = given else {
-            panic!(rt; "one part")
-        };
-        assert_eq!(rt; (kept.weight(), given.weight()), (weight, weight));
-        first = kept;
+        first = halved(&rt, &set, first, weight);
     }
-    assert_eq!(rt; first.weight(), 1);
-    let (last, none) = set.divide(first);
-    assert!(rt; none.is_none() && last.weight() == 1 && !last.is_whole());
-    let Ok(set) = set.settle(last) else {
-        panic!(rt; "no memory")
-    };
-    assert!(rt; set.is_empty());
+    let last = undivided(&rt, &set, first);
+    assert!(rt; settled(&rt, set, last).is_empty());
     Ok(())
 }
 
+// Sees that a set fills a word of layer 3, and has as many members as that word has blocks.
+fn assert_one_in_each_block(rt: &impl Abort, set: &AtomicBitSet) {
+    assert!(rt; set.layer3(0) == !0);
+    assert!(rt; set.len() == 4_096);
+}
+
 #[test]
-fn a_member_in_each_block(rt: HostRuntime) -> Result<(), Fail> {
+fn a_member_in_each_block(rt: HostRuntime) -> Result<(), AllocError> {
     let mut set = AtomicBitSet::new(rt.alloc())?;
     for block in 0..4_096u32 {
-        assert_eq!(rt; set.add(4_096 * block + 1), Ok(false));
+        assert!(rt; !set.add(4_096 * block + 1)?);
     }
-    assert_eq!(rt; (set.layer3(0), set.len()), (!0, 4_096));
-    let Ok((set, seat)) = set.share() else {
-        panic!(rt; "no memory")
-    };
-    let Ok(set) = set.settle(seat) else {
-        panic!(rt; "no memory")
-    };
-    assert_eq!(rt; (set.layer3(0), set.len()), (!0, 4_096));
-    assert_eq!(rt; (set.first(), set.contains(16_773_121)), (Some(1), true));
+    assert_one_in_each_block(&rt, &set);
+    let (set, seat) = shared(&rt, set);
+    let set = settled(&rt, set, seat);
+    assert_one_in_each_block(&rt, &set);
+    assert!(rt; set.first() == Some(1) && set.contains(16_773_121));
     Ok(())
 }
 
 #[test]
-fn a_seat_that_is_dropped(rt: HostRuntime) -> Result<(), Fail> {
-    let mut set = AtomicBitSet::new(rt.alloc())?;
-    set.add(7)?;
-    let Ok((set, mut seat)) = set.share() else {
-        panic!(rt; "no memory")
-    };
-    assert!(rt; !set.add_atomic(&mut seat, 5));
+fn a_seat_that_is_dropped(rt: HostRuntime) -> Result<(), AllocError> {
+    let (set, mut seat) = shared(&rt, set_of(rt.alloc(), &[7])?);
+    assert_new(&rt, &set, &mut seat, 5);
     let (mut a, b) = set.divide(seat);
     let Some(mut b) = b else {
         panic!(rt; "one part")
     };
-    assert!(rt; !set.add_atomic(&mut b, 9));
+    assert_new(&rt, &set, &mut b, 9);
     assert!(rt; set.add_atomic(&mut a, 9));
     assert!(rt;
         set.contains(&mut b, 5) && set.contains(&mut b, 7) && !set.contains(&mut a, 16777216)
     );
     assert!(rt; a.weight() == 32768 && !a.is_whole());
-    let Ok(set) = set.settle(a) else {
-        panic!(rt; "no memory")
-    };
-    assert_eq!(rt; list(rt.alloc(), &set)?.as_slice(), [5, 7, 9].as_slice());
-    Ok(())
+    assert_members(&rt, &settled(&rt, set, a), &[5, 7, 9])
 }
 
 // The weights of n seats of a whole one, or none where memory was refused.
@@ -136,25 +131,24 @@ fn weights_among(alloc: Global, n: usize) -> Option<Vec<u32>>
     seats.iter().map(|seat| seat.weight()).collect(alloc).ok()
 }
 
-#[test]
-fn divided_among_some(rt: HostRuntime) -> Result<(), Fail> {
-    let few = weights_among(rt.alloc(), 3);
-    assert!(rt;
-        few.is_some_and(|weights| weights.as_slice() == [21_846, 21_845, 21_845].as_slice())
-    );
-    let more = weights_among(rt.alloc(), 7);
-    let sevenths = [9_363, 9_363, 9_362, 9_362, 9_362, 9_362, 9_362];
-    assert!(rt; more.is_some_and(|weights| weights.as_slice() == sevenths.as_slice()));
-    let alone = weights_among(rt.alloc(), 1);
-    assert!(rt; alone.is_some_and(|weights| weights.as_slice() == [65_536].as_slice()));
-    Ok(())
+// Sees that n seats of a whole one have these weights.
+fn assert_weights(rt: &(impl Abort + AllocGlobal), n: usize, wanted: &[u32])
+    requires { (0 < n) × (n ≤ SHARES) }
+{
+    let weights = weights_among(rt.alloc(), n);
+    assert!(rt; weights.is_some_and(|weights| weights.as_slice() == wanted));
 }
 
 #[test]
-fn divided_among_as_many_as_it_has_shares(rt: HostRuntime) -> Result<(), Fail> {
-    let Ok((set, seat)) = AtomicBitSet::new(rt.alloc())?.share() else {
-        panic!(rt; "no memory")
-    };
+fn divided_among_some(rt: HostRuntime) {
+    assert_weights(&rt, 3, &[21_846, 21_845, 21_845]);
+    assert_weights(&rt, 7, &[9_363, 9_363, 9_362, 9_362, 9_362, 9_362, 9_362]);
+    assert_weights(&rt, 1, &[65_536]);
+}
+
+#[test]
+fn divided_among_as_many_as_it_has_shares(rt: HostRuntime) -> Result<(), AllocError> {
+    let (set, seat) = shared(&rt, AtomicBitSet::new(rt.alloc())?);
     let mut eight = seat;
     'halves: for _ in 0..13u32 {
         let (kept, _) = set.divide(eight);
@@ -164,7 +158,7 @@ fn divided_among_as_many_as_it_has_shares(rt: HostRuntime) -> Result<(), Fail> {
     let Ok(seats) = set.divide_among(eight, shares, rt.alloc()) else {
         panic!(rt; "no memory")
     };
-    assert_eq!(rt; seats.len(), 8);
+    assert_count(&rt, seats.len(), 8);
     assert!(rt; seats.iter().all(|seat| seat.weight() == 1));
     Ok(())
 }
@@ -210,27 +204,28 @@ fn add_with_each(set: &SharedBitSet, seats: &mut Vec<Seat>)
     }
 }
 
-#[test]
-fn divided_among_and_joined_again(rt: HostRuntime) -> Result<(), Fail> {
-    let Ok((set, mut seat)) = AtomicBitSet::new(rt.alloc())?.share() else {
+// A seat that was divided into five, each of which has added an index, and joined again.
+fn added_and_joined(rt: &(impl Abort + AllocGlobal), set: &SharedBitSet, seat: Seat) -> Seat
+    requires { Came set.now seat × (weight_of seat ≡ SHARES) }
+    ensures { Came set.now result }
+{
+    let Ok(mut seats) = set.divide_among(seat, 5, rt.alloc()) else {
         panic!(rt; "no memory")
     };
-    assert!(rt; !set.add_atomic(&mut seat, 70_000));
+    add_with_each(set, &mut seats);
+    let first = seats.remove(0);
+    joined(set, first, seats)
+}
+
+#[test]
+fn divided_among_and_joined_again(rt: HostRuntime) -> Result<(), AllocError> {
+    let (set, mut seat) = shared(&rt, AtomicBitSet::new(rt.alloc())?);
+    assert_new(&rt, &set, &mut seat, 70_000);
     let Some(seat) = divided_and_joined(&set, seat, 1_000, rt.alloc()) else {
         panic!(rt; "no memory")
     };
     assert!(rt; seat.is_whole());
-    let Ok(mut seats) = set.divide_among(seat, 5, rt.alloc()) else {
-        panic!(rt; "no memory")
-    };
-    add_with_each(&set, &mut seats);
-    let first = seats.remove(0);
-    let seat = joined(&set, first, seats);
+    let seat = added_and_joined(&rt, &set, seat);
     assert!(rt; seat.is_whole());
-    let Ok(set) = set.settle(seat) else {
-        panic!(rt; "no memory")
-    };
-    let all = [0, 1, 2, 3, 4, 70_000];
-    assert_eq!(rt; list(rt.alloc(), &set)?.as_slice(), all.as_slice());
-    Ok(())
+    assert_members(&rt, &settled(&rt, set, seat), &[0, 1, 2, 3, 4, 70_000])
 }

@@ -1,206 +1,179 @@
 //! Worlds of calls and walks that take turns.
-use crate::tests::list;
+use crate::tests::{assert_indices, assert_members, assert_words};
 use hibitset_atomic::laws::world_laws;
 use hibitset_atomic::{ATOMIC_MAX_EID, AtomicBitSet, Event, Reply, StepError, World, path};
 use hibitset_base::{BitSetLike, Index};
-use std::test::Fail;
+use std::alloc::{AllocError, AllocGlobal};
+use std::process::Abort;
+
+fn assert_bit(rt: &impl Abort, found: (usize, usize, usize), wanted: (usize, usize, usize)) {
+    assert_eq!(rt; found, wanted);
+}
 
 #[test]
 fn path_of_12345(rt: HostRuntime) {
     let bits = path(12345);
-    assert_eq!(rt; bits[0], (0, 192, 1 << 57));
-    assert_eq!(rt; bits[1], (1, 3, 1));
-    assert_eq!(rt; bits[2], (2, 0, 8));
-    assert_eq!(rt; bits[3], (3, 0, 1));
+    assert_bit(&rt, bits[0], (0, 192, 1 << 57));
+    assert_bit(&rt, bits[1], (1, 3, 1));
+    assert_bit(&rt, bits[2], (2, 0, 8));
+    assert_bit(&rt, bits[3], (3, 0, 1));
     world_laws();
 }
 
-#[test]
-fn a_small_world(rt: HostRuntime) -> Result<(), Fail> {
-    let mut world = World::new(AtomicBitSet::new(rt.alloc())?);
-    for call in [1, 2] {
-        assert_eq!(rt; world.apply(Event::Begin { call, id: 5 }), Ok(Reply::Begun));
-    }
-    assert_eq!(rt;
-        world.apply(Event::Step { call: 1 }),
-        Ok(Reply::First { there: false })
-    );
-    assert_eq!(rt;
-        world.apply(Event::Step { call: 2 }),
-        Ok(Reply::First { there: true })
-    );
-    assert_eq!(rt; world.apply(Event::Open { walk: 1 }), Ok(Reply::Opened));
-    assert_eq!(rt;
-        world.apply(Event::Read { walk: 1 }),
-        Ok(Reply::Word {
-            word: 0,
-            ended: true
-        })
-    );
-    assert_eq!(rt; world.items(1), Some([].as_slice()));
+// An event happens, and is answered so.
+fn assert_reply(rt: &impl Abort, world: &mut World, event: Event, reply: Reply) {
+    assert_eq!(rt; world.apply(event), Ok(reply));
+}
+
+fn assert_begins(rt: &impl Abort, world: &mut World, call: u32, id: Index) {
+    assert_reply(rt, world, Event::Begin { call, id }, Reply::Begun);
+}
+
+// A call takes its first step, and tells whether the index was there.
+fn assert_first(rt: &impl Abort, world: &mut World, call: u32, there: bool) {
+    assert_reply(rt, world, Event::Step { call }, Reply::First { there });
+}
+
+// A call that has taken its first step takes the other three.
+fn assert_path(rt: &impl Abort, world: &mut World, call: u32) {
     for left in [2, 1, 0] {
-        assert_eq!(rt;
-            world.apply(Event::Step { call: 2 }),
-            Ok(Reply::Path { left })
-        );
+        assert_reply(rt, world, Event::Step { call }, Reply::Path { left });
     }
-    assert_eq!(rt; world.apply(Event::Open { walk: 2 }), Ok(Reply::Opened));
-    for (word, ended) in [(1, false), (1, false), (1, false), (32, true)] {
-        assert_eq!(rt;
-            world.apply(Event::Read { walk: 2 }),
-            Ok(Reply::Word { word, ended })
-        );
+}
+
+fn assert_opens(rt: &impl Abort, world: &mut World, walk: u32) {
+    assert_reply(rt, world, Event::Open { walk }, Reply::Opened);
+}
+
+// A walk reads these words, and tells after each whether it has ended.
+fn assert_reads(rt: &impl Abort, world: &mut World, walk: u32, words: &[(usize, bool)]) {
+    for read in words {
+        let (word, ended) = *read;
+        assert_reply(rt, world, Event::Read { walk }, Reply::Word { word, ended });
     }
-    assert_eq!(rt; world.items(2), Some([5].as_slice()));
-    assert!(rt; !world.is_at_rest());
-    for left in [2, 1, 0] {
-        assert_eq!(rt;
-            world.apply(Event::Step { call: 1 }),
-            Ok(Reply::Path { left })
-        );
-    }
+}
+
+// Sees that a walk has these items so far.
+fn assert_items(rt: &impl Abort, world: &World, walk: u32, items: &[Index]) {
+    let Some(found) = world.items(walk) else {
+        panic!(rt; "no walk")
+    };
+    assert_indices(rt, found, items);
+}
+
+// The set of a world in which each call has passed all layers.
+fn settled(rt: &impl Abort, world: World) -> AtomicBitSet {
     if !world.is_at_rest() {
-        assert!(rt; false, "a call has not passed all layers");
-        return Ok(());
+        panic!(rt; "a call has not passed all layers")
     }
-    let set = world.settle();
-    assert_eq!(rt;
-        (set.layer4(), set.layer3(0), set.layer2(0), set.layer1(0)),
-        (1, 1, 1, 1)
-    );
-    assert_eq!(rt; list(rt.alloc(), &set)?.as_slice(), [5].as_slice());
-    Ok(())
+    world.settle()
 }
 
 #[test]
-fn a_walk_meets_a_call(rt: HostRuntime) -> Result<(), Fail> {
+fn a_small_world(rt: HostRuntime) -> Result<(), AllocError> {
+    let mut world = World::new(AtomicBitSet::new(rt.alloc())?);
+    assert_begins(&rt, &mut world, 1, 5);
+    assert_begins(&rt, &mut world, 2, 5);
+    assert_first(&rt, &mut world, 1, false);
+    assert_first(&rt, &mut world, 2, true);
+    assert_opens(&rt, &mut world, 1);
+    assert_reads(&rt, &mut world, 1, &[(0, true)]);
+    assert_items(&rt, &world, 1, &[]);
+    assert_path(&rt, &mut world, 2);
+    assert_opens(&rt, &mut world, 2);
+    assert_reads(
+        &rt,
+        &mut world,
+        2,
+        &[(1, false), (1, false), (1, false), (32, true)],
+    );
+    assert_items(&rt, &world, 2, &[5]);
+    assert!(rt; !world.is_at_rest());
+    assert_path(&rt, &mut world, 1);
+    let set = settled(&rt, world);
+    let words = [set.layer4(), set.layer3(0), set.layer2(0), set.layer1(0)];
+    assert_words(&rt, &words, &[1, 1, 1, 1]);
+    assert_members(&rt, &set, &[5])
+}
+
+#[test]
+fn a_walk_meets_a_call(rt: HostRuntime) -> Result<(), AllocError> {
     let mut old = AtomicBitSet::new(rt.alloc())?;
     old.add(0)?;
     let mut world = World::new(old);
-    assert_eq!(rt; world.apply(Event::Open { walk: 1 }), Ok(Reply::Opened));
-    assert_eq!(rt;
-        world.apply(Event::Read { walk: 1 }),
-        Ok(Reply::Word {
-            word: 1,
-            ended: false
-        })
-    );
-    assert_eq!(rt;
-        world.apply(Event::Begin { call: 1, id: 63 }),
-        Ok(Reply::Begun)
-    );
-    assert_eq!(rt;
-        world.apply(Event::Step { call: 1 }),
-        Ok(Reply::First { there: false })
-    );
-    for (word, ended) in [(1, false), (1, false), (9_223_372_036_854_775_809, true)] {
-        assert_eq!(rt;
-            world.apply(Event::Read { walk: 1 }),
-            Ok(Reply::Word { word, ended })
-        );
-    }
-    assert_eq!(rt; world.items(1), Some([0, 63].as_slice()));
+    assert_opens(&rt, &mut world, 1);
+    assert_reads(&rt, &mut world, 1, &[(1, false)]);
+    assert_begins(&rt, &mut world, 1, 63);
+    assert_first(&rt, &mut world, 1, false);
+    let words = [(1, false), (1, false), (9_223_372_036_854_775_809, true)];
+    assert_reads(&rt, &mut world, 1, &words);
+    assert_items(&rt, &world, 1, &[0, 63]);
     assert!(rt; !world.is_at_rest());
-    for left in [2, 1, 0] {
-        assert_eq!(rt;
-            world.apply(Event::Step { call: 1 }),
-            Ok(Reply::Path { left })
-        );
-    }
-    assert!(rt; world.is_at_rest());
-    if !world.is_at_rest() {
-        assert!(rt; false, "a call has not passed all layers");
-        return Ok(());
-    }
-    let set = world.settle();
-    assert_eq!(rt; list(rt.alloc(), &set)?.as_slice(), [0, 63].as_slice());
-    Ok(())
+    assert_path(&rt, &mut world, 1);
+    assert_members(&rt, &settled(&rt, world), &[0, 63])
+}
+
+// A world in which call 1 has added 63, and then walk 1 has read all.
+fn world_of_63(rt: &(impl Abort + AllocGlobal)) -> Result<World, AllocError> {
+    let mut world = World::new(AtomicBitSet::new(rt.alloc())?);
+    assert_begins(rt, &mut world, 1, 63);
+    assert_first(rt, &mut world, 1, false);
+    assert_path(rt, &mut world, 1);
+    assert_opens(rt, &mut world, 1);
+    let words = [(1, false), (1, false), (1, false), (1 << 63, true)];
+    assert_reads(rt, &mut world, 1, &words);
+    assert_items(rt, &world, 1, &[63]);
+    Ok(world)
+}
+
+// An event does not happen.
+fn assert_refused(rt: &impl Abort, world: &mut World, event: Event, error: StepError) {
+    assert_eq!(rt; world.apply(event), Err(error));
 }
 
 // After one call and one walk that have ended.
 #[test]
-fn refused_events(rt: HostRuntime) -> Result<(), Fail> {
-    let mut world = World::new(AtomicBitSet::new(rt.alloc())?);
-    let begun = [
-        Event::Begin { call: 1, id: 63 },
-        Event::Step { call: 1 },
-        Event::Step { call: 1 },
-        Event::Step { call: 1 },
-        Event::Step { call: 1 },
-        Event::Open { walk: 1 },
-        Event::Read { walk: 1 },
-        Event::Read { walk: 1 },
-        Event::Read { walk: 1 },
-        Event::Read { walk: 1 },
-    ];
-    for event in begun {
-        assert!(rt; world.apply(event).is_ok());
-    }
-    assert_eq!(rt; world.items(1), Some([63].as_slice()));
-    let out_of_range = ATOMIC_MAX_EID as Index;
-    let refusals = [
-        (Event::Step { call: 1 }, StepError::Ended),
-        (
-            Event::Begin {
-                call: 1,
-                id: out_of_range,
-            },
-            StepError::Used,
-        ),
-        (
-            Event::Begin {
-                call: 2,
-                id: out_of_range,
-            },
-            StepError::Range,
-        ),
-        (Event::Step { call: 9 }, StepError::Unknown),
-        (Event::Read { walk: 1 }, StepError::Ended),
-        (Event::Open { walk: 1 }, StepError::Used),
-        (Event::Read { walk: 7 }, StepError::Unknown),
-    ];
-    for (event, error) in refusals {
-        assert_eq!(rt; world.apply(event), Err(error));
-    }
-    assert_eq!(rt; world.items(7), None);
+fn refused_events(rt: HostRuntime) -> Result<(), AllocError> {
+    let mut world = world_of_63(&rt)?;
+    let id = ATOMIC_MAX_EID as Index;
+    assert_refused(&rt, &mut world, Event::Step { call: 1 }, StepError::Ended);
+    assert_refused(
+        &rt,
+        &mut world,
+        Event::Begin { call: 1, id },
+        StepError::Used,
+    );
+    assert_refused(
+        &rt,
+        &mut world,
+        Event::Begin { call: 2, id },
+        StepError::Range,
+    );
+    assert_refused(&rt, &mut world, Event::Step { call: 9 }, StepError::Unknown);
+    assert_refused(&rt, &mut world, Event::Read { walk: 1 }, StepError::Ended);
+    assert_refused(&rt, &mut world, Event::Open { walk: 1 }, StepError::Used);
+    assert_refused(&rt, &mut world, Event::Read { walk: 7 }, StepError::Unknown);
+    assert!(rt; world.items(7).is_none());
     Ok(())
 }
 
 #[test]
-fn a_path_that_stands(rt: HostRuntime) -> Result<(), Fail> {
+fn a_path_that_stands(rt: HostRuntime) -> Result<(), AllocError> {
     let mut world = World::new(AtomicBitSet::new(rt.alloc())?);
-    assert_eq!(rt;
-        world.apply(Event::Begin { call: 1, id: 5 }),
-        Ok(Reply::Begun)
-    );
-    assert_eq!(rt;
-        world.apply(Event::Step { call: 1 }),
-        Ok(Reply::First { there: false })
-    );
+    assert_begins(&rt, &mut world, 1, 5);
+    assert_first(&rt, &mut world, 1, false);
     assert!(rt; !world.stands(5));
-    assert_eq!(rt;
-        world.apply(Event::Begin { call: 2, id: 6 }),
-        Ok(Reply::Begun)
+    assert_begins(&rt, &mut world, 2, 6);
+    assert_first(&rt, &mut world, 2, false);
+    assert_path(&rt, &mut world, 2);
+    assert!(rt; world.stands(6) && world.stands(5));
+    assert_opens(&rt, &mut world, 1);
+    assert_reads(
+        &rt,
+        &mut world,
+        1,
+        &[(1, false), (1, false), (1, false), (96, true)],
     );
-    assert_eq!(rt;
-        world.apply(Event::Step { call: 2 }),
-        Ok(Reply::First { there: false })
-    );
-    for left in [2, 1, 0] {
-        assert_eq!(rt;
-            world.apply(Event::Step { call: 2 }),
-            Ok(Reply::Path { left })
-        );
-    }
-    assert!(rt; world.stands(6));
-    assert!(rt; world.stands(5));
-    assert_eq!(rt; world.apply(Event::Open { walk: 1 }), Ok(Reply::Opened));
-    for (word, ended) in [(1, false), (1, false), (1, false), (96, true)] {
-        assert_eq!(rt;
-            world.apply(Event::Read { walk: 1 }),
-            Ok(Reply::Word { word, ended })
-        );
-    }
-    assert_eq!(rt; world.items(1), Some([5, 6].as_slice()));
+    assert_items(&rt, &world, 1, &[5, 6]);
     Ok(())
 }

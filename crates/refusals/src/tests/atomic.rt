@@ -1,7 +1,13 @@
-//! Sets that threads add to.
-use crate::tests::{ask, atomic_of, has_exactly, say, way};
-use hibitset::{AtomicBitSet, BuildError, Index};
-use std::alloc::AllocError;
+//! Sets that threads add to. A call that a test makes is in a function of its own, which makes no other request.
+ghost use Rattle.std.specs.Prelude.{◌≡◌, ◌<◌, IfOk, IfErr};
+ghost use Rattle.hibitset_atomic.specs.Seats.{Came, weight_of};
+ghost use Rattle.hibitset_atomic.specs.declared.atomic.TheConstants.{ATOMIC_MAX_EID};
+ghost use Rattle.hibitset_atomic.specs.declared.shared.sizes.TheConstants.{SHARES};
+
+use crate::tests::{ask, assert_has, assert_way, atomic_of, has_exactly, say, shared_of};
+use hibitset::{AtomicBitSet, BuildError, Index, Seat, SharedBitSet};
+use std::alloc::{AllocError, Global};
+use std::process::Abort;
 use std::test::Fail;
 
 #[test]
@@ -14,23 +20,29 @@ fn new(rt: HostRuntime) -> Result<(), Fail> {
         Ok(set) => set,
         Err(_) => AtomicBitSet::new(rt.alloc())?,
     };
-    assert!(rt; has_exactly(&set, &[]));
+    assert_has(&rt, &set, &[]);
     Ok(())
+}
+
+fn added(set: &mut AtomicBitSet, id: Index) -> Result<bool, AllocError>
+    requires { id < ATOMIC_MAX_EID }
+{
+    set.add(id)
 }
 
 #[test]
 fn add(rt: HostRuntime) -> Result<(), Fail> {
     let mut set = atomic_of(rt.alloc(), &[5])?;
     ask(&rt)?;
-    assert!(rt; set.add(4095) == Ok(false));
-    let added = set.add(4096);
-    say(&rt, added.is_err())?;
+    assert!(rt; added(&mut set, 4095) == Ok(false));
+    let first = added(&mut set, 4096);
+    say(&rt, first.is_err())?;
     ask(&rt)?;
-    if added.is_err() {
-        assert!(rt; has_exactly(&set, &[5, 4095]) && way(&set, 4096) == [1, 1, 1, 0, 0]);
-        assert!(rt; !set.add(4096)?);
+    if first.is_err() {
+        assert_way(&rt, &set, &[5, 4095], 4096, [1, 1, 1, 0, 0]);
+        assert!(rt; added(&mut set, 4096) == Ok(false));
     }
-    assert!(rt; has_exactly(&set, &[5, 4095, 4096]));
+    assert_has(&rt, &set, &[5, 4095, 4096]);
     Ok(())
 }
 
@@ -47,79 +59,111 @@ fn is_refused_there(error: BuildError, next: Option<Index>, places: &[usize]) ->
     }
 }
 
+// What is made of these items, and the next one that is left.
+fn of_items(alloc: Global, items: &[Index]) -> (Result<AtomicBitSet, BuildError>, Option<Index>) {
+    let mut left = items.iter().copied();
+    let built = AtomicBitSet::from_indices(alloc, &mut left);
+    (built, left.next())
+}
+
+fn of_items_again(alloc: Global) -> Result<AtomicBitSet, BuildError> {
+    AtomicBitSet::from_indices(alloc, SPREAD.iter().copied())
+}
+
 #[test]
 fn from_indices(rt: HostRuntime) -> Result<(), Fail> {
     ask(&rt)?;
-    let mut left = SPREAD.iter().copied();
-    let built = AtomicBitSet::from_indices(rt.alloc(), &mut left);
+    let (built, next) = of_items(rt.alloc(), &SPREAD);
     say(&rt, built.is_err())?;
     ask(&rt)?;
     let set = match built {
         Ok(set) => set,
         Err(error) => {
-            assert!(rt; is_refused_there(error, left.next(), &[0, 4, 7]));
-            AtomicBitSet::from_indices(rt.alloc(), SPREAD.iter().copied())?
+            assert!(rt; is_refused_there(error, next, &[0, 4, 7]));
+            of_items_again(rt.alloc())?
         }
     };
-    assert!(rt;
-        has_exactly(
-            &set,
-            &[6, 7, 8, 9, 10, 11, 5_000_000, 9_000_000, 13_000_000]
-        )
+    assert_has(
+        &rt,
+        &set,
+        &[6, 7, 8, 9, 10, 11, 5_000_000, 9_000_000, 13_000_000],
     );
     Ok(())
+}
+
+fn of_references(
+    alloc: Global,
+    items: &[Index],
+) -> (Result<AtomicBitSet, BuildError>, Option<Index>) {
+    let mut left = items.iter();
+    let built = AtomicBitSet::from_index_refs(alloc, &mut left);
+    (built, left.next().copied())
+}
+
+fn of_references_again(alloc: Global) -> Result<AtomicBitSet, BuildError> {
+    AtomicBitSet::from_index_refs(alloc, &SPREAD)
 }
 
 #[test]
 fn from_index_refs(rt: HostRuntime) -> Result<(), Fail> {
     ask(&rt)?;
-    let mut left = SPREAD.iter();
-    let built = AtomicBitSet::from_index_refs(rt.alloc(), &mut left);
+    let (built, next) = of_references(rt.alloc(), &SPREAD);
     say(&rt, built.is_err())?;
     ask(&rt)?;
     let set = match built {
         Ok(set) => set,
         Err(error) => {
-            assert!(rt; is_refused_there(error, left.next().copied(), &[0, 4, 7]));
-            AtomicBitSet::from_index_refs(rt.alloc(), &SPREAD)?
+            assert!(rt; is_refused_there(error, next, &[0, 4, 7]));
+            of_references_again(rt.alloc())?
         }
     };
-    assert!(rt;
-        has_exactly(
-            &set,
-            &[6, 7, 8, 9, 10, 11, 5_000_000, 9_000_000, 13_000_000]
-        )
+    assert_has(
+        &rt,
+        &set,
+        &[6, 7, 8, 9, 10, 11, 5_000_000, 9_000_000, 13_000_000],
     );
     Ok(())
+}
+
+const ONE_FITS: [Index; 3] = [7, 16_777_216, 8];
+
+// Tells whether the first item was refused for want of memory.
+fn is_refused_at_first(built: &Result<AtomicBitSet, BuildError>) -> bool {
+    match built {
+        Ok(_) => false,
+        Err(error) => *error == BuildError::Memory { place: 0 },
+    }
 }
 
 // Where the empty set is refused memory, the first item is drawn, and no other.
 #[test]
 fn from_indices_of_which_one_fits(rt: HostRuntime) -> Result<(), Fail> {
-    let items = [7u32, 16_777_216, 8];
     ask(&rt)?;
-    let mut left = items.iter().copied();
-    let error = AtomicBitSet::from_indices(rt.alloc(), &mut left).err();
-    let refused = error == Some(BuildError::Memory { place: 0 });
+    let (built, next) = of_items(rt.alloc(), &ONE_FITS);
+    let refused = is_refused_at_first(&built);
     say(&rt, refused)?;
     ask(&rt)?;
-    let next = left.next();
-    assert!(rt; error.is_some() && next == Some(if refused { 16_777_216 } else { 8 }));
+    assert!(rt; built.is_err() && next == Some(if refused { 16_777_216 } else { 8 }));
     Ok(())
 }
 
 #[test]
 fn from_index_refs_of_which_one_fits(rt: HostRuntime) -> Result<(), Fail> {
-    let items = [7u32, 16_777_216, 8];
     ask(&rt)?;
-    let mut left = items.iter();
-    let error = AtomicBitSet::from_index_refs(rt.alloc(), &mut left).err();
-    let refused = error == Some(BuildError::Memory { place: 0 });
+    let (built, next) = of_references(rt.alloc(), &ONE_FITS);
+    let refused = is_refused_at_first(&built);
     say(&rt, refused)?;
     ask(&rt)?;
-    let next = left.next();
-    assert!(rt; error.is_some() && next == Some(if refused { &16_777_216 } else { &8 }));
+    assert!(rt; built.is_err() && next == Some(if refused { 16_777_216 } else { 8 }));
     Ok(())
+}
+
+// Tells whether a set without members was made, or its memory was refused.
+fn is_empty_or_refused(built: &Result<AtomicBitSet, BuildError>) -> bool {
+    match built {
+        Ok(set) => has_exactly(set, &[]),
+        Err(error) => *error == BuildError::Memory { place: 0 },
+    }
 }
 
 // The empty set itself wants memory, also where there is no item.
@@ -129,10 +173,7 @@ fn from_no_indices(rt: HostRuntime) -> Result<(), Fail> {
     let built = AtomicBitSet::from_indices(rt.alloc(), 0..0);
     say(&rt, built.is_err())?;
     ask(&rt)?;
-    match built {
-        Ok(set) => assert!(rt; has_exactly(&set, &[])),
-        Err(error) => assert!(rt; error == BuildError::Memory { place: 0 }),
-    }
+    assert!(rt; is_empty_or_refused(&built));
     Ok(())
 }
 
@@ -142,65 +183,94 @@ fn from_no_index_refs(rt: HostRuntime) -> Result<(), Fail> {
     let built = AtomicBitSet::from_index_refs(rt.alloc(), &[0u32; 0]);
     say(&rt, built.is_err())?;
     ask(&rt)?;
-    match built {
-        Ok(set) => assert!(rt; has_exactly(&set, &[])),
-        Err(error) => assert!(rt; error == BuildError::Memory { place: 0 }),
-    }
+    assert!(rt; is_empty_or_refused(&built));
     Ok(())
+}
+
+// Sees that a set over 5 was refused memory for an item of `SPREAD` that can need some, and has the items before it.
+fn assert_stopped(rt: &impl Abort, set: &AtomicBitSet, error: BuildError, next: Option<Index>) {
+    assert!(rt; is_refused_there(error, next, &[4, 7]));
+    assert!(rt; set.contains(9) && !set.contains(13_000_000) && !set.contains(11));
+    if error == (BuildError::Memory { place: 4 }) {
+        assert_way(rt, set, &[5, 6, 7, 8, 9], 5_000_000, [1, 1, 0, 0, 0]);
+    }
+}
+
+// Sees that a set has 5 and `SPREAD`.
+fn assert_extended(rt: &impl Abort, set: &AtomicBitSet) {
+    assert_has(
+        rt,
+        set,
+        &[5, 6, 7, 8, 9, 10, 11, 5_000_000, 9_000_000, 13_000_000],
+    );
+}
+
+// How a set took the items, and the next one that is left.
+fn extended(set: &mut AtomicBitSet) -> (Result<(), BuildError>, Option<Index>) {
+    let mut left = SPREAD.iter().copied();
+    let extended = set.extend_indices(&mut left);
+    (extended, left.next())
+}
+
+fn extended_again(set: &mut AtomicBitSet) -> Result<(), BuildError> {
+    set.extend_indices(SPREAD.iter().copied())
 }
 
 #[test]
 fn extend_indices(rt: HostRuntime) -> Result<(), Fail> {
     let mut set = atomic_of(rt.alloc(), &[5])?;
     ask(&rt)?;
-    let mut left = SPREAD.iter().copied();
-    let extended = set.extend_indices(&mut left);
+    let (extended, next) = extended(&mut set);
     say(&rt, extended.is_err())?;
     ask(&rt)?;
     if let Err(error) = extended {
-        assert!(rt; is_refused_there(error, left.next(), &[4, 7]));
-        assert!(rt; set.contains(9) && !set.contains(13_000_000) && !set.contains(11));
-        if error == (BuildError::Memory { place: 4 }) {
-            assert!(rt;
-                has_exactly(&set, &[5, 6, 7, 8, 9]) && way(&set, 5_000_000) == [1, 1, 0, 0, 0]
-            );
-        }
-        set.extend_indices(SPREAD.iter().copied())?;
+        assert_stopped(&rt, &set, error, next);
+        extended_again(&mut set)?;
     }
-    assert!(rt;
-        has_exactly(
-            &set,
-            &[5, 6, 7, 8, 9, 10, 11, 5_000_000, 9_000_000, 13_000_000]
-        )
-    );
+    assert_extended(&rt, &set);
     Ok(())
+}
+
+fn extended_by_references(set: &mut AtomicBitSet) -> (Result<(), BuildError>, Option<Index>) {
+    let mut left = SPREAD.iter();
+    let extended = set.extend_index_refs(&mut left);
+    (extended, left.next().copied())
+}
+
+fn extended_by_references_again(set: &mut AtomicBitSet) -> Result<(), BuildError> {
+    set.extend_index_refs(&SPREAD)
 }
 
 #[test]
 fn extend_index_refs(rt: HostRuntime) -> Result<(), Fail> {
     let mut set = atomic_of(rt.alloc(), &[5])?;
     ask(&rt)?;
-    let mut left = SPREAD.iter();
-    let extended = set.extend_index_refs(&mut left);
+    let (extended, next) = extended_by_references(&mut set);
     say(&rt, extended.is_err())?;
     ask(&rt)?;
     if let Err(error) = extended {
-        assert!(rt; is_refused_there(error, left.next().copied(), &[4, 7]));
-        assert!(rt; set.contains(9) && !set.contains(13_000_000) && !set.contains(11));
-        if error == (BuildError::Memory { place: 4 }) {
-            assert!(rt;
-                has_exactly(&set, &[5, 6, 7, 8, 9]) && way(&set, 5_000_000) == [1, 1, 0, 0, 0]
-            );
-        }
-        set.extend_index_refs(&SPREAD)?;
+        assert_stopped(&rt, &set, error, next);
+        extended_by_references_again(&mut set)?;
     }
-    assert!(rt;
-        has_exactly(
-            &set,
-            &[5, 6, 7, 8, 9, 10, 11, 5_000_000, 9_000_000, 13_000_000]
-        )
-    );
+    assert_extended(&rt, &set);
     Ok(())
+}
+
+// Shares a set again that was refused it, after a look at the set.
+fn shared_again(rt: &impl Abort, set: AtomicBitSet) -> (SharedBitSet, Seat)
+    ensures { Came result.0 result.1 }
+{
+    assert_way(
+        rt,
+        &set,
+        &[5, 70000],
+        70000,
+        [1, 1, 1 << 17 | 1, 1 << 5, 1 << 48],
+    );
+    let Ok(shared) = set.share() else {
+        panic!(rt; "refused twice")
+    };
+    shared
 }
 
 #[test]
@@ -210,69 +280,94 @@ fn share(rt: HostRuntime) -> Result<(), Fail> {
     let shared = set.share();
     say(&rt, shared.is_err())?;
     ask(&rt)?;
-    let again = match shared {
-        Ok(both) => Ok(both),
-        Err(set) => {
-            assert!(rt;
-                has_exactly(&set, &[5, 70000])
-                    && way(&set, 70000) == [1, 1, 1 << 17 | 1, 1 << 5, 1 << 48]
-            );
-            set.share()
-        }
-    };
-    let Ok((shared, mut seat)) = again else {
-        panic!(rt; "refused twice")
+    let (shared, mut seat) = match shared {
+        Ok(both) => both,
+        Err(set) => shared_again(&rt, set),
     };
     assert!(rt; shared.contains(&mut seat, 70000) && !shared.contains(&mut seat, 6));
     assert!(rt; seat.is_whole());
     Ok(())
 }
 
+// A set over 70,000 that many may add to, and a seat that has added an index.
+fn shared_with(
+    rt: &impl Abort,
+    alloc: Global,
+    id: Index,
+) -> Result<(SharedBitSet, Seat), AllocError>
+    requires { id < ATOMIC_MAX_EID }
+    ensures { IfOk result (λ r. Came r.0 r.1 × (weight_of r.1 ≡ SHARES)) }
+{
+    let (shared, mut seat) = shared_of(alloc, &[70000])?;
+    assert!(rt; !shared.add_atomic(&mut seat, id));
+    Ok((shared, seat))
+}
+
+fn in_three(shared: &SharedBitSet, seat: Seat, alloc: Global) -> Result<Vec<Seat>, Seat>
+    requires { Came shared.now seat × (weight_of seat ≡ SHARES) }
+    ensures { IfErr result (λ s. Came shared.now s × (weight_of s ≡ SHARES)) }
+{
+    shared.divide_among(seat, 3, alloc)
+}
+
+// Divides a seat again that was refused it, after a look at the seat.
+fn in_three_again(rt: &impl Abort, shared: &SharedBitSet, seat: Seat, alloc: Global) -> Vec<Seat>
+    requires { Came shared.now seat × (weight_of seat ≡ SHARES) }
+{
+    let mut seat = seat;
+    assert!(rt; seat.is_whole() && shared.contains(&mut seat, 9));
+    let Ok(seats) = in_three(shared, seat, alloc) else {
+        panic!(rt; "refused twice")
+    };
+    seats
+}
+
 #[test]
 fn divide_among(rt: HostRuntime) -> Result<(), Fail> {
-    let Ok((shared, mut seat)) = atomic_of(rt.alloc(), &[70000])?.share() else {
-        return Err(AllocError.into());
-    };
-    assert!(rt; !shared.add_atomic(&mut seat, 9));
+    let (shared, seat) = shared_with(&rt, rt.alloc(), 9)?;
     ask(&rt)?;
-    let divided = shared.divide_among(seat, 3, rt.alloc());
+    let divided = in_three(&shared, seat, rt.alloc());
     say(&rt, divided.is_err())?;
     ask(&rt)?;
-    let again = match divided {
-        Ok(seats) => Ok(seats),
-        Err(mut seat) => {
-            assert!(rt; seat.is_whole() && shared.contains(&mut seat, 9));
-            shared.divide_among(seat, 3, rt.alloc())
-        }
-    };
-    let Ok(seats) = again else {
-        panic!(rt; "refused twice")
+    let seats = match divided {
+        Ok(seats) => seats,
+        Err(seat) => in_three_again(&rt, &shared, seat, rt.alloc()),
     };
     assert!(rt; seats.len() == 3);
     Ok(())
 }
 
-#[test]
-fn settle(rt: HostRuntime) -> Result<(), Fail> {
-    let Ok((shared, mut seat)) = atomic_of(rt.alloc(), &[70000])?.share() else {
-        return Err(AllocError.into());
-    };
-    assert!(rt; !shared.add_atomic(&mut seat, 16777215));
-    ask(&rt)?;
-    let settled = shared.settle(seat);
-    say(&rt, settled.is_err())?;
-    ask(&rt)?;
-    let again = match settled {
-        Ok(set) => Ok(set),
-        Err((shared, mut seat)) => {
-            assert!(rt; seat.is_whole() && shared.contains(&mut seat, 16777215));
-            shared.settle(seat)
-        }
-    };
-    let Ok(set) = again else {
+fn settled(shared: SharedBitSet, seat: Seat) -> Result<AtomicBitSet, (SharedBitSet, Seat)>
+    requires { Came shared seat }
+    ensures { IfErr result (λ r. Came r.0 r.1) }
+{
+    shared.settle(seat)
+}
+
+// Settles a set again that was refused it, after a look at the seat.
+fn settled_again(rt: &impl Abort, shared: SharedBitSet, seat: Seat) -> AtomicBitSet
+    requires { Came shared seat }
+{
+    let mut seat = seat;
+    assert!(rt; seat.is_whole() && shared.contains(&mut seat, 16777215));
+    let Ok(set) = settled(shared, seat) else {
         panic!(rt; "refused twice")
     };
-    assert!(rt; has_exactly(&set, &[70000, 16777215]));
-    assert!(rt; way(&set, 16777215) == [1, 1 << 63 | 1, 1 << 63, 1 << 63, 1 << 63]);
+    set
+}
+
+#[test]
+fn settle(rt: HostRuntime) -> Result<(), Fail> {
+    let (shared, seat) = shared_with(&rt, rt.alloc(), 16777215)?;
+    ask(&rt)?;
+    let settled = settled(shared, seat);
+    say(&rt, settled.is_err())?;
+    ask(&rt)?;
+    let set = match settled {
+        Ok(set) => set,
+        Err((shared, seat)) => settled_again(&rt, shared, seat),
+    };
+    let words = [1, 1 << 63 | 1, 1 << 63, 1 << 63, 1 << 63];
+    assert_way(&rt, &set, &[70000, 16777215], 16777215, words);
     Ok(())
 }

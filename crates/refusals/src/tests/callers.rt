@@ -1,11 +1,14 @@
 //! Callers of the library.
-ghost use Rattle.std.specs.Prelude.{◌≡◌, IfOk};
+ghost use Rattle.std.specs.Prelude.{◌≡◌, length, IfOk};
 ghost use Rattle.hibitset_atomic.specs.Seats.{Came};
 ghost use Rattle.uses.specs.Filter.{tags_of};
 
-use crate::tests::{ask, atomic_of, has_exactly, say, set_of};
-use hibitset::{BitSet, BitSetLike, BuildError};
+use crate::tests::{
+    ask, assert_has, assert_indices, atomic_of, has_exactly, say, set_of, shared_of,
+};
+use hibitset::{AtomicBitSet, BitSet, BitSetLike, BuildError, Index, Seat, SharedBitSet};
 use std::alloc::{AllocError, Global};
+use std::process::Abort;
 use std::test::Fail;
 use uses::filter::Tagged;
 use uses::ids::Ids;
@@ -17,89 +20,121 @@ use uses::shared_ids::take_many;
 use uses::walks::indices;
 use uses::workers::{Refused, add_lists};
 
+// Each call that a test makes is in a function of its own, which makes no other request.
+
+fn given(ids: &mut Ids) -> Result<Option<Index>, AllocError> {
+    ids.alloc()
+}
+
 #[test]
 fn alloc(rt: HostRuntime) -> Result<(), Fail> {
     let mut ids = Ids::new(rt.alloc());
     ask(&rt)?;
-    let given = ids.alloc();
-    say(&rt, given.is_err())?;
+    let first = given(&mut ids);
+    say(&rt, first.is_err())?;
     ask(&rt)?;
-    if given.is_err() {
-        assert!(rt; !ids.is_used(0) && ids.alloc() == Ok(Some(0)));
+    if first.is_err() {
+        assert!(rt; !ids.is_used(0) && given(&mut ids) == Ok(Some(0)));
     }
     assert!(rt; ids.is_used(0) && !ids.is_used(1));
     Ok(())
+}
+
+fn given_run(ids: &mut Ids) -> Result<Option<Index>, AllocError> {
+    ids.alloc_run(100)
 }
 
 #[test]
 fn alloc_run(rt: HostRuntime) -> Result<(), Fail> {
     let mut ids = Ids::new(rt.alloc());
     ask(&rt)?;
-    let given = ids.alloc_run(100);
-    say(&rt, given.is_err())?;
+    let first = given_run(&mut ids);
+    say(&rt, first.is_err())?;
     ask(&rt)?;
-    if given.is_err() {
-        assert!(rt; !ids.is_used(0) && ids.alloc_run(100) == Ok(Some(0)));
+    if first.is_err() {
+        assert!(rt; !ids.is_used(0) && given_run(&mut ids) == Ok(Some(0)));
     }
     assert!(rt; ids.is_used(0) && ids.is_used(99) && !ids.is_used(100));
     Ok(())
+}
+
+fn marked(pages: &mut Pages) -> Result<bool, AllocError> {
+    pages.mark(5)
 }
 
 #[test]
 fn mark(rt: HostRuntime) -> Result<(), Fail> {
     let mut pages = Pages::new(rt.alloc());
     ask(&rt)?;
-    let marked = pages.mark(5);
-    say(&rt, marked.is_err())?;
+    let first = marked(&mut pages);
+    say(&rt, first.is_err())?;
     ask(&rt)?;
-    if marked.is_err() {
-        assert!(rt; !pages.is_dirty(5) && pages.mark(5) == Ok(false));
+    if first.is_err() {
+        assert!(rt; !pages.is_dirty(5) && marked(&mut pages) == Ok(false));
     }
     assert!(rt; pages.is_dirty(5));
     Ok(())
 }
 
-#[test]
-fn flush(rt: HostRuntime) -> Result<(), Fail> {
-    let mut pages = Pages::new(rt.alloc());
+fn flushed(pages: &mut Pages, out: &mut Vec<Index>) -> Result<(), AllocError> {
+    pages.flush(out)
+}
+
+fn marked_pages(alloc: Global) -> Result<Pages, AllocError> {
+    let mut pages = Pages::new(alloc);
     pages.mark(5)?;
     pages.mark(70_000)?;
+    Ok(pages)
+}
+
+#[test]
+fn flush(rt: HostRuntime) -> Result<(), Fail> {
+    let mut pages = marked_pages(rt.alloc())?;
     let mut out = Vec::new(rt.alloc());
     ask(&rt)?;
-    let flushed = pages.flush(&mut out);
-    say(&rt, flushed.is_err())?;
+    let first = flushed(&mut pages, &mut out);
+    say(&rt, first.is_err())?;
     ask(&rt)?;
-    if flushed.is_err() {
+    if first.is_err() {
         assert!(rt; out.is_empty() && pages.is_dirty(5) && pages.is_dirty(70_000));
-        pages.flush(&mut out)?;
+        flushed(&mut pages, &mut out)?;
     }
-    assert!(rt; out.as_slice() == [5, 70_000].as_slice() && !pages.is_dirty(5));
+    assert_indices(&rt, out.as_slice(), &[5, 70_000]);
+    assert!(rt; !pages.is_dirty(5));
     Ok(())
+}
+
+fn ready_of(alloc: Global) -> Result<Ready, AllocError> {
+    Ready::new(alloc, 100)
 }
 
 #[test]
 fn ready(rt: HostRuntime) -> Result<(), Fail> {
     ask(&rt)?;
-    let made = Ready::new(rt.alloc(), 100);
+    let made = ready_of(rt.alloc());
     say(&rt, made.is_err())?;
     ask(&rt)?;
     let mut ready = match made {
         Ok(ready) => ready,
-        Err(_) => Ready::new(rt.alloc(), 100)?,
+        Err(_) => ready_of(rt.alloc())?,
     };
     assert!(rt; ready.wake(99) == Ok(false) && ready.next_ready() == Some(99));
     Ok(())
 }
 
+fn woken(ready: &mut Ready) -> Result<bool, AllocError> {
+    ready.wake(5_000)
+}
+
 #[test]
 fn wake(rt: HostRuntime) -> Result<(), Fail> {
-    let mut ready = Ready::new(rt.alloc(), 100)?;
+    let mut ready = ready_of(rt.alloc())?;
     ask(&rt)?;
-    let woken = ready.wake(5_000);
-    say(&rt, woken.is_err())?;
+    let first = woken(&mut ready);
+    say(&rt, first.is_err())?;
     ask(&rt)?;
-    if woken.is_err() {
-        assert!(rt; ready.next_ready().is_none() && ready.wake(5_000) == Ok(false));
+    if first.is_err() {
+        assert!(rt; ready.next_ready().is_none() && woken(&mut ready) == Ok(false));
     }
     assert!(rt; ready.next_ready() == Some(5_000));
     Ok(())
@@ -142,24 +177,32 @@ fn tag(rt: HostRuntime) -> Result<(), Fail> {
     say(&rt, had.is_err())?;
     ask(&rt)?;
     if had.is_err() {
-        assert!(rt; has_exactly(tagged.records(2), &[1]) && tagged.tag(70_000, 2) == Ok(false));
+        assert_has(&rt, tagged.records(2), &[1]);
+        assert!(rt; tagged.tag(70_000, 2) == Ok(false));
     }
-    assert!(rt; has_exactly(tagged.records(2), &[1, 70_000]));
+    assert_has(&rt, tagged.records(2), &[1, 70_000]);
     Ok(())
+}
+
+fn found(alloc: Global, tagged: &Tagged) -> Result<Vec<Index>, AllocError>
+    requires { tags_of tagged.now ≡ 3 }
+{
+    tagged.find(alloc, 0, 1, 2)
 }
 
 #[test]
 fn find(rt: HostRuntime) -> Result<(), Fail> {
     let tagged = tagged(rt.alloc())?;
     ask(&rt)?;
-    let found = tagged.find(rt.alloc(), 0, 1, 2);
-    say(&rt, found.is_err())?;
+    let first = found(rt.alloc(), &tagged);
+    say(&rt, first.is_err())?;
     ask(&rt)?;
-    let list = match found {
+    let list = match first {
         Ok(list) => list,
-        Err(_) => tagged.find(rt.alloc(), 0, 1, 2)?,
+        Err(_) => found(rt.alloc(), &tagged)?,
     };
-    assert!(rt; list.as_slice() == [2, 70_000].as_slice() && list.capacity() == 2);
+    assert_indices(&rt, list.as_slice(), &[2, 70_000]);
+    assert!(rt; list.capacity() == 2);
     Ok(())
 }
 
@@ -172,38 +215,46 @@ fn widen(rt: HostRuntime) -> Result<(), Fail> {
     say(&rt, widened.is_err())?;
     ask(&rt)?;
     if widened.is_err() {
-        assert!(rt; has_exactly(tagged.records(2), &[1]));
+        assert_has(&rt, tagged.records(2), &[1]);
         tagged.widen(2, &more)?;
     }
-    assert!(rt; has_exactly(tagged.records(2), &[1, 3, 70_000]));
+    assert_has(&rt, tagged.records(2), &[1, 3, 70_000]);
     Ok(())
+}
+
+fn of_list(alloc: Global) -> Result<BitSet, BuildError> {
+    lists::set_of(alloc, &[5, 5_000_000])
 }
 
 #[test]
 fn set_of_a_list(rt: HostRuntime) -> Result<(), Fail> {
     ask(&rt)?;
-    let made = lists::set_of(rt.alloc(), &[5, 5_000_000]);
+    let made = of_list(rt.alloc());
     say(&rt, made.is_err())?;
     ask(&rt)?;
     let set = match made {
         Ok(set) => set,
-        Err(_) => lists::set_of(rt.alloc(), &[5, 5_000_000])?,
+        Err(_) => of_list(rt.alloc())?,
     };
-    assert!(rt; has_exactly(&set, &[5, 5_000_000]));
+    assert_has(&rt, &set, &[5, 5_000_000]);
     Ok(())
+}
+
+fn of_range(alloc: Global) -> Result<BitSet, BuildError> {
+    lists::set_of_range(alloc, 62, 1_000)
 }
 
 #[test]
 fn set_of_a_range(rt: HostRuntime) -> Result<(), Fail> {
     ask(&rt)?;
-    let made = lists::set_of_range(rt.alloc(), 62, 1_000);
+    let made = of_range(rt.alloc());
     say(&rt, made.is_err())?;
     ask(&rt)?;
     let set = match made {
         Ok(set) => set,
         Err(BuildError::Memory { place }) => {
             assert!(rt; place == 0 || place % 64 == 2);
-            lists::set_of_range(rt.alloc(), 62, 1_000)?
+            of_range(rt.alloc())?
         }
         Err(_) => panic!(rt; "out of range"),
     };
@@ -211,18 +262,23 @@ fn set_of_a_range(rt: HostRuntime) -> Result<(), Fail> {
     Ok(())
 }
 
+fn with_list(set: &mut BitSet) -> Result<(), BuildError> {
+    lists::add_all(set, &[6, 5_000_000, 7])
+}
+
 #[test]
 fn add_a_list(rt: HostRuntime) -> Result<(), Fail> {
     let mut set = set_of(rt.alloc(), &[5])?;
     ask(&rt)?;
-    let added = lists::add_all(&mut set, &[6, 5_000_000, 7]);
+    let added = with_list(&mut set);
     say(&rt, added.is_err())?;
     ask(&rt)?;
     if let Err(error) = added {
-        assert!(rt; error == (BuildError::Memory { place: 1 }) && has_exactly(&set, &[5, 6]));
-        lists::add_all(&mut set, &[6, 5_000_000, 7])?;
+        assert!(rt; error == BuildError::Memory { place: 1 });
+        assert_has(&rt, &set, &[5, 6]);
+        with_list(&mut set)?;
     }
-    assert!(rt; has_exactly(&set, &[5, 6, 7, 5_000_000]));
+    assert_has(&rt, &set, &[5, 6, 7, 5_000_000]);
     Ok(())
 }
 
@@ -238,7 +294,8 @@ fn one_more(rt: HostRuntime) -> Result<(), Fail> {
         Ok(copy) => copy,
         Err(_) => with_one_more(&set, 7)?,
     };
-    assert!(rt; has_exactly(&copy, &[5, 7]) && has_exactly(&set, &[5]));
+    assert_has(&rt, &copy, &[5, 7]);
+    assert_has(&rt, &set, &[5]);
     Ok(())
 }
 
@@ -260,9 +317,7 @@ fn save(rt: HostRuntime) -> Result<(), Fail> {
 // What a walk gives that is refused memory its seat knows.
 #[test]
 fn walk(rt: HostRuntime) -> Result<(), Fail> {
-    let Ok((set, mut seat)) = atomic_of(rt.alloc(), &[7, 70_000])?.share() else {
-        return Err(AllocError.into());
-    };
+    let (set, mut seat) = shared_of(rt.alloc(), &[7, 70_000])?;
     ask(&rt)?;
     let all = indices(rt.alloc(), &set, &mut seat);
     say(&rt, all.is_err())?;
@@ -271,16 +326,14 @@ fn walk(rt: HostRuntime) -> Result<(), Fail> {
         Ok(all) => all,
         Err(_) => indices(rt.alloc(), &set, &mut seat)?,
     };
-    assert!(rt; all.as_slice() == [7, 70_000].as_slice());
+    assert_indices(&rt, all.as_slice(), &[7, 70_000]);
     Ok(())
 }
 
 // Refused, it takes none, and what it took before stays with the seat.
 #[test]
 fn take(rt: HostRuntime) -> Result<(), Fail> {
-    let Ok((set, seat)) = atomic_of(rt.alloc(), &[0])?.share() else {
-        return Err(AllocError.into());
-    };
+    let (set, seat) = shared_of(rt.alloc(), &[0])?;
     ask(&rt)?;
     let mut taken = take_many(rt.alloc(), &set, seat, 2);
     say(&rt, taken.ids.is_empty())?;
@@ -293,14 +346,31 @@ fn take(rt: HostRuntime) -> Result<(), Fail> {
     Ok(())
 }
 
+// One list of two indices.
+fn one_list(alloc: Global) -> Result<Vec<Vec<Index>>, AllocError>
+    ensures { IfOk result (λ lists. length lists.items ≡ 1) }
+{
+    let mut list = Vec::with_capacity(alloc, 2)?;
+    list.push(7)?;
+    list.push(70_000)?;
+    let mut lists = Vec::with_capacity(alloc, 1)?;
+    lists.push(list)?;
+    Ok(lists)
+}
+
+fn settled(rt: &impl Abort, shared: SharedBitSet, seat: Seat) -> AtomicBitSet
+    requires { Came shared seat }
+{
+    let Ok(set) = shared.settle(seat) else {
+        panic!(rt; "refused twice")
+    };
+    set
+}
+
 // Refused, the set is as it was, or it settles with the seat that is left.
 #[test]
 fn lists_by_workers(rt: HostRuntime) -> Result<(), Fail> {
-    let mut list = Vec::with_capacity(rt.alloc(), 2)?;
-    list.push(7)?;
-    list.push(70_000)?;
-    let mut lists = Vec::with_capacity(rt.alloc(), 1)?;
-    lists.push(list)?;
+    let lists = one_list(rt.alloc())?;
     let set = atomic_of(rt.alloc(), &[5])?;
     ask(&rt)?;
     let added = add_lists(&rt, rt.alloc(), set, lists);
@@ -310,21 +380,13 @@ fn lists_by_workers(rt: HostRuntime) -> Result<(), Fail> {
         Ok(added) => {
             assert!(rt; added.new == 2 && has_exactly(&added.set, &[5, 7, 70_000]));
         }
-        Err(Refused::Sharing(set)) => {
-            assert!(rt; has_exactly(&set, &[5]));
-        }
+        Err(Refused::Sharing(set)) => assert_has(&rt, &set, &[5]),
         Err(Refused::Working(shared, seat)) => {
-            let Ok(set) = shared.settle(seat) else {
-                panic!(rt; "refused twice")
-            };
-            assert!(rt; set.contains(5));
+            assert!(rt; settled(&rt, shared, seat).contains(5));
         }
         Err(Refused::Settling(shared, seat)) => {
             assert!(rt; seat.is_whole());
-            let Ok(set) = shared.settle(seat) else {
-                panic!(rt; "refused twice")
-            };
-            assert!(rt; has_exactly(&set, &[5, 7, 70_000]));
+            assert_has(&rt, &settled(&rt, shared, seat), &[5, 7, 70_000]);
         }
     }
     Ok(())

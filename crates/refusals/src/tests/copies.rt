@@ -1,5 +1,5 @@
 //! Clones of virtual sets and of walks that own their sets.
-use crate::tests::{ask, has_exactly, say, set_of};
+use crate::tests::{ask, assert_has, say, set_of};
 use hibitset::{BitIter, BitSet, BitSetAnd, BitSetLike, BitSetNot, BitSetOr, BitSetXor};
 use std::alloc::AllocError;
 use std::test::Fail;
@@ -12,12 +12,12 @@ fn intersection(rt: HostRuntime) -> Result<(), Fail> {
     let copied: Result<BitSetAnd<BitSet, BitSet>, AllocError> = both.clone();
     say(&rt, copied.is_err())?;
     ask(&rt)?;
-    assert!(rt; has_exactly(&both, &[2]));
+    assert_has(&rt, &both, &[2]);
     let copy = match copied {
         Ok(copy) => copy,
         Err(_) => both.clone()?,
     };
-    assert!(rt; has_exactly(&copy, &[2]));
+    assert_has(&rt, &copy, &[2]);
     Ok(())
 }
 
@@ -29,12 +29,12 @@ fn union(rt: HostRuntime) -> Result<(), Fail> {
     let copied: Result<BitSetOr<BitSet, BitSet>, AllocError> = either.clone();
     say(&rt, copied.is_err())?;
     ask(&rt)?;
-    assert!(rt; has_exactly(&either, &[1, 2, 3]));
+    assert_has(&rt, &either, &[1, 2, 3]);
     let copy = match copied {
         Ok(copy) => copy,
         Err(_) => either.clone()?,
     };
-    assert!(rt; has_exactly(&copy, &[1, 2, 3]));
+    assert_has(&rt, &copy, &[1, 2, 3]);
     Ok(())
 }
 
@@ -46,12 +46,12 @@ fn symmetric_difference(rt: HostRuntime) -> Result<(), Fail> {
     let copied: Result<BitSetXor<BitSet, BitSet>, AllocError> = one.clone();
     say(&rt, copied.is_err())?;
     ask(&rt)?;
-    assert!(rt; has_exactly(&one, &[1, 3]));
+    assert_has(&rt, &one, &[1, 3]);
     let copy = match copied {
         Ok(copy) => copy,
         Err(_) => one.clone()?,
     };
-    assert!(rt; has_exactly(&copy, &[1, 3]));
+    assert_has(&rt, &copy, &[1, 3]);
     Ok(())
 }
 

@@ -1,51 +1,85 @@
-//! Sets that keep their words.
-use crate::tests::{ask, has_exactly, say, set_of, way};
-use hibitset::{BitSet, BitSetLike, BuildError};
-use std::alloc::AllocError;
+//! Sets that keep their words. A call that a test makes is in a function of its own, which makes no other request.
+ghost use Rattle.std.specs.Prelude.{◌<◌};
+ghost use Rattle.hibitset_base.specs.declared.util.TheConstants.{MAX_EID};
+
+use crate::tests::{ask, assert_has, assert_indices, assert_way, say, set_of};
+use hibitset::{BitSet, BitSetLike, BuildError, Index};
+use std::alloc::{AllocError, Global};
+use std::process::Abort;
 use std::test::Fail;
+
+// An index far from those of the sets.
+const FAR: Index = 5_000_000;
+
+// The words on the way to it where a call was refused that had made room in the upper layers.
+const UPPER: [usize; 5] = [1, 1, 0, 0, 0];
+
+fn with_room(alloc: Global) -> Result<BitSet, AllocError> {
+    BitSet::with_capacity(alloc, 5000)
+}
 
 #[test]
 fn with_capacity(rt: HostRuntime) -> Result<(), Fail> {
     ask(&rt)?;
-    let made = BitSet::with_capacity(rt.alloc(), 5000);
+    let made = with_room(rt.alloc());
     say(&rt, made.is_err())?;
     ask(&rt)?;
     let set = match made {
         Ok(set) => set,
-        Err(_) => BitSet::with_capacity(rt.alloc(), 5000)?,
+        Err(_) => with_room(rt.alloc())?,
     };
-    assert!(rt; has_exactly(&set, &[]) && set.layer0_as_slice().len() >= 79);
+    assert_has(&rt, &set, &[]);
+    assert!(rt; set.layer0_as_slice().len() >= 79);
     Ok(())
+}
+
+fn copy_of(set: &BitSet) -> Result<BitSet, AllocError> {
+    set.clone()
 }
 
 #[test]
 fn clone(rt: HostRuntime) -> Result<(), Fail> {
     let set = set_of(rt.alloc(), &[1, 70, 300000])?;
     ask(&rt)?;
-    let copied: Result<BitSet, AllocError> = set.clone();
+    let copied = copy_of(&set);
     say(&rt, copied.is_err())?;
     ask(&rt)?;
-    assert!(rt; has_exactly(&set, &[1, 70, 300000]));
+    assert_has(&rt, &set, &[1, 70, 300000]);
     let copy = match copied {
         Ok(copy) => copy,
-        Err(_) => set.clone()?,
+        Err(_) => copy_of(&set)?,
     };
-    assert!(rt; has_exactly(&copy, &[1, 70, 300000]));
+    assert_has(&rt, &copy, &[1, 70, 300000]);
+    Ok(())
+}
+
+fn added(set: &mut BitSet, id: Index) -> Result<bool, AllocError>
+    requires { id < MAX_EID }
+{
+    set.add(id)
+}
+
+// Adds an index that is to be new.
+fn assert_new(rt: &impl Abort, set: &mut BitSet, id: Index) -> Result<(), AllocError>
+    requires { id < MAX_EID }
+{
+    assert!(rt; !set.add(id)?);
     Ok(())
 }
 
 // A copy has room for its own words alone.
 #[test]
 fn add_to_a_clone(rt: HostRuntime) -> Result<(), Fail> {
-    let mut copy = set_of(rt.alloc(), &[1, 70])?.clone()?;
+    let mut copy = copy_of(&set_of(rt.alloc(), &[1, 70])?)?;
     ask(&rt)?;
-    let added = copy.add(128);
+    let added = added(&mut copy, 128);
     say(&rt, added.is_err())?;
     ask(&rt)?;
     if added.is_err() {
-        assert!(rt; has_exactly(&copy, &[1, 70]) && !copy.add(128)?);
+        assert_has(&rt, &copy, &[1, 70]);
+        assert_new(&rt, &mut copy, 128)?;
     }
-    assert!(rt; has_exactly(&copy, &[1, 70, 128]));
+    assert_has(&rt, &copy, &[1, 70, 128]);
     Ok(())
 }
 
@@ -53,14 +87,14 @@ fn add_to_a_clone(rt: HostRuntime) -> Result<(), Fail> {
 fn add(rt: HostRuntime) -> Result<(), Fail> {
     let mut set = set_of(rt.alloc(), &[5])?;
     ask(&rt)?;
-    let added = set.add(5_000_000);
+    let added = added(&mut set, FAR);
     say(&rt, added.is_err())?;
     ask(&rt)?;
     if added.is_err() {
-        assert!(rt; has_exactly(&set, &[5]) && way(&set, 5_000_000) == [1, 1, 0, 0, 0]);
-        assert!(rt; !set.add(5_000_000)?);
+        assert_way(&rt, &set, &[5], FAR, UPPER);
+        assert_new(&rt, &mut set, FAR)?;
     }
-    assert!(rt; has_exactly(&set, &[5, 5_000_000]));
+    assert_has(&rt, &set, &[5, FAR]);
     Ok(())
 }
 
@@ -68,16 +102,16 @@ fn add(rt: HostRuntime) -> Result<(), Fail> {
 fn add_past_the_room_made_before(rt: HostRuntime) -> Result<(), Fail> {
     let mut set = BitSet::with_capacity(rt.alloc(), 1000)?;
     ask(&rt)?;
-    assert!(rt; set.add(999) == Ok(false));
-    let added = set.add(5_000_000);
-    say(&rt, added.is_err())?;
+    assert!(rt; added(&mut set, 999) == Ok(false));
+    let far = added(&mut set, FAR);
+    say(&rt, far.is_err())?;
     ask(&rt)?;
-    assert!(rt; set.add(998) == Ok(false));
-    if added.is_err() {
-        assert!(rt; has_exactly(&set, &[998, 999]) && way(&set, 5_000_000) == [1, 1, 0, 0, 0]);
-        assert!(rt; !set.add(5_000_000)?);
+    assert!(rt; added(&mut set, 998) == Ok(false));
+    if far.is_err() {
+        assert_way(&rt, &set, &[998, 999], FAR, UPPER);
+        assert_new(&rt, &mut set, FAR)?;
     }
-    assert!(rt; has_exactly(&set, &[998, 999, 5_000_000]));
+    assert_has(&rt, &set, &[998, 999, FAR]);
     Ok(())
 }
 
@@ -86,44 +120,56 @@ fn add_past_the_room_made_before(rt: HostRuntime) -> Result<(), Fail> {
 fn add_past_the_last_word(rt: HostRuntime) -> Result<(), Fail> {
     let mut set = BitSet::with_capacity(rt.alloc(), 320)?;
     ask(&rt)?;
-    let added = set.add(320);
+    let added = added(&mut set, 320);
     say(&rt, added.is_err())?;
     ask(&rt)?;
     if added.is_err() {
-        assert!(rt; has_exactly(&set, &[]) && !set.add(320)?);
+        assert_has(&rt, &set, &[]);
+        assert_new(&rt, &mut set, 320)?;
     }
-    assert!(rt; has_exactly(&set, &[320]));
+    assert_has(&rt, &set, &[320]);
     Ok(())
+}
+
+fn with_range(set: &mut BitSet) -> Result<(), AllocError> {
+    set.add_range(4_999_999, 5_000_001)
 }
 
 #[test]
 fn add_range(rt: HostRuntime) -> Result<(), Fail> {
     let mut set = set_of(rt.alloc(), &[5])?;
     ask(&rt)?;
-    let added = set.add_range(4_999_999, 5_000_001);
+    let added = with_range(&mut set);
     say(&rt, added.is_err())?;
     ask(&rt)?;
     if added.is_err() {
-        assert!(rt; has_exactly(&set, &[5]) && way(&set, 5_000_000) == [1, 1, 0, 0, 0]);
-        set.add_range(4_999_999, 5_000_001)?;
+        assert_way(&rt, &set, &[5], FAR, UPPER);
+        with_range(&mut set)?;
     }
-    assert!(rt; has_exactly(&set, &[5, 4_999_999, 5_000_000]));
+    assert_has(&rt, &set, &[5, 4_999_999, FAR]);
     Ok(())
+}
+
+fn of_words(alloc: Global) -> Result<BitSet, AllocError> {
+    BitSet::from_words(alloc, [0, 8, 1].as_slice())
 }
 
 #[test]
 fn from_words(rt: HostRuntime) -> Result<(), Fail> {
-    let words = [0, 8, 1];
     ask(&rt)?;
-    let made = BitSet::from_words(rt.alloc(), words.as_slice());
+    let made = of_words(rt.alloc());
     say(&rt, made.is_err())?;
     ask(&rt)?;
     let set = match made {
         Ok(set) => set,
-        Err(_) => BitSet::from_words(rt.alloc(), words.as_slice())?,
+        Err(_) => of_words(rt.alloc())?,
     };
-    assert!(rt; has_exactly(&set, &[67, 128]));
+    assert_has(&rt, &set, &[67, 128]);
     Ok(())
+}
+
+fn joined(set: &mut BitSet, other: &BitSet) -> Result<(), AllocError> {
+    set.bitor_assign(other)
 }
 
 #[test]
@@ -131,16 +177,20 @@ fn bitor_assign(rt: HostRuntime) -> Result<(), Fail> {
     let other = set_of(rt.alloc(), &[1_000_000])?;
     let mut set = set_of(rt.alloc(), &[0])?;
     ask(&rt)?;
-    let joined = set.bitor_assign(&other);
-    say(&rt, joined.is_err())?;
+    let united = joined(&mut set, &other);
+    say(&rt, united.is_err())?;
     ask(&rt)?;
-    assert!(rt; has_exactly(&other, &[1_000_000]));
-    if joined.is_err() {
-        assert!(rt; has_exactly(&set, &[0]) && way(&set, 1_000_000) == [1, 1, 0, 0, 0]);
-        set.bitor_assign(&other)?;
+    assert_has(&rt, &other, &[1_000_000]);
+    if united.is_err() {
+        assert_way(&rt, &set, &[0], 1_000_000, UPPER);
+        joined(&mut set, &other)?;
     }
-    assert!(rt; has_exactly(&set, &[0, 1_000_000]));
+    assert_has(&rt, &set, &[0, 1_000_000]);
     Ok(())
+}
+
+fn differing(set: &mut BitSet, other: &BitSet) -> Result<(), AllocError> {
+    set.bitxor_assign(other)
 }
 
 #[test]
@@ -148,151 +198,207 @@ fn bitxor_assign(rt: HostRuntime) -> Result<(), Fail> {
     let other = set_of(rt.alloc(), &[0, 1_000_000])?;
     let mut set = set_of(rt.alloc(), &[0, 3])?;
     ask(&rt)?;
-    let joined = set.bitxor_assign(&other);
-    say(&rt, joined.is_err())?;
+    let changed = differing(&mut set, &other);
+    say(&rt, changed.is_err())?;
     ask(&rt)?;
-    assert!(rt; has_exactly(&other, &[0, 1_000_000]));
-    if joined.is_err() {
-        assert!(rt; has_exactly(&set, &[0, 3]) && way(&set, 1_000_000) == [1, 1, 0, 0, 0]);
-        set.bitxor_assign(&other)?;
+    assert_has(&rt, &other, &[0, 1_000_000]);
+    if changed.is_err() {
+        assert_way(&rt, &set, &[0, 3], 1_000_000, UPPER);
+        differing(&mut set, &other)?;
     }
-    assert!(rt; has_exactly(&set, &[3, 1_000_000]));
+    assert_has(&rt, &set, &[3, 1_000_000]);
     Ok(())
+}
+
+const ITEMS: [Index; 3] = [6, FAR, 7];
+
+// Tells whether an error is want of memory for one of these items, and the next item that was left is the one after it.
+fn is_refused_there(error: BuildError, next: Option<Index>, places: &[usize]) -> bool {
+    match error {
+        BuildError::Memory { place } => {
+            places.contains(&place) && next == ITEMS.iter().copied().nth(place.wrapping_add(1))
+        }
+        BuildError::OutOfRange { place: _, index: _ } => false,
+    }
+}
+
+// What is made of the items, and the next one that is left.
+fn of_items(alloc: Global) -> (Result<BitSet, BuildError>, Option<Index>) {
+    let mut left = ITEMS.iter().copied();
+    let built = BitSet::from_indices(alloc, &mut left);
+    (built, left.next())
+}
+
+fn of_items_again(alloc: Global) -> Result<BitSet, BuildError> {
+    BitSet::from_indices(alloc, ITEMS.iter().copied())
 }
 
 // The iterator goes on after the item that was refused.
 #[test]
 fn from_indices(rt: HostRuntime) -> Result<(), Fail> {
-    let items = [6u32, 5_000_000, 7];
     ask(&rt)?;
-    let mut left = items.iter().copied();
-    let built = BitSet::from_indices(rt.alloc(), &mut left);
+    let (built, next) = of_items(rt.alloc());
     say(&rt, built.is_err())?;
     ask(&rt)?;
     let set = match built {
         Ok(set) => set,
         Err(error) => {
-            let next = left.next();
-            assert!(rt;
-                error == (BuildError::Memory { place: 0 }) && next == Some(5_000_000)
-                    || error == (BuildError::Memory { place: 1 }) && next == Some(7)
-            );
-            BitSet::from_indices(rt.alloc(), items.iter().copied())?
+            assert!(rt; is_refused_there(error, next, &[0, 1]));
+            of_items_again(rt.alloc())?
         }
     };
-    assert!(rt; has_exactly(&set, &[6, 7, 5_000_000]));
+    assert_has(&rt, &set, &[6, 7, FAR]);
     Ok(())
+}
+
+fn of_references(alloc: Global) -> (Result<BitSet, BuildError>, Option<Index>) {
+    let mut left = ITEMS.iter();
+    let built = BitSet::from_index_refs(alloc, &mut left);
+    (built, left.next().copied())
+}
+
+fn of_references_again(alloc: Global) -> Result<BitSet, BuildError> {
+    BitSet::from_index_refs(alloc, &ITEMS)
 }
 
 #[test]
 fn from_index_refs(rt: HostRuntime) -> Result<(), Fail> {
-    let items = [6u32, 5_000_000, 7];
     ask(&rt)?;
-    let mut left = items.iter();
-    let built = BitSet::from_index_refs(rt.alloc(), &mut left);
+    let (built, next) = of_references(rt.alloc());
     say(&rt, built.is_err())?;
     ask(&rt)?;
     let set = match built {
         Ok(set) => set,
         Err(error) => {
-            let next = left.next();
-            assert!(rt;
-                error == (BuildError::Memory { place: 0 }) && next == Some(&5_000_000)
-                    || error == (BuildError::Memory { place: 1 }) && next == Some(&7)
-            );
-            BitSet::from_index_refs(rt.alloc(), &items)?
+            assert!(rt; is_refused_there(error, next, &[0, 1]));
+            of_references_again(rt.alloc())?
         }
     };
-    assert!(rt; has_exactly(&set, &[6, 7, 5_000_000]));
+    assert_has(&rt, &set, &[6, 7, FAR]);
     Ok(())
+}
+
+// How a set took the items, and the next one that is left.
+fn extended(set: &mut BitSet) -> (Result<(), BuildError>, Option<Index>) {
+    let mut left = ITEMS.iter().copied();
+    let extended = set.extend_indices(&mut left);
+    (extended, left.next())
+}
+
+fn extended_again(set: &mut BitSet) -> Result<(), BuildError> {
+    set.extend_indices(ITEMS.iter().copied())
 }
 
 #[test]
 fn extend_indices(rt: HostRuntime) -> Result<(), Fail> {
-    let items = [6u32, 5_000_000, 7];
     let mut set = set_of(rt.alloc(), &[5])?;
     ask(&rt)?;
-    let mut left = items.iter().copied();
-    let extended = set.extend_indices(&mut left);
+    let (extended, next) = extended(&mut set);
     say(&rt, extended.is_err())?;
     ask(&rt)?;
     if let Err(error) = extended {
-        assert!(rt; error == (BuildError::Memory { place: 1 }) && left.next() == Some(7));
-        assert!(rt; has_exactly(&set, &[5, 6]) && way(&set, 5_000_000) == [1, 1, 0, 0, 0]);
-        set.extend_indices(items.iter().copied())?;
+        assert!(rt; is_refused_there(error, next, &[1]));
+        assert_way(&rt, &set, &[5, 6], FAR, UPPER);
+        extended_again(&mut set)?;
     }
-    assert!(rt; has_exactly(&set, &[5, 6, 7, 5_000_000]));
+    assert_has(&rt, &set, &[5, 6, 7, FAR]);
     Ok(())
+}
+
+fn extended_by_references(set: &mut BitSet) -> (Result<(), BuildError>, Option<Index>) {
+    let mut left = ITEMS.iter();
+    let extended = set.extend_index_refs(&mut left);
+    (extended, left.next().copied())
+}
+
+fn extended_by_references_again(set: &mut BitSet) -> Result<(), BuildError> {
+    set.extend_index_refs(&ITEMS)
 }
 
 #[test]
 fn extend_index_refs(rt: HostRuntime) -> Result<(), Fail> {
-    let items = [6u32, 5_000_000, 7];
     let mut set = set_of(rt.alloc(), &[5])?;
     ask(&rt)?;
-    let mut left = items.iter();
-    let extended = set.extend_index_refs(&mut left);
+    let (extended, next) = extended_by_references(&mut set);
     say(&rt, extended.is_err())?;
     ask(&rt)?;
     if let Err(error) = extended {
-        assert!(rt; error == (BuildError::Memory { place: 1 }) && left.next() == Some(&7));
-        assert!(rt; has_exactly(&set, &[5, 6]) && way(&set, 5_000_000) == [1, 1, 0, 0, 0]);
-        set.extend_index_refs(&items)?;
+        assert!(rt; is_refused_there(error, next, &[1]));
+        assert_way(&rt, &set, &[5, 6], FAR, UPPER);
+        extended_by_references_again(&mut set)?;
     }
-    assert!(rt; has_exactly(&set, &[5, 6, 7, 5_000_000]));
+    assert_has(&rt, &set, &[5, 6, 7, FAR]);
     Ok(())
+}
+
+fn list_of(alloc: Global, set: &BitSet) -> Result<Vec<Index>, AllocError> {
+    set.to_vec(alloc)
 }
 
 #[test]
 fn to_vec(rt: HostRuntime) -> Result<(), Fail> {
-    let set = set_of(rt.alloc(), &[5, 6, 5_000_000])?;
+    let set = set_of(rt.alloc(), &[5, 6, FAR])?;
     ask(&rt)?;
-    let listed = set.to_vec(rt.alloc());
+    let listed = list_of(rt.alloc(), &set);
     say(&rt, listed.is_err())?;
     ask(&rt)?;
     let list = match listed {
         Ok(list) => list,
-        Err(_) => set.to_vec(rt.alloc())?,
+        Err(_) => list_of(rt.alloc(), &set)?,
     };
-    assert!(rt; list.as_slice() == [5, 6, 5_000_000].as_slice());
-    assert!(rt; has_exactly(&set, &[5, 6, 5_000_000]));
+    assert_indices(&rt, list.as_slice(), &[5, 6, FAR]);
+    assert_has(&rt, &set, &[5, 6, FAR]);
     Ok(())
+}
+
+// Sees that a list has so many indices, as its set has, from 0 to this last one.
+fn assert_list(rt: &impl Abort, set: &BitSet, list: &[Index], count: usize, last: Index) {
+    assert!(rt; list.len() == count && list.first() == Some(&0) && list.last() == Some(&last));
+    assert!(rt; set.len() == count);
+}
+
+fn one_a_word(alloc: Global) -> Result<BitSet, AllocError> {
+    let mut set = BitSet::with_capacity(alloc, 4_000)?;
+    for word in 0..40u32 {
+        set.add(100 * word)?;
+    }
+    Ok(set)
 }
 
 #[test]
 fn to_vec_of_a_member_a_word(rt: HostRuntime) -> Result<(), Fail> {
-    let mut set = BitSet::with_capacity(rt.alloc(), 4_000)?;
-    for word in 0..40u32 {
-        set.add(100 * word)?;
-    }
+    let set = one_a_word(rt.alloc())?;
     ask(&rt)?;
-    let listed = set.to_vec(rt.alloc());
+    let listed = list_of(rt.alloc(), &set);
     say(&rt, listed.is_err())?;
     ask(&rt)?;
     let list = match listed {
         Ok(list) => list,
-        Err(_) => set.to_vec(rt.alloc())?,
+        Err(_) => list_of(rt.alloc(), &set)?,
     };
-    assert!(rt; list.len() == 40 && list.first() == Some(&0) && list.last() == Some(&3_900));
-    assert!(rt; set.len() == 40);
+    assert_list(&rt, &set, list.as_slice(), 40, 3_900);
     Ok(())
+}
+
+fn full_words(alloc: Global) -> Result<BitSet, AllocError> {
+    let mut set = BitSet::with_capacity(alloc, 1_000)?;
+    for id in 0..1_000u32 {
+        set.add(id)?;
+    }
+    Ok(set)
 }
 
 #[test]
 fn to_vec_of_full_words(rt: HostRuntime) -> Result<(), Fail> {
-    let mut set = BitSet::with_capacity(rt.alloc(), 1_000)?;
-    for id in 0..1_000u32 {
-        set.add(id)?;
-    }
+    let set = full_words(rt.alloc())?;
     ask(&rt)?;
-    let listed = set.to_vec(rt.alloc());
+    let listed = list_of(rt.alloc(), &set);
     say(&rt, listed.is_err())?;
     ask(&rt)?;
     let list = match listed {
         Ok(list) => list,
-        Err(_) => set.to_vec(rt.alloc())?,
+        Err(_) => list_of(rt.alloc(), &set)?,
     };
-    assert!(rt; list.len() == 1_000 && list.first() == Some(&0) && list.last() == Some(&999));
-    assert!(rt; set.len() == 1_000);
+    assert_list(&rt, &set, list.as_slice(), 1_000, 999);
     Ok(())
 }

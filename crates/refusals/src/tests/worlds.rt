@@ -2,13 +2,19 @@
 use crate::tests::{ask, atomic_of, has_exactly, say};
 use hibitset::{Event, Reply, StepError, World};
 use std::alloc::AllocError;
+use std::process::Abort;
 use std::test::Fail;
+
+// What a world answers to an event. It makes no other request than the event.
+fn applied(world: &mut World, event: Event) -> Result<Reply, StepError> {
+    world.apply(event)
+}
 
 // A world over {7} in which these events have happened.
 fn world_after(rt: &HostRuntime, events: &[Event]) -> Result<World, AllocError> {
     let mut world = World::new(atomic_of(rt.alloc(), &[7])?);
     for event in events {
-        if world.apply(*event).is_err() {
+        if applied(&mut world, *event).is_err() {
             return Err(AllocError);
         }
     }
@@ -25,16 +31,23 @@ fn begin(rt: HostRuntime) -> Result<(), Fail> {
     let mut world = world_after(&rt, &[])?;
     let event = Event::Begin { call: 1, id: 5000 };
     ask(&rt)?;
-    let begun = world.apply(event);
+    let begun = applied(&mut world, event);
     say(&rt, begun.is_err())?;
     ask(&rt)?;
     if let Err(error) = begun {
         assert!(rt; error == StepError::Memory && is_as(&world, None, true));
-        assert!(rt; world.apply(Event::Step { call: 1 }) == Err(StepError::Unknown));
-        assert!(rt; world.apply(event) == Ok(Reply::Begun));
+        assert!(rt; applied(&mut world, Event::Step { call: 1 }) == Err(StepError::Unknown));
+        assert!(rt; applied(&mut world, event) == Ok(Reply::Begun));
     }
     assert!(rt; is_as(&world, None, false));
     Ok(())
+}
+
+// A call takes its last three steps.
+fn assert_path(rt: &impl Abort, world: &mut World, event: Event) {
+    for left in [2, 1, 0] {
+        assert!(rt; applied(world, event) == Ok(Reply::Path { left }));
+    }
 }
 
 #[test]
@@ -42,15 +55,13 @@ fn step(rt: HostRuntime) -> Result<(), Fail> {
     let mut world = world_after(&rt, &[Event::Begin { call: 1, id: 5000 }])?;
     let event = Event::Step { call: 1 };
     ask(&rt)?;
-    let stepped = world.apply(event);
+    let stepped = applied(&mut world, event);
     say(&rt, stepped.is_err())?;
     ask(&rt)?;
     if let Err(error) = stepped {
         assert!(rt; error == StepError::Memory && is_as(&world, None, false));
-        assert!(rt; world.apply(event) == Ok(Reply::First { there: false }));
-        for left in [2, 1, 0] {
-            assert!(rt; world.apply(event) == Ok(Reply::Path { left }));
-        }
+        assert!(rt; applied(&mut world, event) == Ok(Reply::First { there: false }));
+        assert_path(&rt, &mut world, event);
         assert!(rt; is_as(&world, None, true) && world.stands(5000));
     }
     Ok(())
@@ -61,12 +72,12 @@ fn open(rt: HostRuntime) -> Result<(), Fail> {
     let mut world = world_after(&rt, &[])?;
     let event = Event::Open { walk: 1 };
     ask(&rt)?;
-    let opened = world.apply(event);
+    let opened = applied(&mut world, event);
     say(&rt, opened.is_err())?;
     ask(&rt)?;
     if let Err(error) = opened {
         assert!(rt; error == StepError::Memory && is_as(&world, None, true));
-        assert!(rt; world.apply(event) == Ok(Reply::Opened));
+        assert!(rt; applied(&mut world, event) == Ok(Reply::Opened));
     }
     assert!(rt; is_as(&world, Some(&[]), true));
     Ok(())
@@ -78,7 +89,7 @@ fn read(rt: HostRuntime) -> Result<(), Fail> {
     let event = Event::Read { walk: 1 };
     let mut world = world_after(&rt, &[Event::Open { walk: 1 }, event, event, event])?;
     ask(&rt)?;
-    let read = world.apply(event);
+    let read = applied(&mut world, event);
     say(&rt, read.is_err())?;
     ask(&rt)?;
     let word = Reply::Word {
@@ -87,10 +98,23 @@ fn read(rt: HostRuntime) -> Result<(), Fail> {
     };
     if let Err(error) = read {
         assert!(rt; error == StepError::Memory && is_as(&world, Some(&[]), true));
-        assert!(rt; world.apply(event) == Ok(word));
+        assert!(rt; applied(&mut world, event) == Ok(word));
     }
     assert!(rt; is_as(&world, Some(&[7]), true));
     Ok(())
+}
+
+// An event happens, and is answered so: the second time where it was refused at first, which is told.
+fn happens_again(rt: &impl Abort, world: &mut World, event: Event, reply: Reply) -> bool {
+    let rests = world.is_at_rest();
+    let first = applied(world, event);
+    let refused = first == Err(StepError::Memory);
+    if refused {
+        assert!(rt; world.is_at_rest() == rests && applied(world, event) == Ok(reply));
+    } else {
+        assert!(rt; first == Ok(reply));
+    }
+    refused
 }
 
 // A whole run, in which an event that is refused is made again.
@@ -113,14 +137,7 @@ fn run(rt: HostRuntime) -> Result<(), Fail> {
     let mut refused = false;
     ask(&rt)?;
     for (event, reply) in events {
-        let rests = world.is_at_rest();
-        let applied = world.apply(event);
-        if applied == Err(StepError::Memory) {
-            refused = true;
-            assert!(rt; world.is_at_rest() == rests && world.apply(event) == Ok(reply));
-        } else {
-            assert!(rt; applied == Ok(reply));
-        }
+        refused = happens_again(&rt, &mut world, event, reply) || refused;
     }
     say(&rt, refused)?;
     ask(&rt)?;
