@@ -350,10 +350,8 @@ def library(pool):
 
 
 def runs(pool):
-    # One run for both, as each builds the program.
-    names = set(CALLS[PROGRAM]["run"].split())
-    (word,) = {name.split("::")[-1] for name in names}
-    tests(pool, PROGRAM, names, ["--", word])
+    for name in CALLS[PROGRAM]["run"].split():
+        tests(pool, PROGRAM, {name}, ["--", name])
 
 
 def scripts(pool):
