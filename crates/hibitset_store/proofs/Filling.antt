@@ -1,5 +1,5 @@
--- What has been poured into a page.
-use Rattle.std.proofs.Common.{◌≡◌, ℕ, zero, suc, ◌+◌, List, [], ◌∷◌, length, Option, None, Result, Ok, Err, refl, arith}
+-- What has been poured into the places.
+use Rattle.std.proofs.Common.{◌≡◌, ℕ, zero, suc, ◌+◌, List, [], ◌∷◌, ◌++◌, length, Option, None, Result, Ok, Err, refl, ◌∙◌, ap, arith}
 use Rattle.std.specs.Prelude.{MatchResult, OnOk}
 use Rattle.std.specs.Iterator.{Drains, Yields}
 use Rattle.hibitset_store.specs.declared.pages.EmptyPlaces.{EmptyPlaces}
@@ -22,14 +22,20 @@ module _ {V : Type 0} where
   drained-length : (old : EmptyPlaces V) (given : List (Option V)) → Drains GivesPlace old given → length given ≡ old.left
   drained-length old given (last, (new, steps, end)) = let count = given-length old new given steps in omega (arith, count, end)
 
-  -- so nothing that is poured into a page has a value, whether all of it has come or not
-  pub none-poured : {E : Type 0} (given : List (Option V)) (places : EmptyPlaces V) (r : Result (Unit {0}) E) → MatchResult r (λ _. Drains GivesPlace places given) (λ _. (new : EmptyPlaces V) × Yields GivesPlace places given new)
-      → (j : ℕ) → value_in given j ≡ None
-  none-poured given places (Ok _) (last, (new, steps, end)) = given-none places new given steps
-  none-poured given places (Err _) (new, steps) = given-none places new given steps
+  -- places without a value at the end change no value
+  value_in-more : (places more : List (Option V)) → ((j : ℕ) → value_in more j ≡ None) → (j : ℕ) → value_in (places ++ more) j ≡ value_in places j
+  value_in-more [] more none j = none j
+  value_in-more (value ∷ places) more none zero = refl
+  value_in-more (value ∷ places) more none (suc j) = value_in-more places more none j
 
-  -- and where all of it has come, it is as many places as there were
-  pub length-poured : {E : Type 0} (given : List (Option V)) (places : EmptyPlaces V) (r : Result (Unit {0}) E) → MatchResult r (λ _. Drains GivesPlace places given) (λ _. (new : EmptyPlaces V) × Yields GivesPlace places given new)
-      → OnOk r (length given ≡ places.left)
-  length-poured given places (Ok _) all = drained-length places given all
-  length-poured given places (Err _) some = tt
+  -- so nothing that is poured changes one, whether all of it has come or not
+  pub same-poured : {E : Type 0} (places given : List (Option V)) (empty : EmptyPlaces V) (r : Result (Unit {0}) E) → MatchResult r (λ _. Drains GivesPlace empty given) (λ _. (new : EmptyPlaces V) × Yields GivesPlace empty given new)
+      → (j : ℕ) → value_in (places ++ given) j ≡ value_in places j
+  same-poured places given empty (Ok _) (last, (new, steps, end)) = value_in-more places given (given-none empty new given steps)
+  same-poured places given empty (Err _) (new, steps) = value_in-more places given (given-none empty new given steps)
+
+  -- and where all of it has come, there are so many places more
+  pub length-poured : {E : Type 0} (before after : ℕ) (given : List (Option V)) (empty : EmptyPlaces V) (r : Result (Unit {0}) E) → after ≡ before + length given → MatchResult r (λ _. Drains GivesPlace empty given) (λ _. (new : EmptyPlaces V) × Yields GivesPlace empty given new)
+      → OnOk r (after ≡ before + empty.left)
+  length-poured before after given empty (Ok _) long all = long ∙ ap (λ n. before + n) (drained-length empty given all)
+  length-poured before after given empty (Err _) long some = tt

@@ -1,5 +1,5 @@
-pub mod Picking
 pub mod Paging
+pub mod Making
 pub mod Sizing
 pub mod Filling
 pub mod Joining

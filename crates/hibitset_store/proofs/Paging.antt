@@ -1,15 +1,12 @@
--- The value of an index, after a page has changed.
-use Rattle.std.proofs.Common.{◌≡◌, ℕ, zero, suc, ◌/◌, ◌%◌, ◌<◌, ◌==◌, Bool, true, false, not, ◌&&◌, ◌||◌, List, [], ◌∷◌, length, get_or, set, Option, Some, None, is_some, Vec, Global, refl, sym, subst, ◌∙◌, ap, arith}
-use Rattle.std.specs.Prelude.{if◌then◌else◌, slice_get, IsSomeAnd, option_and_then}
-use Rattle.std.proofs.lemmas.Bool.Decides.{nat_tests}
-use Rattle.hibitset_store.specs.declared.pages.TheConstants.{PAGE}
+-- The value of an index, after a place has changed, and that its place stays its own.
+use Rattle.std.proofs.Common.{◌≡◌, ℕ, zero, suc, ◌/◌, ◌<◌, ◌≤◌, ◌==◌, Bool, true, false, cond, not, ◌&&◌, ◌||◌, List, [], ◌∷◌, length, Option, Some, None, is_some, refl, sym, ◌∙◌, inl, inr, arith}
+use Rattle.std.specs.List.{filter}
+use Rattle.std.specs.Prelude.{◌≢◌, if◌then◌else◌, ◌⊎◌}
+use Rattle.hibitset_base.specs.Deciding.{eq_other, same_or_not}
+use Rattle.hibitset_store.specs.declared.pages.Pages.{Pages}
+use Rattle.hibitset_store.specs.declared.pages.TheConstants.{NO_PAGE, PAGE}
 use Rattle.hibitset_store.specs.PageLending.{written_over}
-use Rattle.hibitset_store.specs.Pages.{value_in, value_at, HasPlace}
-use Rattle.hibitset_store.proofs.Picking.{pick, pick-within, pick-set}
-
--- two indices are the same where they have the same page and the same place in it
-same_index : (i id : ℕ) → (i == id) ≡ (i / PAGE == id / PAGE && i % PAGE == id % PAGE)
-same_index i id = grind (arith, nat_tests)
+use Rattle.hibitset_store.specs.Pages.{AreLaidOut, HasPlace, is_made, pages_made, place_count, place_of, places_in, start_in, value_at, value_in}
 
 -- the set of the keys, after one key was taken out or put in
 pub is_some-without : {V : Type 0} (i id : ℕ) (had : Bool) (was new : Option V) → had ≡ is_some was → new ≡ (if i == id then None else was) → (had && not (i == id)) ≡ is_some new
@@ -44,66 +41,55 @@ pub no_value : {V : Type 0} (had : Bool) (value : Option V) → had ≡ is_some 
 no_value had None covers none = refl
 no_value had (Some value) covers none = absurd (let h : false ≡ true = sym none ∙ covers in cc)
 
-within : {X : Type 0} (P : X → Type 0) (xs : List X) (n : ℕ) → IsSomeAnd (slice_get xs n) P → n < length xs
-within P [] n some = absurd some
-within P (x ∷ xs) zero some = omega arith
-within P (x ∷ xs) (suc n) some = omega (arith, within P xs n some)
+-- a page that is made has all its places
+pub made_places : (start : ℕ) → start ≢ NO_PAGE → (if is_made start then PAGE else 0) ≡ PAGE
+made_places start made = rw (eq_other start NO_PAGE made) refl
 
-found : {X : Type 0} (P : X → Type 0) (xs : List X) (n : ℕ) (d : X) → IsSomeAnd (slice_get xs n) P → P (get_or xs n d)
-found P [] n d some = absurd some
-found P (x ∷ xs) zero d some = some
-found P (x ∷ xs) (suc n) d some = found P xs n d some
+-- a page is made whose places begin before the end of all
+pub is_made-below : (start : ℕ) → start < NO_PAGE → is_made start ≡ true
+is_made-below start below = rw (eq_other start NO_PAGE (λ is. absurd (omega (arith, below, is)))) refl
+
+-- no more pages are made than there are in the table
+pub few_made : (starts : List ℕ) → pages_made starts ≤ length starts
+few_made [] = omega arith
+few_made (start ∷ starts) = by (is_made start) (few_made starts)
+  where
+    by : (b : Bool) → pages_made starts ≤ length starts → length (cond b (start ∷ filter is_made starts) (filter is_made starts)) ≤ suc (length starts)
+    by true few = omega (arith, few)
+    by false few = omega (arith, few)
 
 module _ {V : Type 0} where
-  -- an index that has a value has a page
-  pick-some : {X : Type 0} (f : X → Option V) (xs : List X) (n : ℕ) → is_some (pick f xs n) ≡ true → n < length xs
-  pick-some f [] n some = absurd (let h : false ≡ true = some in cc)
-  pick-some f (x ∷ xs) zero some = omega arith
-  pick-some f (x ∷ xs) (suc n) some = omega (arith, pick-some f xs n some)
+  -- past the last place there is no value
+  pub value_in-past : (places : List (Option V)) (j : ℕ) → length places ≤ j → value_in places j ≡ None
+  value_in-past [] j past = refl
+  value_in-past (value ∷ places) zero past = absurd (omega arith)
+  value_in-past (value ∷ places) (suc j) past = value_in-past places j (omega arith)
 
-  pub page_of-some : (pages : List (Vec (Option V) Global)) (id : ℕ) → is_some (value_at pages id) ≡ true → id / PAGE < length pages
-  page_of-some pages id some = pick-some (λ page. value_in page.items (id % PAGE)) pages (id / PAGE) some
-
-  some_and : {X : Type 0} (f : X → Option V) (P : X → Type 0) (o : Option X) → ((x : X) → is_some (f x) ≡ true → P x) → is_some (option_and_then f o) ≡ true → IsSomeAnd o P
-  some_and f P (Some x) each some = each x some
-  some_and f P None each some = absurd (let h : false ≡ true = some in cc)
+  within : (places : List (Option V)) (j : ℕ) → is_some (value_in places j) ≡ true → j < length places
+  within [] j some = absurd (let h : false ≡ true = some in cc)
+  within (value ∷ places) zero some = omega arith
+  within (value ∷ places) (suc j) some = omega (arith, within places j some)
 
   -- an index that has a value has a place
-  pub place_of-some : (pages : List (Vec (Option V) Global)) (id : ℕ) → is_some (value_at pages id) ≡ true → HasPlace pages id
-  place_of-some pages id some =
-      some_and (λ page. value_in page.items (id % PAGE)) (λ page. id % PAGE < length page.items) (slice_get pages (id / PAGE))
-      (λ page here. pick-some (λ v. v) page.items (id % PAGE) here) some
+  pub place_of-some : (pages : Pages V) (i : ℕ) → is_some (value_at pages i) ≡ true → HasPlace pages i
+  place_of-some pages i some = within pages.places.items (place_of pages i) some
 
-  -- an index with a place has a page
-  pub page_there : (pages : List (Vec (Option V) Global)) (id : ℕ) → HasPlace pages id → id / PAGE < length pages
-  page_there pages id there = within (λ (page : Vec (Option V) Global). id % PAGE < length page.items) pages (id / PAGE) there
+  -- there are fewer places than would reach to those of a page that is not made
+  pub few_places : (pages : Pages V) → AreLaidOut pages → place_count pages < NO_PAGE
+  few_places pages laid = let few = few_made pages.starts.items in omega (arith, laid.few, laid.counts, few)
 
-  -- and the page has the place
-  pub place_there : (pages : List (Vec (Option V) Global)) (id : ℕ) (page : Vec (Option V) Global) → HasPlace pages id → page ≡ get_or pages (id / PAGE) page → id % PAGE < length page.items
-  place_there pages id page there is =
-      let holds = found (λ (one : Vec (Option V) Global). id % PAGE < length one.items) pages (id / PAGE) page there in
-      subst (λ (one : Vec (Option V) Global). id % PAGE < length one.items) (sym is) holds
+  -- each index has a place, or its page is not made
+  pub placed : (pages : Pages V) (i : ℕ) → AreLaidOut pages → HasPlace pages i ⊎ (start_in pages.starts.items (i / PAGE) ≡ NO_PAGE)
+  placed pages i laid = elim (same_or_not (start_in pages.starts.items (i / PAGE)) NO_PAGE) [
+    | inl none ↦ inr none
+    | inr made ↦ inl (laid.there i (made_places (start_in pages.starts.items (i / PAGE)) made))
+  ]
 
-  module _ (pages : List (Vec (Option V) Global)) (id : ℕ) (old : Vec (Option V) Global) (here : old ≡ get_or pages (id / PAGE) old) where
-    -- the value of an index of this page
-    in_page : id / PAGE < length pages → (i : ℕ) → i / PAGE ≡ id / PAGE → value_at pages i ≡ value_in old.items (i % PAGE)
-    in_page within i same =
-        pick-within (λ page. value_in page.items (i % PAGE)) pages (i / PAGE) old (omega arith)
-        ∙ ap (λ (page : Vec (Option V) Global). value_in page.items (i % PAGE)) (ap (λ n. get_or pages n old) same ∙ sym here)
+  -- an index has a place where its page is made, and only there
+  pub made-of_place : (pages : Pages V) (i : ℕ) → AreLaidOut pages → HasPlace pages i → places_in pages (i / PAGE) ≡ PAGE
+  made-of_place pages i laid place =
+      made_places (start_in pages.starts.items (i / PAGE)) (λ none. let few = few_places pages laid in absurd (omega (arith, few, place, none)))
 
-    pub value_at-here : id / PAGE < length pages → value_at pages id ≡ value_in old.items (id % PAGE)
-    value_at-here within = in_page within id refl
-
-    changed : (b c : Bool) (v w at x y : Option V) → v ≡ (if b then x else w) → x ≡ (if c then at else y) → (b ≡ true → w ≡ y) → v ≡ (if b && c then at else w)
-    changed true true v w at x y one two three = one ∙ two
-    changed true false v w at x y one two three = one ∙ two ∙ sym (three refl)
-    changed false c v w at x y one two three = one
-
-    -- one value of this page put in, or taken out
-    pub value_at-put : (new : Vec (Option V) Global) (at : Option V) → id / PAGE < length pages → ((j : ℕ) → value_in new.items j ≡ (if j == id % PAGE then at else value_in old.items j))
-        → (i : ℕ) → value_at (set pages (id / PAGE) new) i ≡ (if i == id then at else value_at pages i)
-    value_at-put new at within put i =
-        rw (same_index i id) (changed (i / PAGE == id / PAGE) (i % PAGE == id % PAGE) (value_at (set pages (id / PAGE) new) i) (value_at pages i) at (value_in new.items (i % PAGE)) (value_in old.items (i % PAGE))
-        (pick-set (λ page. value_in page.items (i % PAGE)) pages (id / PAGE) new within (i / PAGE))
-        (put (i % PAGE))
-        (λ on. let same : i / PAGE ≡ id / PAGE = grind (arith, nat_tests) in in_page within i same))
+  -- an index whose page is not made has no value
+  pub value_at-unmade : (pages : Pages V) (i : ℕ) → AreLaidOut pages → start_in pages.starts.items (i / PAGE) ≡ NO_PAGE → value_at pages i ≡ None
+  value_at-unmade pages i laid none = let few = few_places pages laid in value_in-past pages.places.items (place_of pages i) (omega (arith, few, none))

@@ -15,7 +15,7 @@ Map V = ℕ → Option V
 module _ {V : Type 0} where
   -- the map that a column is
   unfoldable pub value_of : Column V → Map V
-  value_of column = value_at column.pages.pages.items
+  value_of column = value_at column.pages
 
   -- the new map has this value, or none, at one index, and is the old one elsewhere
   abbrev pub IsWith : Map V → ℕ → Option V → Map V → Type 0

@@ -1,41 +1,62 @@
 -- Values in pages. Page p has places for the indices from p * PAGE on, or none yet.
-use Rattle.std.specs.Prelude.{◌≡◌, ℕ, ◌/◌, ◌%◌, ◌<◌, List, length, Option, Some, None, option_and_then, slice_get, IsSomeAnd, Vec}
+use Rattle.std.specs.Prelude.{◌≡◌, ℕ, ◌+◌, ◌*◌, ◌/◌, ◌%◌, ◌<◌, ◌≤◌, ◌==◌, Bool, not, if◌then◌else◌, List, length, slice_index_or, Option, option_and_then, slice_get}
+use Rattle.std.specs.List.{filter}
 use Rattle.std.specs.Option.{is_some}
-use Rattle.std.specs.declared.alloc.Global.{Global}
 use Rattle.hibitset.specs.BitSet.{has}
 use Rattle.hibitset.specs.declared.set.BitSet.{BitSet}
-use Rattle.hibitset_store.specs.declared.pages.TheConstants.{PAGE}
+use Rattle.hibitset_base.specs.declared.util.TheConstants.{MAX_EID}
+use Rattle.hibitset_store.specs.declared.pages.Pages.{Pages}
+use Rattle.hibitset_store.specs.declared.pages.TheConstants.{NO_PAGE, PAGE}
+
+-- tells where the places of a page begin that is made
+abbrev pub is_made : ℕ → Bool
+is_made start = not (start == NO_PAGE)
+
+-- how many pages are made, of those whose places begin there
+abbrev pub pages_made : List ℕ → ℕ
+pages_made starts = length (filter is_made starts)
+
+-- where the places of a page begin
+abbrev pub start_in : List ℕ → ℕ → ℕ
+start_in starts p = slice_index_or starts p NO_PAGE
 
 module _ {V : Type 0} where
-  -- the value in a place of a page, if the page goes so far and the place is not empty
+  -- the value in a place, if there is such a place and it is not empty
   abbrev pub value_in : List (Option V) → ℕ → Option V
-  value_in page j = option_and_then (λ v. v) (slice_get page j)
+  value_in places j = option_and_then (λ v. v) (slice_get places j)
+
+  -- how many places there are
+  abbrev pub place_count : Pages V → ℕ
+  place_count pages = length pages.places.items
+
+  -- the place of an index: past all places, where its page is not made
+  abbrev pub place_of : Pages V → ℕ → ℕ
+  place_of pages i = start_in pages.starts.items (i / PAGE) + i % PAGE
 
   -- the value of an index
-  abbrev pub value_at : List (Vec (Option V) Global) → ℕ → Option V
-  value_at pages i = option_and_then (λ page. value_in page.items (i % PAGE)) (slice_get pages (i / PAGE))
+  abbrev pub value_at : Pages V → ℕ → Option V
+  value_at pages i = value_in pages.places.items (place_of pages i)
 
   -- there is a place for the value of an index
-  abbrev pub HasPlace : List (Vec (Option V) Global) → ℕ → Type 0
-  HasPlace pages i = IsSomeAnd (slice_get pages (i / PAGE)) (λ page. i % PAGE < length page.items)
-
-  -- how many places the page has that lies here, if one does
-  abbrev pub size_of : Option (Vec (Option V) Global) → ℕ
-  size_of (Some page) = length page.items
-  size_of None = 0
+  abbrev pub HasPlace : Pages V → ℕ → Type 0
+  HasPlace pages i = place_of pages i < place_count pages
 
   -- how many places a page has
-  abbrev pub places_in : List (Vec (Option V) Global) → ℕ → ℕ
-  places_in pages p = size_of (slice_get pages p)
+  abbrev pub places_in : Pages V → ℕ → ℕ
+  places_in pages p = if is_made (start_in pages.starts.items p) then PAGE else 0
 
-  -- each page has all its places, or none
-  abbrev pub AreWhole : List (Vec (Option V) Global) → Type 0
-  AreWhole pages = (p : ℕ) → 0 < places_in pages p → places_in pages p ≡ PAGE
+  -- Each page that is made has its places, and no two indices have the same one.
+  pub record AreLaidOut (pages : Pages V) : Type 0 where
+    pub few : length pages.starts.items ≤ MAX_EID / PAGE
+    pub counts : place_count pages ≡ PAGE * pages_made pages.starts.items
+    pub there : (i : ℕ) → places_in pages (i / PAGE) ≡ PAGE → HasPlace pages i
+    pub apart : (i j : ℕ) → HasPlace pages i → place_of pages i ≡ place_of pages j → i ≡ j
 
-  -- there are as many pages as before, and each has as many places
-  abbrev pub AreAsLong : List (Vec (Option V) Global) → List (Vec (Option V) Global) → Type 0
-  AreAsLong old new = (length new ≡ length old) × ((p : ℕ) → places_in new p ≡ places_in old p)
+  -- the same pages, with as many places
+  pub record AreAsMany (old new : Pages V) : Type 0 where
+    pub starts : new.starts.items ≡ old.starts.items
+    pub count : place_count new ≡ place_count old
 
   -- the set has exactly the indices with a value
-  abbrev pub Covers : BitSet → List (Vec (Option V) Global) → Type 0
+  abbrev pub Covers : BitSet → Pages V → Type 0
   Covers mask pages = (i : ℕ) → has mask i ≡ is_some (value_at pages i)

@@ -8,11 +8,11 @@ use Rattle.hibitset_store.specs.Pages.{places_in}
 module _ {V : Type 0} where
   -- how many places a page has: `PAGE` where it is made, and else none
   unfoldable pub places : Column V → ℕ → ℕ
-  places column = places_in column.pages.pages.items
+  places column = places_in column.pages
 
   -- how many pages the table of pages goes over
   unfoldable pub table_len : Column V → ℕ
-  table_len column = length column.pages.pages.items
+  table_len column = length column.pages.starts.items
 
   -- how many words of layer 0 the mask has
   unfoldable pub words_len : Column V → ℕ

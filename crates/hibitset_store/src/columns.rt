@@ -6,7 +6,7 @@ ghost use Rattle.std.specs.Borrow.{sem};
 ghost use Rattle.std.specs.Option.{is_some, option_copied_mut};
 ghost use Rattle.hibitset.specs.BitSet.{has, members_of, slice_len};
 ghost use Rattle.hibitset_base.specs.declared.util.TheConstants.{MAX_EID};
-ghost use Rattle.hibitset_store.specs.Pages.{AreWhole, Covers};
+ghost use Rattle.hibitset_store.specs.Pages.{AreLaidOut, Covers};
 
 use crate::pages::Pages;
 use hibitset::{BitSet, BitSetLike, Index};
@@ -14,16 +14,16 @@ use std::alloc::Global;
 
 /// A finite map from indices below `MAX_EID` to values, with the set of its keys.
 ///
-/// Values lie in pages of 1,024 places, and the page of an index is made whole when one of its indices first gets a value. Each call on one index looks at two places of them.
+/// Values lie in pages of 256 places, and the page of an index is made whole when one of its indices first gets a value. Each call on one index looks at one entry of the table of pages and at one place.
 ///
-/// A page takes 8 KiB for values of four bytes, and the table of pages 24 bytes for each 1,024 indices up to the highest key, beside the words of the set of keys. So a column costs little where keys lie near each other, and most where they lie far apart: 100,000 values at random indices below 2^30 take some 950 MB, those of the indices 0 to 99,999 less than 1 MB.
+/// A page takes 2 KiB for values of four bytes, and the table four bytes for each 256 indices up to the highest key, beside the words of the set of keys. All pages lie in one list, in the order in which they were made; it doubles when it is full, so up to twice as much may be taken, as of the table. A column costs little where keys lie near each other, and most where they lie far apart: PLACE_FAR, those of the indices 0 to 99,999 PLACE_NEAR.
 #[derive(Drop)]
 pub struct Column<V: Drop> {
     mask: BitSet,
     pages: Pages<V>,
     count: usize,
-    ghost covers: { Covers mask pages.pages.items },
-    ghost whole: { AreWhole pages.pages.items },
+    ghost covers: { Covers mask pages },
+    ghost laid_out: { AreLaidOut pages },
     ghost counts: { count ≡ length (members_of mask) },
 }
 
@@ -111,14 +111,15 @@ impl<V: Drop> Column<V> {
             Ok(was) => return Ok(Some(was)),
             Err(value) => value,
         };
-        let Ok(()) = self.pages.make_room(id) else {
+        let Ok(place) = self.pages.make_place(id) else {
             return Err(value);
         };
         let Ok(had) = self.mask.add(id) else {
             return Err(value);
         };
         self.count += usize::from(!had);
-        Ok(self.pages.put(id, Some(value)))
+        self.pages.put(place, Some(value));
+        Ok(None)
     }
 
     /// Takes the value of an index out. The column keeps its room.
@@ -129,14 +130,15 @@ impl<V: Drop> Column<V> {
         ensures keeps { KeepsRoom self.old self.new }
         ensures room { IsSome result → HasRoom self.new id }
     {
+        let place = self.pages.place(id);
         if !self.mask.remove(id) {
             return None;
         }
         self.count -= 1;
-        self.pages.put(id, None)
+        self.pages.put(place, None)
     }
 
-    /// Takes all values out. It takes no memory, and gives that of the pages back. The table and the mask keep their memory for what is to come, but no contract says that it is enough.
+    /// Takes all values out. It takes no memory, and keeps that of the pages, the table and the mask for what is to come, but no contract says that it is enough.
     pub fn clear(&mut self)
         ensures empty { (i : ℕ) → value_of self.new i ≡ None }
         ensures pages { (p : ℕ) → places self.new p ≡ 0 }

@@ -1,9 +1,10 @@
 //! Values in pages, each made whole when one of its indices first gets a value.
-ghost use Rattle.std.specs.Prelude.{◌≡◌, ◌≢◌, ℕ, ◌+◌, ◌/◌, ◌<◌, ◌≤◌, ◌==◌, max, length, [], Some, None, if◌then◌else◌, IsOk, IfOk, IfErr, OnOk, OnErr, MatchOption, vec_len};
+ghost use Rattle.std.specs.Prelude.{◌≡◌, ◌≢◌, ℕ, ◌+◌, ◌*◌, ◌/◌, ◌<◌, ◌≤◌, ◌==◌, max, length, [], Some, None, if◌then◌else◌, IsOk, IfOk, IfErr, OnOk, OnErr, MatchOption, vec_len};
 ghost use Rattle.std.specs.Borrow.{sem};
 ghost use Rattle.std.specs.Option.{option_copied_mut};
+ghost use Rattle.hibitset_base.specs.declared.util.TheConstants.{MAX_EID};
 ghost use Rattle.hibitset_store.specs.PageLending.{LendsPlace};
-ghost use Rattle.hibitset_store.specs.Pages.{AreAsLong, AreWhole, HasPlace, places_in, value_at, value_in};
+ghost use Rattle.hibitset_store.specs.Pages.{AreAsMany, AreLaidOut, HasPlace, place_count, place_of, places_in, start_in, value_at, value_in};
 
 use hibitset::Index;
 use std::alloc::{AllocError, Global};
@@ -11,75 +12,71 @@ use std::marker::PhantomData;
 use std::mem;
 
 /// How many indices a page has places for.
-pub const PAGE: usize = 1_024;
+pub const PAGE: usize = 256;
 
-// The values, in pages, with a place for each index of a page that is made.
+/// Where the places of a page begin that is not made: past all places.
+pub const NO_PAGE: u32 = u32::MAX;
+
+// The values, in pages, with a place for each index of a page that is made. The pages lie one after the other, in the order in which they were made.
 #[derive(Drop)]
 pub(crate) struct Pages<V: Drop> {
-    pages: Vec<Vec<Option<V>>>,
+    starts: Vec<u32>,
+    places: Vec<Option<V>>,
 }
 
 impl<V: Drop> Pages<V> {
     // No value, and no page.
     pub(crate) fn new(alloc: Global) -> Pages<V>
-        ensures { result.pages.items ≡ [] }
+        ensures starts { result.starts.items ≡ [] }
+        ensures places { result.places.items ≡ [] }
     {
         Pages {
-            pages: Vec::new(alloc),
+            starts: Vec::new(alloc),
+            places: Vec::new(alloc),
         }
+    }
+
+    // The place of an index: past all places, where its page is not made.
+    #[inline]
+    pub(crate) fn place(&self, id: Index) -> usize
+        ensures { result ≡ place_of self.now id }
+    {
+        let start = self.starts.get(id as usize / PAGE).copied();
+        start.unwrap_or(NO_PAGE) as usize + id as usize % PAGE
     }
 
     // The value of an index.
     #[inline]
     pub(crate) fn get(&self, id: Index) -> Option<&V>
-        ensures { MatchOption result (value_at self.now.pages.items id ≡ None) (λ value. value_at self.now.pages.items id ≡ Some value.now) }
+        ensures { MatchOption result (value_at self.now id ≡ None) (λ value. value_at self.now id ≡ Some value.now) }
     {
-        self.pages
-            .get(id as usize / PAGE)?
-            .get(id as usize % PAGE)?
-            .as_ref()
+        self.places.get(self.place(id))?.as_ref()
     }
 
     // The value of an index, to be changed. It ends in a `match` and not in `as_mut`, so that only a place with a value is lent.
     #[inline]
     pub(crate) fn get_mut(&mut self, id: Index) -> Option<&mut V>
+        requires { AreLaidOut self.old }
         ensures* writes_back { sem 𝓛 (LendsPlace V.row self.entry id result) }
-        ensures value { option_copied_mut result ≡ value_at self.old.pages.items id }
+        ensures value { option_copied_mut result ≡ value_at self.old id }
     {
-        let place = self
-            .pages
-            .get_mut(id as usize / PAGE)?
-            .get_mut(id as usize % PAGE)?;
-        match place {
+        let place = self.place(id);
+        match self.places.get_mut(place)? {
             Some(value) => Some(value),
             None => None,
         }
     }
 
-    // Puts a value into the place of an index, or takes it out, and answers what was there.
-    #[inline]
-    pub(crate) fn put(&mut self, id: Index, value: Option<V>) -> Option<V>
-        requires { HasPlace self.old.pages.items id }
-        ensures was { result ≡ value_at self.old.pages.items id }
-        ensures put { (i : ℕ) → value_at self.new.pages.items i ≡ (if i == id then value else value_at self.old.pages.items i) }
-        ensures long { AreAsLong self.old.pages.items self.new.pages.items }
-    {
-        put_in(
-            &mut self.pages[id as usize / PAGE],
-            id as usize % PAGE,
-            value,
-        )
-    }
-
     // Writes over the value of an index, and answers it. Where there is none it hands the new one back, and changes nothing.
     #[inline]
     pub(crate) fn write_over(&mut self, id: Index, value: V) -> Result<V, V>
-        ensures was { IfOk result (λ was. value_at self.old.pages.items id ≡ Some was) }
-        ensures written { OnOk result ((i : ℕ) → value_at self.new.pages.items i ≡ (if i == id then Some value else value_at self.old.pages.items i)) }
-        ensures none { OnErr result (value_at self.old.pages.items id ≡ None) }
+        requires { AreLaidOut self.old }
+        ensures was { IfOk result (λ was. value_at self.old id ≡ Some was) }
+        ensures written { OnOk result ((i : ℕ) → value_at self.new i ≡ (if i == id then Some value else value_at self.old i)) }
+        ensures none { OnErr result (value_at self.old id ≡ None) }
         ensures back { IfErr result (λ back. back ≡ value) }
-        ensures unchanged { OnErr result ((i : ℕ) → value_at self.new.pages.items i ≡ value_at self.old.pages.items i) }
-        ensures long { AreAsLong self.old.pages.items self.new.pages.items }
+        ensures unchanged { OnErr result ((i : ℕ) → value_at self.new i ≡ value_at self.old i) }
+        ensures many { AreAsMany self.old self.new }
     {
         match self.get_mut(id) {
             Some(place) => Ok(mem::replace(place, value)),
@@ -87,65 +84,91 @@ impl<V: Drop> Pages<V> {
         }
     }
 
-    // Makes the page of an index, and changes no value. Refused, it leaves each page as it was.
+    // Puts a value into the place of an index, or takes it out, and answers what was there.
     #[inline]
-    pub(crate) fn make_room(&mut self, id: Index) -> Result<(), AllocError>
-        requires { AreWhole self.old.pages.items }
-        ensures same { (i : ℕ) → value_at self.new.pages.items i ≡ value_at self.old.pages.items i }
-        ensures whole { AreWhole self.new.pages.items }
-        ensures made { OnOk result (places_in self.new.pages.items (id / PAGE) ≡ PAGE) }
-        ensures stays { OnErr result ((p : ℕ) → places_in self.new.pages.items p ≡ places_in self.old.pages.items p) }
-        ensures others { (p : ℕ) → p ≢ id / PAGE → places_in self.new.pages.items p ≡ places_in self.old.pages.items p }
-        ensures room { places_in self.old.pages.items (id / PAGE) ≡ PAGE → IsOk result }
-        ensures unused { places_in self.old.pages.items (id / PAGE) ≡ PAGE → AreAsLong self.old.pages.items self.new.pages.items }
-        ensures keeps { vec_len self.old.pages ≤ vec_len self.new.pages }
-        ensures most { vec_len self.new.pages ≤ max (vec_len self.old.pages) (id / PAGE + 1) }
+    pub(crate) fn put(&mut self, place: usize, value: Option<V>) -> Option<V>
+        requires laid_out { AreLaidOut self.old }
+        requires there { place < place_count self.old }
+        ensures was { result ≡ value_in self.old.places.items place }
+        ensures put { (id : ℕ) → place ≡ place_of self.old id → (i : ℕ) → value_at self.new i ≡ (if i == id then value else value_at self.old i) }
+        ensures many { AreAsMany self.old self.new }
     {
-        let page = id as usize / PAGE;
-        if self.pages.len() <= page {
-            add_pages(&mut self.pages, page)?;
+        mem::replace(&mut self.places[place], value)
+    }
+
+    // The place of an index, whose page is made if it has to be. It changes no value. Refused, it leaves each page as it was.
+    #[inline]
+    pub(crate) fn make_place(&mut self, id: Index) -> Result<usize, AllocError>
+        requires laid_out { AreLaidOut self.old }
+        requires below { id < MAX_EID }
+        ensures place { IfOk result (λ place. place ≡ place_of self.new id) }
+        ensures there { OnOk result (HasPlace self.new id) }
+        ensures same { (i : ℕ) → value_at self.new i ≡ value_at self.old i }
+        ensures laid_out { AreLaidOut self.new }
+        ensures stays { OnErr result ((p : ℕ) → places_in self.new p ≡ places_in self.old p) }
+        ensures others { (p : ℕ) → p ≢ id / PAGE → places_in self.new p ≡ places_in self.old p }
+        ensures room { HasPlace self.old id → IsOk result }
+        ensures unused { HasPlace self.old id → AreAsMany self.old self.new }
+        ensures keeps { vec_len self.old.starts ≤ vec_len self.new.starts }
+        ensures most { vec_len self.new.starts ≤ max (vec_len self.old.starts) (id / PAGE + 1) }
+    {
+        let place = self.place(id);
+        if place < self.places.len() {
+            return Ok(place);
         }
-        if self.pages[page].is_empty() {
-            fill_page(&mut self.pages[page])?;
+        let page = id as usize / PAGE;
+        self.lengthen(page)?;
+        self.add_page(page)?;
+        Ok(self.place(id))
+    }
+
+    // Makes the table go as far as a page, and makes no page. Refused, it changes nothing.
+    fn lengthen(&mut self, page: usize) -> Result<(), AllocError>
+        requires laid_out { AreLaidOut self.old }
+        requires below { page < MAX_EID / PAGE }
+        ensures same { (i : ℕ) → value_at self.new i ≡ value_at self.old i }
+        ensures laid_out { AreLaidOut self.new }
+        ensures pages { (p : ℕ) → places_in self.new p ≡ places_in self.old p }
+        ensures there { OnOk result (page < length self.new.starts.items) }
+        ensures starts { (p : ℕ) → start_in self.new.starts.items p ≡ start_in self.old.starts.items p }
+        ensures keeps { vec_len self.old.starts ≤ vec_len self.new.starts }
+        ensures most { vec_len self.new.starts ≤ max (vec_len self.old.starts) (page + 1) }
+    {
+        if self.starts.len() <= page {
+            self.starts.resize(page + 1, NO_PAGE)?;
         }
         Ok(())
     }
 
-    // Takes all values out, and gives the pages back.
-    pub(crate) fn clear(&mut self)
-        ensures { self.new.pages.items ≡ [] }
+    // Makes a page, whose places come after all others. Refused, it changes nothing.
+    fn add_page(&mut self, page: usize) -> Result<(), AllocError>
+        requires laid_out { AreLaidOut self.old }
+        requires within { page < length self.old.starts.items }
+        requires none { start_in self.old.starts.items page ≡ NO_PAGE }
+        ensures same { (i : ℕ) → value_at self.new i ≡ value_at self.old i }
+        ensures laid_out { AreLaidOut self.new }
+        ensures made { OnOk result (places_in self.new page ≡ PAGE) }
+        ensures stays { OnErr result ((p : ℕ) → places_in self.new p ≡ places_in self.old p) }
+        ensures others { (p : ℕ) → p ≢ page → places_in self.new p ≡ places_in self.old p }
+        ensures table { vec_len self.new.starts ≡ vec_len self.old.starts }
     {
-        self.pages.clear();
+        let start = self.places.len();
+        add_places(&mut self.places)?;
+        self.starts[page] = start as u32;
+        Ok(())
+    }
+
+    // Takes all values out. It keeps the memory of the pages.
+    pub(crate) fn clear(&mut self)
+        ensures starts { self.new.starts.items ≡ [] }
+        ensures places { self.new.places.items ≡ [] }
+    {
+        self.starts.clear();
+        self.places.clear();
     }
 }
 
-// Puts a value into a place of a page, or takes it out, and answers what was there.
-#[inline]
-fn put_in<V: Drop>(page: &mut Vec<Option<V>>, place: usize, value: Option<V>) -> Option<V>
-    requires { place < vec_len page.old }
-    ensures was { result ≡ value_in page.old.items place }
-    ensures put { (j : ℕ) → value_in page.new.items j ≡ (if j == place then value else value_in page.old.items j) }
-    ensures long { length page.new.items ≡ length page.old.items }
-{
-    mem::replace(&mut page[place], value)
-}
-
-// Makes the first pages up to this one, without places, and changes no value.
-fn add_pages<V: Drop>(pages: &mut Vec<Vec<Option<V>>>, page: usize) -> Result<(), AllocError>
-    ensures same { (i : ℕ) → value_at pages.new.items i ≡ value_at pages.old.items i }
-    ensures none { (p : ℕ) → places_in pages.new.items p ≡ places_in pages.old.items p }
-    ensures there { OnOk result (page < vec_len pages.new) }
-    ensures keeps { vec_len pages.old ≤ vec_len pages.new }
-    ensures most { vec_len pages.new ≤ max (vec_len pages.old) (page + 1) }
-{
-    let alloc = *pages.allocator();
-    'pages: while pages.len() <= page {
-        pages.push(Vec::new(alloc))?;
-    }
-    Ok(())
-}
-
-// So many places without a value. They are poured into a page, which is faster than a loop that pushes each and asks how many there are.
+// So many places without a value. They are poured into the list of all places, which is faster than a loop that pushes each and asks how many there are.
 #[derive(Drop)]
 struct EmptyPlaces<V: Drop> {
     left: usize,
@@ -172,20 +195,20 @@ impl<V: Drop> Iterator for EmptyPlaces<V> {
     }
 }
 
-// Makes all places of a page that has none, in one request. Refused, it has none.
-fn fill_page<V: Drop>(page: &mut Vec<Option<V>>) -> Result<(), AllocError>
-    requires { page.old.items ≡ [] }
-    ensures none { (j : ℕ) → value_in page.new.items j ≡ None }
-    ensures made { OnOk result (length page.new.items ≡ PAGE) }
-    ensures refused { OnErr result (page.new.items ≡ []) }
+// Adds the places of one page at the end. Refused, it adds none.
+fn add_places<V: Drop>(places: &mut Vec<Option<V>>) -> Result<(), AllocError>
+    ensures same { (j : ℕ) → value_in places.new.items j ≡ value_in places.old.items j }
+    ensures added { OnOk result (length places.new.items ≡ length places.old.items + PAGE) }
+    ensures refused { OnErr result (places.new.items ≡ places.old.items) }
 {
-    page.reserve_exact(PAGE)?;
-    let poured = page.extend(EmptyPlaces {
+    let before = places.len();
+    places.reserve(PAGE)?;
+    let poured = places.extend(EmptyPlaces {
         left: PAGE,
         of: PhantomData,
     });
     if poured.is_err() {
-        page.clear();
+        places.truncate(before);
     }
     poured
 }

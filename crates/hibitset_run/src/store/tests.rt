@@ -67,7 +67,7 @@ fn runs_commands_on_the_columns_that_are_there(rt: HostRuntime) -> Result<(), Fa
     Ok(())
 }
 
-// The key of both columns in such a run. It lies on the first page, so that the table of pages asks for memory once.
+// The key of both columns in such a run.
 const KEY: Index = 700;
 
 // A run with one command that takes memory of each kind.

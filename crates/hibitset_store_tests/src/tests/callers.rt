@@ -161,8 +161,8 @@ fn exchange<V: Drop>(column: &mut Column<V>, id: Index, value: V) -> Option<Resu
 fn warm_up(column: &mut Column<u32>) -> Result<(), u32>
     ensures { OnOk result ((i : ℕ) → i < PAGE → HasRoom column.new i) }
 {
-    column.insert(1_023, 0)?;
-    column.remove(1_023);
+    column.insert(255, 0)?;
+    column.remove(255);
     Ok(())
 }
 
@@ -180,7 +180,7 @@ fn fill(column: &mut Column<u32>, value: u32) -> bool
     ensures result { result ≡ true }
     ensures room { (i : ℕ) → i < PAGE → HasRoom column.new i }
 {
-    for id in 0..1_024 {
+    for id in 0..256 {
         if column.insert(id, value).is_err() {
             return false;
         }
@@ -233,7 +233,7 @@ fn room_of_callers(rt: HostRuntime) -> Result<(), Fail> {
     assert!(rt; exchange(&mut column, 5, 3).is_none());
     assert_eq!(rt; warm_up(&mut column), Ok(()));
     assert!(rt; put_far(&mut column) && column.remove(5_000_000) == Some(9));
-    assert!(rt; fill(&mut column, 4) && column.len() == 1_025);
-    assert!(rt; column.get(7) == Some(&0) && column.get(1_023) == Some(&4));
+    assert!(rt; fill(&mut column, 4) && column.len() == 257);
+    assert!(rt; column.get(7) == Some(&0) && column.get(255) == Some(&4));
     Ok(())
 }

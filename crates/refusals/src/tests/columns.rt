@@ -5,7 +5,7 @@ use hibitset_store::{Column, join};
 use std::alloc::{AllocError, Global};
 use std::test::Fail;
 
-// Each growth of `insert`: of the table of pages, of the page and of the mask. Refused, the value comes back and the column is as it was.
+// Each growth of `insert`: of the table of pages, of the places and of the mask. Refused, the value comes back and the column is as it was.
 #[test]
 fn insert(rt: HostRuntime) -> Result<(), Fail> {
     let mut column = column_of(rt.alloc(), &[(5, 77), (70, 7)])?;

@@ -1,12 +1,13 @@
-use Rattle.std.proofs.Common.{sym, ap, length, refl, ◌<◌, arith}
+use Rattle.std.proofs.Common.{sym, ap, length, refl}
 use Rattle.hibitset_base.specs.declared.util.TheConstants.{MAX_EID}
 use Rattle.hibitset.specs.BitSet.{has}
 use Rattle.hibitset.proofs.Sizes.{members-nowhere}
+use Rattle.hibitset_store.proofs.Making.{AreLaidOut-none}
 use Rattle.hibitset_store.proofs.columns.Column.clear.Goals as goal
 
 pub invariant_of-self : goal.invariant_of-self
 invariant_of-self g c = record {
-  covers = λ i. let none = c.clear.ensures.empty i in rw (none, c.clear-2.ensures) refl;
-  whole = λ p some. absurd (let none : 0 < 0 = rw c.clear-2.ensures at some in omega (arith, none));
+  covers = λ i. let none = c.clear.ensures.empty i in rw (none, c.clear-2.ensures.places) refl;
+  laid_out = AreLaidOut-none c.clear-2.new.self c.clear-2.ensures.starts c.clear-2.ensures.places;
   counts = sym (ap length (members-nowhere (has c.clear.new.self) MAX_EID c.clear.ensures.empty));
 }

@@ -1,11 +1,11 @@
 use Rattle.std.proofs.Common.{◌∙◌, sym, ap}
 use Rattle.std.specs.Option.{is_some}
 use Rattle.hibitset_store.proofs.Paging.{is_some-over}
-use Rattle.hibitset_store.proofs.Sizing.{AreWhole-kept}
+use Rattle.hibitset_store.proofs.Sizing.{AreLaidOut-many}
 use Rattle.hibitset_store.proofs.columns.Column.get_mut.Goals as goal
 
 pub invariant_of-self-lent : goal.invariant_of-self-lent
 invariant_of-self-lent g c = λ result. (
-  (λ w. let ends = c.get_mut.follows.holds w in ((λ i. c.args.self.now.covers i ∙ is_some-over i c.args.id _ _ w (ends.0 i)), (AreWhole-kept _ _ c.args.self.now.whole ends.1, (c.args.self.now.counts, tt)))),
-  (let ends = c.get_mut.follows.holds-at-none in ((λ i. c.args.self.now.covers i ∙ ap is_some (sym (ends.0 i))), (AreWhole-kept _ _ c.args.self.now.whole ends.1, (c.args.self.now.counts, tt)))),
+  (λ w. let ends = c.get_mut.follows.holds w in ((λ i. c.args.self.now.covers i ∙ is_some-over i c.args.id _ _ w (ends.0 i)), (AreLaidOut-many _ _ c.args.self.now.laid_out ends.1, (c.args.self.now.counts, tt)))),
+  (let ends = c.get_mut.follows.holds-at-none in ((λ i. c.args.self.now.covers i ∙ ap is_some (sym (ends.0 i))), (AreLaidOut-many _ _ c.args.self.now.laid_out ends.1, (c.args.self.now.counts, tt)))),
 )
