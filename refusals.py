@@ -143,7 +143,7 @@ REQUESTS = {
     "callers::walk": 1,
     "callers::widen": 1,
     "columns::collect": 1,
-    "columns::insert": 13,
+    "columns::insert": 3,
     "copies::complement": 1,
     "copies::intersection": 2,
     "copies::symmetric_difference": 2,
