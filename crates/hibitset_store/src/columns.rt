@@ -16,7 +16,7 @@ use std::alloc::Global;
 ///
 /// Values lie in pages of 256 places, and the page of an index is made whole when one of its indices first gets a value. Each call on one index looks at one entry of the table of pages and at one place.
 ///
-/// A page takes 2 KiB for values of four bytes, and the table four bytes for each 256 indices up to the highest key, beside the words of the set of keys. All pages lie in one list, in the order in which they were made; it doubles when it is full, so up to twice as much may be taken, as of the table. A column costs little where keys lie near each other, and most where they lie far apart: PLACE_FAR, those of the indices 0 to 99,999 PLACE_NEAR.
+/// A page takes 2 KiB for values of four bytes, and the table four bytes for each 256 indices up to the highest key, beside the words of the set of keys. All pages lie in one list, in the order in which they were made; it doubles when it is full, so up to twice as much may be taken, as of the table. A column costs little where keys lie near each other, and most where they lie far apart: 100,000 values at random indices below 2^30 take some 350 MB, those of the indices 0 to 99,999 about 1 MB.
 #[derive(Drop)]
 pub struct Column<V: Drop> {
     mask: BitSet,

@@ -84,7 +84,7 @@ impl<V: Drop> Pages<V> {
         }
     }
 
-    // Puts a value into the place of an index, or takes it out, and answers what was there.
+    // Puts a value into a place, or takes it out, and answers what was there.
     #[inline]
     pub(crate) fn put(&mut self, place: usize, value: Option<V>) -> Option<V>
         requires laid_out { AreLaidOut self.old }
@@ -128,7 +128,6 @@ impl<V: Drop> Pages<V> {
         requires below { page < MAX_EID / PAGE }
         ensures same { (i : ℕ) → value_at self.new i ≡ value_at self.old i }
         ensures laid_out { AreLaidOut self.new }
-        ensures pages { (p : ℕ) → places_in self.new p ≡ places_in self.old p }
         ensures there { OnOk result (page < length self.new.starts.items) }
         ensures starts { (p : ℕ) → start_in self.new.starts.items p ≡ start_in self.old.starts.items p }
         ensures keeps { vec_len self.old.starts ≤ vec_len self.new.starts }
