@@ -20,9 +20,10 @@ pub fn set_of(alloc: Global, list: &[Index]) -> Result<BitSet, BuildError>
     BitSet::from_index_refs(alloc, list)
 }
 
-/// The set of the indices from `start` on and below `end`. Where one is refused, the error tells its place: it is the first out of range, or one for which there was no memory, and then it is `start`, or the first index of a word.
+/// The set of the indices from `start` on and below `end`, with no more words in a layer than those below `end` need. Where one is refused, the error tells its place: it is the first out of range, or one for which there was no memory, and then it is `start`, or the first index of a word.
 pub fn set_of_range(alloc: Global, start: Index, end: Index) -> Result<BitSet, BuildError>
     ensures members { IfOk result (λ set. (i : ℕ) → (has set i ≡ true) ↔ ((start ≤ i) × (i < end))) }
+    ensures short { IfOk result (λ set. (l : ℕ) → l < LAYERS - 1 → (n : ℕ) → end ≤ 64 ^ (l + 1) * n → slice_len set l ≤ n) }
     ensures in_range { IfOk result (λ _. start < end → end ≤ MAX_EID) }
     ensures place { IfErr result (λ error. start + place_of error < end) }
     ensures before { IfErr result (λ error. (k : ℕ) → k < place_of error → start + k < MAX_EID) }
