@@ -8,11 +8,11 @@ use Rattle.hibitset_base.specs.declared.util.TheConstants.{MAX_EID}
 use Rattle.hibitset_store.specs.declared.pages.Pages.{Pages}
 use Rattle.hibitset_store.specs.declared.pages.TheConstants.{NO_PAGE, PAGE}
 
--- tells where the places of a page begin that is made
+-- tells whether the page is made whose places begin there
 abbrev pub is_made : ℕ → Bool
 is_made start = not (start == NO_PAGE)
 
--- how many pages are made, of those whose places begin there
+-- how many pages of a table are made
 abbrev pub pages_made : List ℕ → ℕ
 pages_made starts = length (filter is_made starts)
 
