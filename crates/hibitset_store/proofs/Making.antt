@@ -97,10 +97,7 @@ module _ {V : Type 0} where
     place-there : (i : ℕ) → i / PAGE ≢ page → place_of new i ≡ place_of old i
     place-there i other = ap (λ n. n + i % PAGE) (start-there (i / PAGE) other)
 
-    pub made-here : places_in new page ≡ PAGE
-    made-here = rw (start-here, made-start) refl
-
-    pub made-there : (p : ℕ) → p ≢ page → places_in new p ≡ places_in old p
+    made-there : (p : ℕ) → p ≢ page → places_in new p ≡ places_in old p
     made-there p other = ap (λ start. if is_made start then PAGE else 0) (start-there p other)
 
     pub value_at-made : (i : ℕ) → value_at new i ≡ value_at old i
