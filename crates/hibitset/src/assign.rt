@@ -18,6 +18,9 @@ use hibitset_base::util::{Index, LAYERS, MAX_EID};
 use std::alloc::AllocError;
 use std::ops::BitAndAssign;
 
+// Where an assignment takes memory, it makes room for one in so many words more than there was room for. Adds, which come one by one, double it; here all that the other has is known, and room that is not needed is written all the same.
+const SPARE_PART: usize = 8;
+
 // The set with no members, which is merged in where the other has no word.
 #[derive(Drop)]
 struct Empty;
@@ -280,10 +283,11 @@ impl BitSet {
             return Ok(());
         }
         let end = end_under(other, LAYERS - 1, 0);
-        if end == 0 {
+        if end <= self.layers.len() {
             return Ok(());
         }
-        self.extend((64 * (end - 1)) as Index)
+        let room = self.layers.room();
+        self.grow((64 * (end - 1)) as Index, room + room / SPARE_PART)
     }
 
     /// Adds the members of any other set. Where memory is refused the members stay.

@@ -66,15 +66,13 @@ fn starts_over(room: usize) -> ([usize; LAYERS - 1], usize)
     (starts, at)
 }
 
-// Room for `len` words of layer 0 where there was room for `room`: twice as much, where that is enough and not too much.
+// Room for `len` words of layer 0, and for as many as there is to be room for, where that is not too much.
 fn larger_room(room: usize, len: usize) -> usize
-    requires room { room ≤ 64 ^ (LAYERS - 1) }
-    requires len { len ≤ 64 ^ (LAYERS - 1) }
+    requires { len ≤ 64 ^ (LAYERS - 1) }
     ensures enough { len ≤ result }
     ensures within { result ≤ 64 ^ (LAYERS - 1) }
 {
-    let twice = (2 * room).max(LEAST_ROOM).min(MOST_ROOM);
-    twice.max(len)
+    room.max(LEAST_ROOM).min(MOST_ROOM).max(len)
 }
 
 // Lengthens a list by words that are 0. It makes one request for memory at most, for no more than it needs; refused, nothing changes.
@@ -315,6 +313,15 @@ impl Layers {
         self.lens[0]
     }
 
+    /// How many words of layer 0 there is room for.
+    #[inline]
+    pub(crate) fn room(&self) -> usize
+        ensures here { result ≡ room_in self.now }
+        ensures within { result ≤ 64 ^ (LAYERS - 1) }
+    {
+        self.starts[1]
+    }
+
     /// The word of the top layer.
     #[inline]
     pub(crate) fn top(&self) -> usize
@@ -449,16 +456,15 @@ impl Layers {
         self.lens = lens_over(len);
     }
 
-    /// Makes layer 0 so many words long, and the layers above it as long as they are over it, by words that are 0. It makes one request for memory at most; refused, nothing changes.
-    pub(crate) fn lengthen(&mut self, len: usize) -> Result<(), AllocError>
+    /// Makes layer 0 `len` words long, and the layers above it as long as they are over it, by words that are 0. It makes one request for memory at most, and then makes room for `room` words of layer 0, where that is more and not too much; refused, nothing changes.
+    pub(crate) fn lengthen(&mut self, len: usize, room: usize) -> Result<(), AllocError>
         requires more { len_in self.old 0 ≤ len }
         requires within { len ≤ 64 ^ (LAYERS - 1) }
         ensures same { (l p : ℕ) → word_in self.new l p ≡ word_in self.old l p }
         ensures length { OnOk result (len_in self.new 0 ≡ len) }
         ensures refused { OnErr result (len_in self.new 0 ≡ len_in self.old 0) }
     {
-        let room = self.starts[1];
-        if room < len {
+        if self.room() < len {
             self.widen(larger_room(room, len))?;
         }
         self.count_in(len);

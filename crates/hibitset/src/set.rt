@@ -63,9 +63,9 @@ impl BitSet {
         Ok(BitSet { layers })
     }
 
-    // Makes room for the words over `id`, and changes no word. It is apart from `extend`, so that a call of `add` that needs no room tests one length alone.
+    // Makes room for the words over `id`, and changes no word. Where it takes memory, it makes room for `room` words of layer 0, where that is more. It is apart from `extend`, so that a call of `add` that needs no room tests one length alone.
     #[inline(never)]
-    fn grow(&mut self, id: Index) -> Result<(), AllocError>
+    pub(crate) fn grow(&mut self, id: Index, room: usize) -> Result<(), AllocError>
         requires range { id < MAX_EID }
         requires more { slice_len self.old 0 ≤ id / 64 }
         ensures same { (l p : ℕ) → word_of self.new l p ≡ word_of self.old l p }
@@ -75,10 +75,10 @@ impl BitSet {
         ensures stays { OnErr result (slice_len self.new 0 ≡ slice_len self.old 0) }
         ensures covers { OnOk result (id / 64 < slice_len self.new 0) }
     {
-        self.layers.lengthen(id as usize / 64 + 1)
+        self.layers.lengthen(id as usize / 64 + 1, room)
     }
 
-    // Makes room for the words over `id`, and changes no word.
+    // Makes room for the words over `id`, and changes no word. Where it takes memory, it takes twice as much, so that adds one after the other seldom do.
     #[inline]
     pub(crate) fn extend(&mut self, id: Index) -> Result<(), AllocError>
         requires { id < MAX_EID }
@@ -93,7 +93,8 @@ impl BitSet {
         if (id as usize) / 64 < self.layers.len() {
             return Ok(());
         }
-        self.grow(id)
+        let room = self.layers.room();
+        self.grow(id, 2 * room)
     }
 
     // Puts a word into layer 0 in the place of the word `before`, of which one bit was set or cleared, and sets the summaries over it right, as far up as one turns from 0 or to 0.

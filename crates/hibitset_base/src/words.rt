@@ -1,14 +1,14 @@
 //! What is left of a walk, by whole words.
 #![tactic(auto, unfolding(crate::specs::Walk::items_left, crate::specs::Walk::set_of))]
 
-ghost use Rattle.std.specs.Prelude.{◌≡◌, ℕ, List, ◌+◌, ◌-◌, ◌%◌, ◌^◌, ◌<◌, ◌≤◌, ◌++◌, [], length, take, MatchOption, IfSome, IfOk, None};
+ghost use Rattle.std.specs.Prelude.{◌≡◌, ℕ, Bool, List, ◌+◌, ◌-◌, ◌*◌, ◌%◌, ◌^◌, ◌<◌, ◌≤◌, ◌++◌, [], length, take, MatchOption, IfSome, IfOk, None};
 ghost use Rattle.std.specs.Int.RustNames.{count_ones};
-ghost use Rattle.hibitset_base.specs.Members.{members_below};
+ghost use Rattle.hibitset_base.specs.Members.{members, members_below};
 ghost use Rattle.hibitset_base.specs.Sets.{IsExact};
 ghost use Rattle.hibitset_base.specs.First.{IsFirst, HasNone};
 ghost use Rattle.hibitset_base.specs.Written.{IsWritten};
 ghost use Rattle.hibitset_base.specs.Places.{places_in, bits_from, items_of};
-ghost use Rattle.hibitset_base.specs.Cursor.{left};
+ghost use Rattle.hibitset_base.specs.Cursor.{left, IsEmptyBelow};
 ghost use Rattle.hibitset_base.specs.Reading.{GoesOn};
 ghost use Rattle.hibitset_base.specs.Walk.{items_left};
 ghost use Rattle.hibitset_base.specs.declared.util.TheConstants.{LAYERS, MAX_EID};
@@ -17,12 +17,12 @@ use crate::cursor::Cursor;
 use crate::iter::{BitIter, fill_layer1, refill, start, step};
 use crate::like::BitSetLike;
 use crate::reads::Reads;
-use crate::util::{Index, LAYERS};
+use crate::util::{BITS, Index, LAYERS};
 use std::alloc::{AllocError, Global};
 
 // All places of the first word of layer 0 that has any left: the position of the word's first bit, and the word. They are taken.
 #[inline]
-pub(crate) fn step_word<T: BitSetLike>(
+fn step_word<T: BitSetLike>(
     set: &T,
     cursor: &mut Cursor<LAYERS>,
     reads: &mut Reads,
@@ -37,24 +37,119 @@ pub(crate) fn step_word<T: BitSetLike>(
             return None;
         }
     }
-    Some(cursor.take_word())
+    Some(cursor.take_word(0))
 }
 
-// How many items are left.
+// All places of the first word of layer 1 that has any left, where none is left in layer 0: the position of the word's first bit, and the word. They are taken.
+#[inline]
+fn step_block<T: BitSetLike>(
+    set: &T,
+    cursor: &mut Cursor<LAYERS>,
+    reads: &mut Reads,
+) -> Option<(u32, usize)>
+    requires { IsEmptyBelow cursor.old 1 }
+    ensures end { result ≡ None → (left cursor.new ≡ []) }
+    ensures goes { MatchOption result (GoesOn LAYERS (T.holds set.now) (T.word set.now) reads.old.count (left cursor.old) reads.new.count (left cursor.new)) (λ found. GoesOn LAYERS (T.holds set.now) (T.word set.now) reads.old.count (left cursor.old) reads.new.count (places_in 1 (bits_from found.0 found.1) ++ left cursor.new)) }
+    ensures some { IfSome result (λ found. (0 < found.1) × (found.1 < 2 ^ 64)) }
+    ensures within { IfSome result (λ found. (found.0 % 64 ≡ 0) × (found.0 < 64 ^ (LAYERS - 1))) }
+    ensures below { IfSome result (λ _. IsEmptyBelow cursor.new 1) }
+{
+    'layers: while cursor.is_empty(1) {
+        if !fill_layer1(set, cursor, reads) {
+            return None;
+        }
+    }
+    Some(cursor.take_word(1))
+}
+
+// How many members lie in the 64 words of layer 0 from a position on.
+#[inline]
+fn count_block<T: BitSetLike>(set: &T, start: u32) -> usize
+    requires { start + 64 ≤ 64 ^ (LAYERS - 1) }
+    ensures { result ≡ length (members (T.holds set.now) (start * 64) (64 * 64)) }
+{
+    let mut count = 0;
+    let mut word = 0;
+    'words: while word < 64 {
+        count += set.layer0(start as usize + word).count_ones() as usize;
+        word += 1;
+    }
+    count
+}
+
+// Takes the first bit of a word of layer 1, whose own first bit is at `start`, and reads the word of layer 0 under it: the position of that word's first bit, and the word.
+#[inline]
+fn take_under<T: BitSetLike>(set: &T, start: u32, rest: &mut usize) -> (Index, usize)
+    requires some { 0 < rest.old }
+    requires aligned { start % 64 ≡ 0 }
+    requires within { start < 64 ^ (LAYERS - 1) }
+    ensures items { items_of (T.holds set.now) (places_in 1 (bits_from start rest.old)) ≡ bits_from result.0 result.1 ++ items_of (T.holds set.now) (places_in 1 (bits_from start rest.new)) }
+    ensures less { rest.new < rest.old }
+    ensures fits { result.1 < 2 ^ 64 }
+    ensures within { (result.0 % 64 ≡ 0) × (result.0 < MAX_EID) }
+{
+    let position = start | rest.trailing_zeros();
+    *rest &= *rest - 1;
+    (position << BITS, set.layer0(position as usize))
+}
+
+// How many members lie in the words of layer 0 under the bits of a word of layer 1, whose first bit is at `start`. Where all bits stand, the words are gone over one after the other.
+#[inline]
+fn count_under<T: BitSetLike>(set: &T, start: u32, word: usize) -> usize
+    requires aligned { start % 64 ≡ 0 }
+    requires within { start < 64 ^ (LAYERS - 1) }
+    ensures { result ≡ length (items_of (T.holds set.now) (places_in 1 (bits_from start word))) }
+{
+    if word == usize::MAX {
+        return count_block(set, start);
+    }
+    let mut count = 0;
+    let mut rest = word;
+    'bits: while rest != 0 {
+        let (_, lower) = take_under(set, start, &mut rest);
+        count += lower.count_ones() as usize;
+    }
+    count
+}
+
+// Takes what is left in layer 0: the position of the first bit of its word, and the word, which is 0 where nothing is left.
+#[inline]
+fn take_lowest_word(cursor: &mut Cursor<LAYERS>) -> (Index, usize)
+    ensures items { (holds : ℕ → Bool) → items_of holds (left cursor.old) ≡ bits_from result.0 result.1 ++ items_of holds (left cursor.new) }
+    ensures below { IsEmptyBelow cursor.new 1 }
+    ensures fits { result.1 < 2 ^ 64 }
+    ensures within { (result.0 % 64 ≡ 0) × (result.0 < MAX_EID) }
+{
+    if cursor.is_empty(0) {
+        return (0, 0);
+    }
+    cursor.take_word(0)
+}
+
+// How many items are left, where none is left in layer 0.
+#[inline]
+fn count_blocks<T: BitSetLike>(set: &T, cursor: &mut Cursor<LAYERS>, reads: &mut Reads) -> usize
+    requires { IsEmptyBelow cursor.old 1 }
+    ensures { result ≡ length (items_of (T.holds set.now) (left cursor.old)) }
+{
+    let mut count = 0;
+    'parts: while let Some((start, word)) = step_block(set, cursor, reads) {
+        count += count_under(set, start, word);
+    }
+    count
+}
+
+// How many items are left. It goes by words of layer 1, since what lies under one is counted without a look at the layers above.
 #[inline]
 pub(crate) fn count_left<T: BitSetLike>(
     set: &T,
     cursor: &mut Cursor<LAYERS>,
     reads: &mut Reads,
 ) -> usize
-    requires { length (items_of (T.holds set.now) (left cursor.old)) < 2 ^ 64 }
     ensures { result ≡ length (items_of (T.holds set.now) (left cursor.old)) }
 {
-    let mut count = 0;
-    'words: while let Some((_, word)) = step_word(set, cursor, reads) {
-        count += word.count_ones() as usize;
-    }
-    count
+    let (_, word) = take_lowest_word(cursor);
+    word.count_ones() as usize + count_blocks(set, cursor, reads)
 }
 
 // How many members a set has.
@@ -127,6 +222,33 @@ fn make_room(buffer: &[Index], end: usize, list: &mut Vec<Index>) -> Result<usiz
     Ok(end)
 }
 
+// Puts the members in the words of layer 0 under the bits of a word of layer 1, whose first bit is at `start`, behind the first `end` items of a buffer, which is emptied into a list where it is full, and answers how many it has then.
+#[inline]
+fn list_under<T: BitSetLike>(
+    set: &T,
+    start: u32,
+    word: usize,
+    buffer: &mut [Index],
+    end: usize,
+    list: &mut Vec<Index>,
+) -> Result<usize, AllocError>
+    requires aligned { start % 64 ≡ 0 }
+    requires within { start < 64 ^ (LAYERS - 1) }
+    requires room { 68 ≤ length buffer.old }
+    requires end { end ≤ length buffer.old }
+    ensures listed { IfOk result (λ n. list.new.items ++ take n buffer.new ≡ list.old.items ++ (take end buffer.old ++ items_of (T.holds set.now) (places_in 1 (bits_from start word)))) }
+    ensures within { IfOk result (λ n. n ≤ length buffer.new) }
+{
+    let mut end = end;
+    let mut rest = word;
+    'bits: while rest != 0 {
+        let (first, lower) = take_under(set, start, &mut rest);
+        end = make_room(buffer, end, list)?;
+        end = write_bits(buffer, end, first, lower);
+    }
+    Ok(end)
+}
+
 // Puts the items that are left at the end of a list, by way of a buffer.
 #[inline]
 fn list_left<T: BitSetLike>(
@@ -139,10 +261,10 @@ fn list_left<T: BitSetLike>(
     requires room { 68 ≤ length buffer.old }
     ensures { IfOk result (λ _. list.new.items ≡ list.old.items ++ items_of (T.holds set.now) (left cursor.old)) }
 {
-    let mut end = 0;
-    'words: while let Some((start, word)) = step_word(set, cursor, reads) {
-        end = make_room(buffer, end, list)?;
-        end = write_bits(buffer, end, start, word);
+    let (first, word) = take_lowest_word(cursor);
+    let mut end = write_bits(buffer, 0, first, word);
+    'parts: while let Some((start, word)) = step_block(set, cursor, reads) {
+        end = list_under(set, start, word, buffer, end, list)?;
     }
     list.extend_from_slice(&buffer[..end])
 }
@@ -159,20 +281,32 @@ const FEW: usize = 4;
 // To go by whole words gains nothing where so few items are left, or where hardly a word of the sample has more than one.
 const SINGLE: usize = 36;
 
+// How many bits the first words have that are left, up to `SAMPLE` of them. They are taken.
+#[inline]
+fn sample<T: BitSetLike>(set: &T, cursor: &mut Cursor<LAYERS>, reads: &mut Reads) -> usize
+    ensures { result ≤ 64 * 32 }
+{
+    let mut room = 0;
+    let mut words = 0;
+    'words: while words < SAMPLE {
+        let Some((_, word)) = step_word(set, cursor, reads) else {
+            return room;
+        };
+        room += word.count_ones() as usize;
+        words += 1;
+    }
+    room
+}
+
 // Room for the items that are left: as many, or, where the first words have few each, as many as these have.
 #[inline]
 fn room_for<T: BitSetLike>(set: &T, cursor: &mut Cursor<LAYERS>) -> usize {
     let mut reads = Reads::none();
-    let mut room = 0usize;
-    let mut words = 0usize;
-    'words: while let Some((_, word)) = step_word(set, cursor, &mut reads) {
-        room = room.saturating_add(word.count_ones() as usize);
-        words = words.saturating_add(1);
-        if words == SAMPLE && room < SAMPLE * FEW {
-            return room;
-        }
+    let room = sample(set, cursor, &mut reads);
+    if room < SAMPLE * FEW {
+        return room;
     }
-    room
+    room.saturating_add(count_left(set, cursor, &mut reads))
 }
 
 // The items that a walk has left, one after another, with so much room taken for them.
@@ -236,7 +370,6 @@ pub(crate) fn list_members<T: BitSetLike>(set: &T, alloc: Global) -> Result<Vec<
 
 // How many items a walk has left.
 pub(crate) fn count_walk<T: BitSetLike>(walk: &BitIter<T>) -> usize
-    requires { length (items_left T.holds walk.now) < 2 ^ 64 }
     ensures { result ≡ length (items_left T.holds walk.now) }
 {
     let mut reads = Reads::none();
@@ -276,6 +409,30 @@ fn write_word(list: &mut [Index], at: usize, start: Index, word: usize) -> usize
     write_bits(list, at, start, word)
 }
 
+// Writes the members in the words of layer 0 under the bits of a word of layer 1, whose first bit is at `start`, into a list, from a place on, and answers the place after them.
+#[inline]
+fn write_under<T: BitSetLike>(
+    set: &T,
+    start: u32,
+    word: usize,
+    list: &mut [Index],
+    at: usize,
+) -> usize
+    requires aligned { start % 64 ≡ 0 }
+    requires within { start < 64 ^ (LAYERS - 1) }
+    requires room { at + length (items_of (T.holds set.now) (places_in 1 (bits_from start word))) ≤ length list.old }
+    ensures written { take result list.new ≡ take at list.old ++ items_of (T.holds set.now) (places_in 1 (bits_from start word)) }
+    ensures within { result ≤ length list.new }
+{
+    let mut end = at;
+    let mut rest = word;
+    'bits: while rest != 0 {
+        let (first, lower) = take_under(set, start, &mut rest);
+        end = write_word(list, end, first, lower);
+    }
+    end
+}
+
 // Writes the items that a walk has left into a list, from a place on, and answers the place after them.
 pub(crate) fn write_walk<T: BitSetLike>(walk: &BitIter<T>, list: &mut [Index], at: usize) -> usize
     requires { at + length (items_left T.holds walk.now) ≤ length list.old }
@@ -284,9 +441,10 @@ pub(crate) fn write_walk<T: BitSetLike>(walk: &BitIter<T>, list: &mut [Index], a
 {
     let mut reads = Reads::none();
     let mut cursor = walk.cursor.copied();
-    let mut end = at;
-    'words: while let Some((start, word)) = step_word(&walk.set, &mut cursor, &mut reads) {
-        end = write_word(list, end, start, word);
+    let (first, word) = take_lowest_word(&mut cursor);
+    let mut end = write_word(list, at, first, word);
+    'parts: while let Some((start, word)) = step_block(&walk.set, &mut cursor, &mut reads) {
+        end = write_under(&walk.set, start, word, list, end);
     }
     end
 }

@@ -1,37 +1,62 @@
-use Rattle.std.proofs.Common.{take, arith, length-append}
+use Rattle.std.proofs.Common.{◌++◌, length, take, sym, ◌∙◌, ap, arith, append_assoc, length-append}
 use Rattle.std.proofs.lemmas.List.{length-take-le}
 use Rattle.hibitset_base.specs.Cursor.{left}
-use Rattle.hibitset_base.specs.Places.{items_of, bits_from}
+use Rattle.hibitset_base.specs.Places.{places_in, items_of, bits_from}
 use Rattle.hibitset_base.specs.Walk.{items_left}
-use Rattle.hibitset_base.proofs.Counting.{takes_word}
+use Rattle.hibitset_base.proofs.Counting.{bits-count, takes_block, fewer_words}
+use Rattle.hibitset_base.proofs.Going.{no_more}
 use Rattle.hibitset_base.proofs.Writing.{written_on, places_left}
 use Rattle.hibitset_base.proofs.words.write_walk.Goals as goal
 
 pub write_word-end-requires-clause-room : goal.write_word-end-requires-clause-room
+unfolding items_left
 write_word-end-requires-clause-room g c =
     let holds = g.T.BitSetLike.holds c.args.walk.now.set in
-    let taken = takes_word holds (left c.words.cursor) c.in-Some.start c.in-Some.word (left c.step_word.new.cursor) c.in-Some.ensures.goes.items c.in-Some.ensures.some.0 c.in-Some.ensures.some.1 in
-    let count = taken.count in
-    let here = places_left c.words.list (items_of holds (left c.words.cursor)) _ c.words.end c.words.invariant.within c.words.invariant.written in
-    let both = length-append (take c.args.at c.args.list.now) (items_left g.T.BitSetLike.holds c.args.walk.now) in
-    let front = length-take-le c.args.at c.args.list.now (let room = c.requires in omega (arith, room)) in
+    let first = c.take_lowest_word-first in
+    let same = ap (λ ps. length (items_of holds ps)) c.copied-cursor.ensures.left in
+    let items = ap length (first.ensures.items holds) in
+    let both = length-append (bits_from first.result.0 first.result.1) (items_of holds (left first.new.cursor)) in
+    let bits = bits-count first.result.0 first.result.1 first.ensures.fits in
     let room = c.requires in
+    omega (arith, same, items, both, bits, room)
+
+pub parts-init : goal.parts-init
+unfolding items_left
+parts-init g c =
+    let holds = g.T.BitSetLike.holds c.args.walk.now.set in
+    let first = c.take_lowest_word-first in
+    record {
+      written = ap (λ xs. xs ++ items_of holds (left first.new.cursor)) c.write_word-end.ensures.written
+          ∙ (append_assoc (take c.args.at c.args.list.now) (bits_from first.result.0 first.result.1) (items_of holds (left first.new.cursor))
+          ∙ ap (λ xs. take c.args.at c.args.list.now ++ xs) (sym (first.ensures.items holds) ∙ ap (items_of holds) c.copied-cursor.ensures.left));
+      below = first.ensures.below;
+      within = c.write_word-end.ensures.within;
+    }
+
+pub write_under-end-requires-clause-room : goal.write_under-end-requires-clause-room
+write_under-end-requires-clause-room g c =
+    let holds = g.T.BitSetLike.holds c.args.walk.now.set in
+    let taken = takes_block holds (left c.parts.cursor) c.in-Some.start c.in-Some.word (left c.step_block.new.cursor) c.in-Some.ensures.goes.items in
+    let count = taken.count in
+    let here = places_left c.parts.list (items_of holds (left c.parts.cursor)) _ c.parts.end c.parts.invariant.within c.parts.invariant.written in
+    let both = length-append (take c.args.at c.args.list.now) (items_left g.T.BitSetLike.holds c.args.walk.now) in
+    let room = c.requires in
+    let front = length-take-le c.args.at c.args.list.now (omega (arith, room)) in
     omega (arith, count, here, both, front, room)
 
-pub words-smaller : goal.words-smaller
-words-smaller g c =
-    let holds = g.T.BitSetLike.holds c.args.walk.now.set in
-    let taken = takes_word holds (left c.words.cursor) _ c.in-Some.word (left c.step_word.new.cursor) c.in-Some.ensures.goes.items c.in-Some.ensures.some.0 c.in-Some.ensures.some.1 in
-    let count = taken.count in
-    let some = taken.some in
-    omega (arith, count, some)
+pub parts-smaller : goal.parts-smaller
+parts-smaller g c =
+    let fewer = fewer_words (g.T.BitSetLike.word c.args.walk.now.set) c.in-Some.start c.in-Some.word (left c.step_block.new.cursor) c.in-Some.ensures.some.0 c.in-Some.ensures.some.1 in
+    let more = no_more c.in-Some.ensures.goes in
+    omega (arith, fewer, more)
 
-pub words-preserved : goal.words-preserved
-words-preserved g c =
+pub parts-preserved : goal.parts-preserved
+parts-preserved g c =
     let holds = g.T.BitSetLike.holds c.args.walk.now.set in
-    let taken = takes_word holds (left c.words.cursor) c.in-Some.start c.in-Some.word (left c.step_word.new.cursor) c.in-Some.ensures.goes.items c.in-Some.ensures.some.0 c.in-Some.ensures.some.1 in
+    let taken = takes_block holds (left c.parts.cursor) c.in-Some.start c.in-Some.word (left c.step_block.new.cursor) c.in-Some.ensures.goes.items in
     record {
-      written = written_on (take c.words.end c.words.list) (take c.write_word-end.result c.write_word-end.new.list) (bits_from c.in-Some.start c.in-Some.word) (items_of holds (left c.words.cursor)) (items_of holds (left c.step_word.new.cursor)) _
-          c.write_word-end.ensures.written taken.items c.words.invariant.written;
-      within = c.write_word-end.ensures.within;
+      written = written_on (take c.parts.end c.parts.list) (take c.write_under-end.result c.write_under-end.new.list) (items_of holds (places_in 1 (bits_from c.in-Some.start c.in-Some.word))) (items_of holds (left c.parts.cursor))
+          (items_of holds (left c.step_block.new.cursor)) _ c.write_under-end.ensures.written taken.items c.parts.invariant.written;
+      below = c.in-Some.ensures.below;
+      within = c.write_under-end.ensures.within;
     }

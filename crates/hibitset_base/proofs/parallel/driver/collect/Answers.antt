@@ -1,13 +1,8 @@
 use Rattle.std.proofs.Common.{ℕ, List, ◌∙◌, ◌<◌, ◌^◌, length, flat_map, ap, sym, subst}
 use Rattle.std.specs.Prelude.{sum}
 use Rattle.hibitset_base.specs.Walk.{items_left}
-use Rattle.hibitset_base.proofs.Folding.{part-lt, sum-lengths}
+use Rattle.hibitset_base.proofs.Folding.{sum-lengths}
 use Rattle.hibitset_base.proofs.parallel.driver.collect.Goals as goal
-
-pub counts-requires-after_bounds : goal.counts-requires-after_bounds
-counts-requires-after_bounds g c κs within =
-    let few = subst (λ xs. length xs < 2 ^ 64) (sym c.in_ok-parts.ensures) c.requires.few in
-    rw c.as_slice.ensures.value (λ k d lt. part-lt (items_left (λ s. g.T.BitSetLike.holds s.now)) c.in_ok-parts.parts.items _ k d few lt)
 
 pub added-requires : goal.added-requires
 added-requires g c =

@@ -1,0 +1,29 @@
+use Rattle.std.proofs.Common.{arith}
+use Rattle.hibitset_base.specs.Cursor.{left}
+use Rattle.hibitset_base.proofs.Counting.{takes_block, few_in_walk, fewer_words}
+use Rattle.hibitset_base.proofs.Going.{no_more}
+use Rattle.hibitset_base.proofs.words.count_blocks.Goals as goal
+
+pub overflow_add-count : goal.overflow_add-count
+overflow_add-count g c =
+    let taken = takes_block (g.T.BitSetLike.holds c.args.set.now) _ c.in-Some.start c.in-Some.word (left c.step_block.new.cursor) c.in-Some.ensures.goes.items in
+    let count = taken.count in
+    let under = c.count_under-count.ensures in
+    let so_far = c.parts.invariant.0 in
+    let cursor = c.args.cursor.now in
+    let few = few_in_walk (g.T.BitSetLike.holds c.args.set.now) cursor.masks cursor.prefix cursor.formed.long in
+    omega (arith, count, under, so_far, few)
+
+pub parts-smaller : goal.parts-smaller
+parts-smaller g c =
+    let fewer = fewer_words (g.T.BitSetLike.word c.args.set.now) c.in-Some.start c.in-Some.word (left c.step_block.new.cursor) c.in-Some.ensures.some.0 c.in-Some.ensures.some.1 in
+    let more = no_more c.in-Some.ensures.goes in
+    omega (arith, fewer, more)
+
+pub parts-preserved : goal.parts-preserved
+parts-preserved g c =
+    let taken = takes_block (g.T.BitSetLike.holds c.args.set.now) _ c.in-Some.start c.in-Some.word (left c.step_block.new.cursor) c.in-Some.ensures.goes.items in
+    let count = taken.count in
+    let under = c.count_under-count.ensures in
+    let so_far = c.parts.invariant.0 in
+    (omega (arith, count, under, so_far), c.in-Some.ensures.below)
