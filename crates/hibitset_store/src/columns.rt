@@ -107,17 +107,16 @@ impl<V: Drop> Column<V> {
         ensures most { MakesRoom id self.old self.new }
         ensures stays { OnErr result (words_len self.new ≡ words_len self.old) }
     {
-        let value = match self.pages.write_over(id, value) {
-            Ok(was) => return Ok(Some(was)),
-            Err(value) => value,
-        };
         let Ok(place) = self.pages.make_place(id) else {
             return Err(value);
         };
         let Ok(had) = self.mask.add(id) else {
             return Err(value);
         };
-        self.count += usize::from(!had);
+        if had {
+            return Ok(self.pages.put(place, Some(value)));
+        }
+        self.count += 1;
         self.pages.put(place, Some(value));
         Ok(None)
     }

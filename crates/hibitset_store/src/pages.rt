@@ -1,5 +1,5 @@
 //! Values in pages, each made whole when one of its indices first gets a value.
-ghost use Rattle.std.specs.Prelude.{◌≡◌, ◌≢◌, ℕ, ◌+◌, ◌*◌, ◌/◌, ◌<◌, ◌≤◌, ◌==◌, max, length, [], Some, None, if◌then◌else◌, IsOk, IfOk, IfErr, OnOk, OnErr, MatchOption, vec_len};
+ghost use Rattle.std.specs.Prelude.{◌≡◌, ◌≢◌, ℕ, ◌+◌, ◌*◌, ◌/◌, ◌<◌, ◌≤◌, ◌==◌, max, length, [], Some, None, if◌then◌else◌, IsOk, IfOk, OnOk, OnErr, MatchOption, vec_len};
 ghost use Rattle.std.specs.Borrow.{sem};
 ghost use Rattle.std.specs.Option.{option_copied_mut};
 ghost use Rattle.hibitset_base.specs.declared.util.TheConstants.{MAX_EID};
@@ -64,23 +64,6 @@ impl<V: Drop> Pages<V> {
         match self.places.get_mut(place)? {
             Some(value) => Some(value),
             None => None,
-        }
-    }
-
-    // Writes over the value of an index, and answers it. Where there is none it hands the new one back, and changes nothing.
-    #[inline]
-    pub(crate) fn write_over(&mut self, id: Index, value: V) -> Result<V, V>
-        requires { AreLaidOut self.old }
-        ensures was { IfOk result (λ was. value_at self.old id ≡ Some was) }
-        ensures written { OnOk result ((i : ℕ) → value_at self.new i ≡ (if i == id then Some value else value_at self.old i)) }
-        ensures none { OnErr result (value_at self.old id ≡ None) }
-        ensures back { IfErr result (λ back. back ≡ value) }
-        ensures unchanged { OnErr result ((i : ℕ) → value_at self.new i ≡ value_at self.old i) }
-        ensures many { AreAsMany self.old self.new }
-    {
-        match self.get_mut(id) {
-            Some(place) => Ok(mem::replace(place, value)),
-            None => Err(value),
         }
     }
 

@@ -1,40 +1,70 @@
-use Rattle.std.proofs.Common.{◌≡◌, ℕ, ◌∙◌, ◌/◌, is_some, true, not, sym, ap, arith}
+use Rattle.std.proofs.Common.{◌≡◌, ◌∙◌, ◌/◌, is_some, true, not, length, sym, ap, arith}
+use Rattle.std.specs.Int.{from_bool}
+use Rattle.std.proofs.lemmas.Bool.{false≢true}
 use Rattle.std.proofs.lemmas.Bool.Decides.{nat_tests}
 use Rattle.hibitset.specs.BitSet.{has}
 use Rattle.hibitset_base.specs.declared.util.TheConstants.{MAX_EID}
-use Rattle.hibitset_store.specs.Pages.{value_at}
-use Rattle.hibitset_store.specs.Room.{places, words_len}
+use Rattle.hibitset_store.specs.Columns.{value_of}
+use Rattle.hibitset_store.specs.Room.{places, table_len, words_len}
 use Rattle.hibitset_store.specs.declared.pages.TheConstants.{PAGE}
-use Rattle.hibitset.proofs.Sizes.{at_most_one, count-with, members-few}
+use Rattle.hibitset.proofs.Sizes.{count-with, members-few}
 use Rattle.hibitset_store.proofs.Paging.{is_some-with, made-of_place}
 use Rattle.hibitset_store.proofs.Sizing.{AreLaidOut-many, places_in-many, room-of_some, word-of_member}
 use Rattle.hibitset_store.proofs.columns.Column.insert.Goals as goal
 
+pub returns-in_default-add-clause-room : goal.returns-in_default-add-clause-room
+unfolding value_of
+returns-in_default-add-clause-room g c = λ some.
+    let column = c.args.self.now in
+    let (page, word) = room-of_some column.mask column.pages column.covers column.laid_out c.args.id some in
+    c.in_default-add.ensures.room word
+
+pub returns-in_default-add-clause-over : goal.returns-in_default-add-clause-over
+unfolding value_of
+returns-in_default-add-clause-over g c = λ some.
+    let column = c.args.self.now in
+    let (page, word) = room-of_some column.mask column.pages column.covers column.laid_out c.args.id some in
+    absurd (false≢true (c.in_default-add.ensures.room word))
+
+pub returns-then-had-clause-over : goal.returns-then-had-clause-over
+unfolding value_of places table_len words_len
+returns-then-had-clause-over g c = λ some.
+    let column = c.args.self.now in
+    let (page, word) = room-of_some column.mask column.pages column.covers column.laid_out c.args.id some in
+    let made = c.in-Ok.ensures.unused (column.laid_out.there c.args.id page) in
+    let keeps = c.in-Ok-add.ensures.keeps in
+    let most = c.in-Ok-add.ensures.most in
+    record {
+      pages = λ p. places_in-many _ _ c.put.ensures.many p ∙ places_in-many _ _ made p;
+      table = ap length (c.put.ensures.many.starts ∙ made.starts);
+      words = omega (arith, keeps, most, word);
+    }
+
+pub returns-then-had-clause-made : goal.returns-then-had-clause-made
+unfolding places words_len
+returns-then-had-clause-made g c =
+    let there : has c.add.new.self c.args.id ≡ true = let put = c.in-Ok-add.ensures.added c.args.id in grind (arith, nat_tests, put) in
+    let page = made-of_place _ c.args.id c.in-Ok.ensures.laid_out c.in-Ok.ensures.there in
+    (places_in-many _ _ c.put.ensures.many (c.args.id / PAGE) ∙ page, word-of_member c.add.new.self c.args.id there)
+
 pub overflow_add-self : goal.overflow_add-self
 overflow_add-self g c =
     let few = members-few (has c.args.self.now.mask) MAX_EID in
-    let one = at_most_one (not c.in-Ok-add.had) in
-    omega (arith, few, one, c.from.ensures, c.args.self.now.counts)
+    omega (arith, few, c.args.self.now.counts)
 
 pub invariant_of-self-2 : goal.invariant_of-self-2
 invariant_of-self-2 g c =
-    let same : (i : ℕ) → value_at c.make_place.new.self i ≡ value_at c.args.self.now.pages i = λ i. c.in-Ok-make_place.ensures.same i ∙ c.in-Err.ensures.unchanged i in
-    record {
-      covers = λ i. c.in-Ok-add.ensures.added i ∙ is_some-with i c.args.id _ _ _ c.in-Err.value (c.args.self.now.covers i ∙ ap is_some (sym (same i))) (c.put.ensures.put c.args.id c.in-Ok-make_place.ensures.place i);
-      laid_out = AreLaidOut-many _ _ c.in-Ok-make_place.ensures.laid_out c.put.ensures.many;
-      counts = count-with (has c.args.self.now.mask) (has c.add.new.self) c.args.id MAX_EID c.args.self.now.count c.from.result c.in-Ok-add.had c.in-Ok-add.ensures.added c.in-Ok-add.ensures.was c.from.ensures c.args.self.now.counts c.requires;
-    }
-
-pub returns-in-Ok-clause-made : goal.returns-in-Ok-clause-made
-unfolding places words_len
-returns-in-Ok-clause-made g c =
     let column = c.args.self.now in
-    let (page, word) = room-of_some column.mask column.pages column.covers column.laid_out c.args.id (ap is_some c.in-Ok.ensures.was) in
-    (places_in-many _ _ c.write_over.ensures.many (c.args.id / PAGE) ∙ page, word)
+    let add = c.in-Ok-add.ensures in
+    record {
+      covers = λ i. add.added i ∙ is_some-with i c.args.id _ _ _ c.args.value (column.covers i ∙ ap is_some (sym (c.in-Ok.ensures.same i))) (c.put-2.ensures.put c.args.id c.in-Ok.ensures.place i);
+      laid_out = AreLaidOut-many _ _ c.in-Ok.ensures.laid_out c.put-2.ensures.many;
+      counts = count-with (has column.mask) (has c.add.new.self) c.args.id MAX_EID column.count 1 c.in-Ok-add.had add.added add.was (ap (λ had. from_bool (not had)) (sym c.if-had.false)) column.counts c.requires;
+    }
 
 pub returns-clause-made : goal.returns-clause-made
 unfolding places words_len
 returns-clause-made g c =
     let there : has c.add.new.self c.args.id ≡ true = let put = c.in-Ok-add.ensures.added c.args.id in grind (arith, nat_tests, put) in
-    let page = made-of_place _ c.args.id c.in-Ok-make_place.ensures.laid_out c.in-Ok-make_place.ensures.there in
-    (places_in-many _ _ c.put.ensures.many (c.args.id / PAGE) ∙ page, word-of_member c.add.new.self c.args.id there)
+    let page = made-of_place _ c.args.id c.in-Ok.ensures.laid_out c.in-Ok.ensures.there in
+    (places_in-many _ _ c.put-2.ensures.many (c.args.id / PAGE) ∙ page, word-of_member c.add.new.self c.args.id there)
