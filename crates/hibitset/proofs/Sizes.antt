@@ -61,10 +61,6 @@ members-few p bound = members-length p 0 bound
 pub members-nowhere : (p : ℕ → Bool) (bound : ℕ) → ((i : ℕ) → p i ≡ false) → members_below bound p ≡ []
 members-nowhere p bound none = members-none p 0 bound (λ i from below. none i)
 
-pub at_most_one : (b : Bool) → from_bool b ≤ 1
-at_most_one true = omega arith
-at_most_one false = omega arith
-
 -- the count after a number was put in, which was there or not
 pub count-with : (p q : ℕ → Bool) (x bound count more : ℕ) (had : Bool) → ((i : ℕ) → q i ≡ (p i || i == x)) → had ≡ p x → more ≡ from_bool (not had) → count ≡ length (members_below bound p) → x < bound
     → count + more ≡ length (members_below bound q)

@@ -15,6 +15,7 @@ pub mod Layers
 pub mod Counting
 pub mod Writing
 pub mod Going
+pub mod Blocks
 pub mod Descending
 pub mod Stepping
 pub mod Beginning

@@ -15,6 +15,7 @@ use crate::iter::{BitIter, go_down};
 use crate::like::BitSetLike;
 use crate::reads::Reads;
 use crate::util::{Index, LAYERS};
+use crate::words::fold_walk;
 use std::fmt::Debug;
 
 mod driver;
@@ -22,7 +23,6 @@ mod par_iter;
 mod pieces;
 mod size;
 
-use self::driver::fold_walk;
 pub use self::par_iter::BitParIter;
 
 /// A part of a walk over a set, which can be split, and the number of layers, from the top one on, that a split looks at; 0 acts as 1.

@@ -1,8 +1,9 @@
 //! What is left of a walk, by whole words.
 #![tactic(auto, unfolding(crate::specs::Walk::items_left, crate::specs::Walk::set_of))]
 
-ghost use Rattle.std.specs.Prelude.{◌≡◌, ℕ, Bool, List, ◌+◌, ◌-◌, ◌*◌, ◌%◌, ◌^◌, ◌<◌, ◌≤◌, ◌++◌, [], length, take, MatchOption, IfSome, IfOk, None};
+ghost use Rattle.std.specs.Prelude.{◌≡◌, ℕ, Bool, List, ◌+◌, ◌-◌, ◌*◌, ◌%◌, ◌^◌, ◌<◌, ◌≤◌, ◌++◌, ◌∷◌, [], length, take, MatchOption, IfSome, IfOk, None};
 ghost use Rattle.std.specs.Int.RustNames.{count_ones};
+ghost use Rattle.std.specs.List.{FoldsTo};
 ghost use Rattle.hibitset_base.specs.Members.{members, members_below};
 ghost use Rattle.hibitset_base.specs.Sets.{IsExact};
 ghost use Rattle.hibitset_base.specs.First.{IsFirst, HasNone};
@@ -14,7 +15,7 @@ ghost use Rattle.hibitset_base.specs.Walk.{items_left};
 ghost use Rattle.hibitset_base.specs.declared.util.TheConstants.{LAYERS, MAX_EID};
 
 use crate::cursor::Cursor;
-use crate::iter::{BitIter, fill_layer1, refill, start, step};
+use crate::iter::{BitIter, descend, refill, refill_above1, start, step};
 use crate::like::BitSetLike;
 use crate::reads::Reads;
 use crate::util::{BITS, Index, LAYERS};
@@ -55,7 +56,7 @@ fn step_block<T: BitSetLike>(
     ensures below { IfSome result (λ _. IsEmptyBelow cursor.new 1) }
 {
     'layers: while cursor.is_empty(1) {
-        if !fill_layer1(set, cursor, reads) {
+        if !refill_above1(set, cursor, reads) {
             return None;
         }
     }
@@ -162,14 +163,16 @@ pub(crate) fn count_members<T: BitSetLike>(set: &T) -> usize
     count_left(set, &mut cursor, &mut reads)
 }
 
-// The first member of a set. The masks below the top are empty, so the way down to layer 1 needs no test of them.
+// The first member of a set. The masks below the top are empty, so the way down needs no test of them.
 #[inline]
 pub(crate) fn find_first<T: BitSetLike>(set: &T, reads: &mut Reads) -> Option<Index>
     ensures first { MatchOption result (HasNone MAX_EID (T.holds set.now)) (IsFirst MAX_EID (T.holds set.now)) }
     ensures few { IsExact LAYERS (T.word set.now) → reads.new.count ≤ reads.old.count + LAYERS }
 {
     let mut cursor = start(set, reads);
-    fill_layer1(set, &mut cursor, reads);
+    'looks: for look in 0..LAYERS - 2 {
+        descend(set, &mut cursor, reads, LAYERS - 1 - look);
+    }
     step(set, &mut cursor, reads)
 }
 
@@ -283,9 +286,7 @@ const SINGLE: usize = 36;
 
 // How many bits the first words have that are left, up to `SAMPLE` of them. They are taken.
 #[inline]
-fn sample<T: BitSetLike>(set: &T, cursor: &mut Cursor<LAYERS>, reads: &mut Reads) -> usize
-    ensures { result ≤ 64 * 32 }
-{
+fn sample<T: BitSetLike>(set: &T, cursor: &mut Cursor<LAYERS>, reads: &mut Reads) -> usize {
     let mut room = 0;
     let mut words = 0;
     'words: while words < SAMPLE {
@@ -375,6 +376,91 @@ pub(crate) fn count_walk<T: BitSetLike>(walk: &BitIter<T>) -> usize
     let mut reads = Reads::none();
     let mut cursor = walk.cursor.copied();
     count_left(&walk.set, &mut cursor, &mut reads)
+}
+
+// Takes the first bit of a word whose own first bit is at `start`, and answers its index.
+#[inline]
+fn take_bit(start: Index, rest: &mut usize) -> Index
+    requires some { 0 < rest.old }
+    requires aligned { start % 64 ≡ 0 }
+    ensures taken { bits_from start rest.old ≡ result ∷ bits_from start rest.new }
+    ensures less { rest.new < rest.old }
+{
+    let index = start | rest.trailing_zeros();
+    *rest &= *rest - 1;
+    index
+}
+
+// The indices of a word's bits, folded in order.
+#[inline]
+fn fold_word<R, F: Fn(R, Index) -> R>(start: Index, word: usize, init: R, step: &F) -> R
+    requires callable { F.IsAlwaysCallable step.now }
+    requires aligned { start % 64 ≡ 0 }
+    ensures { FoldsTo (λ a x b. F.post step.now a x b) init (bits_from start word) result }
+{
+    let mut so_far = init;
+    let mut rest = word;
+    'bits: while rest != 0 {
+        so_far = step(so_far, take_bit(start, &mut rest));
+    }
+    so_far
+}
+
+// The members in the words of layer 0 under the bits of a word of layer 1, whose first bit is at `start`, folded in order.
+#[inline]
+fn fold_under<T: BitSetLike, R, F: Fn(R, Index) -> R>(
+    set: &T,
+    start: u32,
+    word: usize,
+    init: R,
+    step: &F,
+) -> R
+    requires callable { F.IsAlwaysCallable step.now }
+    requires aligned { start % 64 ≡ 0 }
+    requires within { start < 64 ^ (LAYERS - 1) }
+    ensures { FoldsTo (λ a x b. F.post step.now a x b) init (items_of (T.holds set.now) (places_in 1 (bits_from start word))) result }
+{
+    let mut so_far = init;
+    let mut rest = word;
+    'bits: while rest != 0 {
+        let (first, lower) = take_under(set, start, &mut rest);
+        so_far = fold_word(first, lower, so_far, step);
+    }
+    so_far
+}
+
+// The items of a walk, folded in order.
+#[inline]
+pub(crate) fn fold_walk<T: BitSetLike, R, F: Fn(R, Index) -> R>(
+    walk: BitIter<T>,
+    init: R,
+    step: &F,
+) -> R
+    requires { F.IsAlwaysCallable step.now }
+    ensures { FoldsTo (λ a x b. F.post step.now a x b) init (items_left T.holds walk) result }
+{
+    let BitIter {
+        set,
+        mut cursor,
+        mut reads,
+    } = walk;
+    let (first, word) = take_lowest_word(&mut cursor);
+    let mut so_far = fold_word(first, word, init, step);
+    'parts: while let Some((start, word)) = step_block(&set, &mut cursor, &mut reads) {
+        so_far = fold_under(&set, start, word, so_far, step);
+    }
+    so_far
+}
+
+// Calls `f` at each item of a walk.
+#[inline]
+pub(crate) fn visit_walk<T: BitSetLike, F: Fn(Index)>(walk: BitIter<T>, f: &F)
+    requires { F.IsAlwaysCallable f.now }
+{
+    let visit = |_so_far: (), index: Index|
+        requires { F.IsAlwaysCallable f.now }
+    { f(index) };
+    fold_walk(walk, (), &visit);
 }
 
 // Writes the indices of a word's bits into a list one by one, from a place on, and answers the place after them.

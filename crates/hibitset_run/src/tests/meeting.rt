@@ -9,30 +9,37 @@ use std::thread::Threads;
 // How often each side looks for the other, at most.
 const TURNS: u32 = 200_000_000;
 
-// How many indices the set has: the first ones, in 8,192 words of layer 0.
-const INDICES: Index = 524_288;
+// How many indices the set of a run has: the first ones.
+const INDICES: usize = 524_288;
 
-// The place of the last of these words.
-const LAST_WORD: usize = 8_191;
+// How many words of layer 0 they are.
+const RUN: usize = 8_192;
 
-// The sum of all these indices.
+// So many words are enough to be counted in several threads.
+const MANY_WORDS: usize = 2_097_152;
+
+// The sum of all indices of the run.
 const SUM: u64 = 137_438_691_328;
 
 // How many items meet through `rayon` alone.
 const ITEMS: usize = 4_096;
 
-// Two places where a thread shows itself and looks for the other: how often one came to each, and how often it found the other.
+// Two places where a thread shows itself and looks for the other: how often one came to each, and how often it found the other. The first times that it comes, as many as `alone`, it looks for none.
 #[derive(Drop)]
 struct Places {
+    alone: u32,
     first: AtomicU32,
     last: AtomicU32,
     first_found: AtomicU32,
     last_found: AtomicU32,
 }
 
-// Shows itself, and looks for the other, which is to come as often.
-fn meet(mine: &AtomicU32, other: &AtomicU32, found: &AtomicU32) {
+// Shows itself, and looks for the other, which is to come as often, but not the first times, as many as `alone`.
+fn meet(mine: &AtomicU32, other: &AtomicU32, found: &AtomicU32, alone: u32) {
     let times = mine.fetch_add(1, Ordering::SeqCst);
+    if times < alone {
+        return;
+    }
     for _ in 0..TURNS {
         if other.load(Ordering::SeqCst) > times {
             found.fetch_add(1, Ordering::SeqCst);
@@ -42,8 +49,9 @@ fn meet(mine: &AtomicU32, other: &AtomicU32, found: &AtomicU32) {
 }
 
 impl Places {
-    fn new() -> Places {
+    fn new(alone: u32) -> Places {
         Places {
+            alone,
             first: AtomicU32::new(0),
             last: AtomicU32::new(0),
             first_found: AtomicU32::new(0),
@@ -52,19 +60,20 @@ impl Places {
     }
 
     fn meet_first(&self) {
-        meet(&self.first, &self.last, &self.first_found);
+        meet(&self.first, &self.last, &self.first_found, self.alone);
     }
 
     fn meet_last(&self) {
-        meet(&self.last, &self.first, &self.last_found);
+        meet(&self.last, &self.first, &self.last_found, self.alone);
     }
 
-    // Both came so often, and found each other each time.
+    // Both came so often, and found each other each time, but the first times, as many as `alone`.
     fn both_found(&self, times: u32) -> bool {
+        let found = times.saturating_sub(self.alone);
         self.first.load(Ordering::SeqCst) == times
             && self.last.load(Ordering::SeqCst) == times
-            && self.first_found.load(Ordering::SeqCst) == times
-            && self.last_found.load(Ordering::SeqCst) == times
+            && self.first_found.load(Ordering::SeqCst) == found
+            && self.last_found.load(Ordering::SeqCst) == found
     }
 }
 
@@ -72,18 +81,28 @@ impl Places {
 #[derive(Drop)]
 struct Meeting {
     set: BitSet,
+    last_word: usize,
     places: Places,
 }
 
 impl Meeting {
-    fn new(alloc: Global) -> Result<Meeting, AllocError> {
-        let mut set = BitSet::new(alloc);
-        for id in 0..INDICES {
-            set.add(id)?;
-        }
+    // Of the first `INDICES` indices. The first times, as many as `alone`, its words can be read one after the other.
+    fn of_run(alloc: Global, alone: u32) -> Result<Meeting, AllocError> {
+        let words = vec![in alloc; usize::MAX; RUN]?;
         Ok(Meeting {
-            set,
-            places: Places::new(),
+            set: BitSet::from_words(alloc, words.as_slice())?,
+            last_word: RUN - 1,
+            places: Places::new(alone),
+        })
+    }
+
+    // Of the first index of each of the first `MANY_WORDS` words of layer 0.
+    fn of_many_words(alloc: Global) -> Result<Meeting, AllocError> {
+        let words = vec![in alloc; 1usize; MANY_WORDS]?;
+        Ok(Meeting {
+            set: BitSet::from_words(alloc, words.as_slice())?,
+            last_word: MANY_WORDS - 1,
+            places: Places::new(0),
         })
     }
 }
@@ -117,7 +136,7 @@ impl BitSetLike for Meeting {
         if i == 0 {
             self.places.meet_first();
         }
-        if i == LAST_WORD {
+        if i == self.last_word {
             self.places.meet_last();
         }
         self.set.layer0(i)
@@ -133,7 +152,7 @@ fn threads_meet(rt: &(impl Threads + Sync)) -> bool {
     if rayon::current_num_threads(rt) == 1 {
         return false;
     }
-    let control = Places::new();
+    let control = Places::new(0);
     let places = &control;
     (0..ITEMS)
         .into_par_iter()
@@ -169,22 +188,22 @@ fn parts_meet(rt: HostRuntime) -> Result<(), Fail> {
     if !threads_meet(&rt) {
         return Ok(());
     }
-    let set = Meeting::new(rt.alloc())?;
+    let set = Meeting::of_many_words(rt.alloc())?;
     let count = (&set).par_iter().count(&rt, rt.alloc())?;
-    assert_eq!(rt; count, INDICES as usize);
+    assert_eq!(rt; count, MANY_WORDS);
     assert!(rt; set.places.both_found(1), "count");
-    let set = Meeting::new(rt.alloc())?;
+    let set = Meeting::of_run(rt.alloc(), 1)?;
     let all = (&set).par_iter().collect(&rt, rt.alloc())?;
-    assert_eq!(rt; all.len(), INDICES as usize);
+    assert_eq!(rt; all.len(), INDICES);
     assert!(rt;
         set.places.both_found(2),
-        "collect, which counts and then writes"
+        "collect, which counts in one thread and then writes"
     );
-    let set = Meeting::new(rt.alloc())?;
+    let set = Meeting::of_run(rt.alloc(), 0)?;
     let sum = sum_of(&rt, rt.alloc(), (&set).par_iter())?;
     assert_eq!(rt; sum, SUM);
     assert!(rt; set.places.both_found(1), "fold");
-    let set = Meeting::new(rt.alloc())?;
+    let set = Meeting::of_run(rt.alloc(), 0)?;
     (&set)
         .par_iter()
         .for_each(&rt, rt.alloc(), |_index: Index| {})?;
@@ -192,25 +211,38 @@ fn parts_meet(rt: HostRuntime) -> Result<(), Fail> {
     Ok(())
 }
 
-// Two parts, each of them half of the work: a thread has to take each, however few they are.
+// Where there are many words, threads count them too.
+#[test]
+fn counts_of_a_list_meet(rt: HostRuntime) -> Result<(), Fail> {
+    if !threads_meet(&rt) {
+        return Ok(());
+    }
+    let set = Meeting::of_many_words(rt.alloc())?;
+    let all = (&set).par_iter().collect(&rt, rt.alloc())?;
+    assert_eq!(rt; all.len(), MANY_WORDS);
+    assert!(rt; set.places.both_found(2));
+    Ok(())
+}
+
+// Two parts, each of them half of the work, or, to count, eight: a thread has to take each, however few they are.
 #[test]
 fn few_heavy_parts_meet(rt: HostRuntime) -> Result<(), Fail> {
     if !threads_meet(&rt) {
         return Ok(());
     }
-    let set = Meeting::new(rt.alloc())?;
-    let count = (&set).par_iter().layers_split(2).count(&rt, rt.alloc())?;
-    assert_eq!(rt; count, INDICES as usize);
+    let set = Meeting::of_many_words(rt.alloc())?;
+    let count = (&set).par_iter().layers_split(1).count(&rt, rt.alloc())?;
+    assert_eq!(rt; count, MANY_WORDS);
     assert!(rt; set.places.both_found(1), "count");
-    let set = Meeting::new(rt.alloc())?;
+    let set = Meeting::of_run(rt.alloc(), 1)?;
     let all = (&set).par_iter().layers_split(2).collect(&rt, rt.alloc())?;
-    assert_eq!(rt; all.len(), INDICES as usize);
+    assert_eq!(rt; all.len(), INDICES);
     assert!(rt; set.places.both_found(2), "collect");
-    let set = Meeting::new(rt.alloc())?;
+    let set = Meeting::of_run(rt.alloc(), 0)?;
     let sum = sum_of(&rt, rt.alloc(), (&set).par_iter().layers_split(2))?;
     assert_eq!(rt; sum, SUM);
     assert!(rt; set.places.both_found(1), "fold");
-    let set = Meeting::new(rt.alloc())?;
+    let set = Meeting::of_run(rt.alloc(), 0)?;
     (&set)
         .par_iter()
         .layers_split(2)

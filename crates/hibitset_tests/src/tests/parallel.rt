@@ -152,7 +152,7 @@ fn folds_count_their_pieces(rt: HostRuntime) -> Result<(), Fail> {
     let many = run_of(rt.alloc(), 524_288)?;
     // One processor alone walks over it whole.
     let is_cut = available_parallelism(&rt)?.get() > 1;
-    for (layers, parts) in [(1u8, 1), (2, 2), (3, 128), (4, 4_096)] {
+    for (layers, parts) in [(1u8, 1), (2, 2), (3, 128), (4, 512)] {
         let wanted = if is_cut { parts } else { 1 };
         let pieces = BitParIter::new(&many).layers_split(layers).fold(
             &rt,
@@ -194,6 +194,20 @@ fn each_of_many(rt: HostRuntime) -> Result<(), AllocError> {
     assert!(rt; all == list(rt.alloc(), &many)?);
     let walk = (&many).par_iter();
     assert_visits(&rt, rt.alloc(), walk, 524_288, 137_438_691_328)
+}
+
+// One member in each of so many words that threads count them.
+#[test]
+fn counts_of_many_words(rt: HostRuntime) -> Result<(), AllocError> {
+    let words = vec![in rt.alloc(); 1usize; 2_097_152]?;
+    let set = BitSet::from_words(rt.alloc(), words.as_slice())?;
+    for layers in 1..5u8 {
+        let walk = (&set).par_iter().layers_split(layers);
+        assert_count(&rt, walk.count(&rt, rt.alloc())?, 2_097_152);
+    }
+    let all = (&set).par_iter().collect(&rt, rt.alloc())?;
+    assert!(rt; all == list(rt.alloc(), &set)?);
+    Ok(())
 }
 
 // What `for_each` visits of a small set, which it walks over in one thread: each index by itself, up to the last.

@@ -7,6 +7,9 @@ use std::test::Fail;
 
 const MEMBERS: u32 = 524_288;
 
+// So many words are enough to be counted in several threads.
+const MANY_WORDS: usize = 2_097_152;
+
 // The indices below `MEMBERS`.
 fn many(alloc: Global) -> Result<BitSet, AllocError> {
     let mut set = BitSet::with_capacity(alloc, MEMBERS)?;
@@ -16,31 +19,44 @@ fn many(alloc: Global) -> Result<BitSet, AllocError> {
     Ok(set)
 }
 
-// Tells whether a set has exactly the indices below `MEMBERS`.
-fn is_many(set: &BitSet) -> bool {
+// The first index of each of `MANY_WORDS` words.
+fn in_many_words(alloc: Global) -> Result<BitSet, AllocError> {
+    let words = vec![in alloc; 1usize; MANY_WORDS]?;
+    BitSet::from_words(alloc, words.as_slice())
+}
+
+// Tells whether a set has exactly so many indices, from 0 on, each so much after the one before.
+fn is_evenly(set: &BitSet, distance: Index, members: usize) -> bool {
     let mut next = 0u32;
+    let mut found = 0usize;
     for index in set {
         if index != next {
             return false;
         }
-        next = next.wrapping_add(1);
+        next = next.wrapping_add(distance);
+        found = found.wrapping_add(1);
     }
-    next == MEMBERS
+    found == members
+}
+
+// Tells whether a set has exactly the indices below `MEMBERS`.
+fn is_many(set: &BitSet) -> bool {
+    is_evenly(set, 1, MEMBERS as usize)
 }
 
 #[test]
 fn count(rt: HostRuntime) -> Result<(), Fail> {
-    let set = many(rt.alloc())?;
+    let set = in_many_words(rt.alloc())?;
     ask(&rt)?;
-    let counted = (&set).par_iter().layers_split(2).count(&rt, rt.alloc());
+    let counted = (&set).par_iter().layers_split(1).count(&rt, rt.alloc());
     say(&rt, counted.is_err())?;
     ask(&rt)?;
     let count = match counted {
         Ok(count) => count,
-        Err(_) => (&set).par_iter().layers_split(2).count(&rt, rt.alloc())?,
+        Err(_) => (&set).par_iter().layers_split(1).count(&rt, rt.alloc())?,
     };
-    assert!(rt; count == 524_288);
-    assert!(rt; is_many(&set));
+    assert!(rt; count == MANY_WORDS);
+    assert!(rt; is_evenly(&set, 64, MANY_WORDS));
     Ok(())
 }
 

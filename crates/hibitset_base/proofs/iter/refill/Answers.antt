@@ -3,10 +3,10 @@ use Rattle.hibitset_base.proofs.Going.{goes_both, no_more}
 use Rattle.hibitset_base.proofs.iter.refill.Goals as goal
 
 pub returns-clause-goes : goal.returns-clause-goes
-returns-clause-goes g c = goes_both c.descend.ensures.goes c.fill_layer1.ensures.goes
+returns-clause-goes g c = goes_both c.descend.ensures.goes c.refill_above1.ensures.goes
 
 pub returns-clause-fewer : goal.returns-clause-fewer
 returns-clause-fewer g c filled =
     let more = no_more c.descend.ensures.goes in
-    let fewer = c.fill_layer1.ensures.fewer filled in
+    let fewer = c.refill_above1.ensures.fewer filled in
     omega (arith, more, fewer)

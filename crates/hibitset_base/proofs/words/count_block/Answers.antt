@@ -1,7 +1,8 @@
 use Rattle.std.proofs.Common.{◌≡◌, ◌+◌, ◌*◌, ◌<◌, ◌^◌, subst, ap, arith}
 use Rattle.std.specs.Int.RustNames.{count_ones}
 use Rattle.hibitset_base.specs.declared.util.TheConstants.{LAYERS}
-use Rattle.hibitset_base.proofs.Counting.{few_ones, one_word_more}
+use Rattle.hibitset_base.proofs.Blocks.{one_word_more}
+use Rattle.hibitset_base.proofs.Counting.{few_ones}
 use Rattle.hibitset_base.proofs.Members.{members-length}
 use Rattle.hibitset_base.proofs.words.count_block.Goals as goal
 

@@ -1,7 +1,6 @@
 use Rattle.std.proofs.Common.{arith}
 use Rattle.hibitset_base.specs.Cursor.{left}
-use Rattle.hibitset_base.proofs.Counting.{takes_block, few_in_walk, fewer_words}
-use Rattle.hibitset_base.proofs.Going.{no_more}
+use Rattle.hibitset_base.proofs.Blocks.{takes_block, few_in_walk, fewer_after_block}
 use Rattle.hibitset_base.proofs.words.count_blocks.Goals as goal
 
 pub overflow_add-count : goal.overflow_add-count
@@ -15,10 +14,7 @@ overflow_add-count g c =
     omega (arith, count, under, so_far, few)
 
 pub parts-smaller : goal.parts-smaller
-parts-smaller g c =
-    let fewer = fewer_words (g.T.BitSetLike.word c.args.set.now) c.in-Some.start c.in-Some.word (left c.step_block.new.cursor) c.in-Some.ensures.some.0 c.in-Some.ensures.some.1 in
-    let more = no_more c.in-Some.ensures.goes in
-    omega (arith, fewer, more)
+parts-smaller g c = fewer_after_block c.in-Some.start c.in-Some.word (left c.step_block.new.cursor) c.in-Some.ensures.goes c.in-Some.ensures.some.0 c.in-Some.ensures.some.1
 
 pub parts-preserved : goal.parts-preserved
 parts-preserved g c =

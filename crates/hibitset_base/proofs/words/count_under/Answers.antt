@@ -1,7 +1,8 @@
-use Rattle.std.proofs.Common.{length, sym, ◌∙◌, ap, arith, length-append}
-use Rattle.hibitset_base.specs.Places.{places_in, bits_from, items_of}
+use Rattle.std.proofs.Common.{length, sym, ◌∙◌, ap, arith}
+use Rattle.hibitset_base.specs.Places.{places_in, items_of}
 use Rattle.hibitset_base.proofs.Left.{bits-none}
-use Rattle.hibitset_base.proofs.Counting.{bits-count, few_in_word, under_all}
+use Rattle.hibitset_base.proofs.Blocks.{few_in_word, under_all}
+use Rattle.hibitset_base.proofs.Counting.{count_front}
 use Rattle.hibitset_base.proofs.words.count_under.Goals as goal
 
 pub returns-then-word-eq18446744073709551615 : goal.returns-then-word-eq18446744073709551615
@@ -13,24 +14,18 @@ bits-init g c = omega arith
 
 pub overflow_add-count : goal.overflow_add-count
 overflow_add-count g c =
-    let holds = g.T.BitSetLike.holds c.args.set.now in
     let taken = c.take_under-lower in
-    let items = ap length taken.ensures.items in
-    let both = length-append (bits_from taken.result.0 taken.result.1) (items_of holds (places_in 1 (bits_from c.args.start taken.new.rest))) in
-    let bits = bits-count taken.result.0 taken.result.1 taken.ensures.fits in
-    let few = few_in_word holds 1 c.args.start c.args.word in
+    let count = count_front taken.result.0 taken.result.1 _ _ taken.ensures.items taken.ensures.fits in
+    let few = few_in_word (g.T.BitSetLike.holds c.args.set.now) 1 c.args.start c.args.word in
     let so_far = c.bits.invariant in
-    omega (arith, items, both, bits, few, so_far)
+    omega (arith, count, few, so_far)
 
 pub bits-preserved : goal.bits-preserved
 bits-preserved g c =
-    let holds = g.T.BitSetLike.holds c.args.set.now in
     let taken = c.take_under-lower in
-    let items = ap length taken.ensures.items in
-    let both = length-append (bits_from taken.result.0 taken.result.1) (items_of holds (places_in 1 (bits_from c.args.start taken.new.rest))) in
-    let bits = bits-count taken.result.0 taken.result.1 taken.ensures.fits in
+    let count = count_front taken.result.0 taken.result.1 _ _ taken.ensures.items taken.ensures.fits in
     let so_far = c.bits.invariant in
-    omega (arith, items, both, bits, so_far)
+    omega (arith, count, so_far)
 
 pub returns : goal.returns
 returns g c =

@@ -2,7 +2,7 @@ use Rattle.std.proofs.Common.{◌≡◌, ◌+◌, ◌-◌, ◌*◌, ◌%◌, ◌
 use Rattle.std.specs.Int.{trailing_zeros, w64}
 use Rattle.hibitset_base.specs.declared.util.TheConstants.{LAYERS}
 use Rattle.hibitset_base.proofs.Masks.{takes_first, or_is_sum}
-use Rattle.hibitset_base.proofs.Counting.{under_first}
+use Rattle.hibitset_base.proofs.Blocks.{under_first}
 use Rattle.hibitset_base.proofs.words.take_under.Goals as goal
 
 pub returns-clause-items : goal.returns-clause-items

@@ -1,8 +1,8 @@
-use Rattle.std.proofs.Common.{◌≡◌, ◌++◌, [], length, take, sym, ◌∙◌, ap, arith, length-append}
+use Rattle.std.proofs.Common.{◌≡◌, ◌++◌, [], take, sym, ◌∙◌, ap, arith, length-append}
 use Rattle.std.proofs.lemmas.List.{append-nil, length-take-le}
 use Rattle.hibitset_base.specs.Places.{places_in, items_of, bits_from}
 use Rattle.hibitset_base.proofs.Left.{bits-none}
-use Rattle.hibitset_base.proofs.Counting.{bits-count}
+use Rattle.hibitset_base.proofs.Counting.{count_front}
 use Rattle.hibitset_base.proofs.Writing.{written_on, places_left}
 use Rattle.hibitset_base.proofs.words.write_under.Goals as goal
 
@@ -10,14 +10,12 @@ pub write_word-end-requires-clause-room : goal.write_word-end-requires-clause-ro
 write_word-end-requires-clause-room g c =
     let holds = g.T.BitSetLike.holds c.args.set.now in
     let taken = c.take_under-first in
-    let items = ap length taken.ensures.items in
-    let rest = length-append (bits_from taken.result.0 taken.result.1) (items_of holds (places_in 1 (bits_from c.args.start taken.new.rest))) in
-    let bits = bits-count taken.result.0 taken.result.1 taken.ensures.fits in
+    let count = count_front taken.result.0 taken.result.1 _ _ taken.ensures.items taken.ensures.fits in
     let here = places_left c.bits.list (items_of holds (places_in 1 (bits_from c.args.start c.bits.rest))) _ c.bits.end c.bits.invariant.within c.bits.invariant.written in
     let both = length-append (take c.args.at c.args.list.now) (items_of holds (places_in 1 (bits_from c.args.start c.args.word))) in
     let room = c.requires.room in
     let front = length-take-le c.args.at c.args.list.now (omega (arith, room)) in
-    omega (arith, items, rest, bits, here, both, front, room)
+    omega (arith, count, here, both, front, room)
 
 pub bits-preserved : goal.bits-preserved
 bits-preserved g c =

@@ -3,8 +3,8 @@ use Rattle.std.proofs.lemmas.List.{length-take-le}
 use Rattle.hibitset_base.specs.Cursor.{left}
 use Rattle.hibitset_base.specs.Places.{places_in, items_of, bits_from}
 use Rattle.hibitset_base.specs.Walk.{items_left}
-use Rattle.hibitset_base.proofs.Counting.{bits-count, takes_block, fewer_words}
-use Rattle.hibitset_base.proofs.Going.{no_more}
+use Rattle.hibitset_base.proofs.Blocks.{takes_block, fewer_after_block}
+use Rattle.hibitset_base.proofs.Counting.{count_front}
 use Rattle.hibitset_base.proofs.Writing.{written_on, places_left}
 use Rattle.hibitset_base.proofs.words.write_walk.Goals as goal
 
@@ -14,11 +14,9 @@ write_word-end-requires-clause-room g c =
     let holds = g.T.BitSetLike.holds c.args.walk.now.set in
     let first = c.take_lowest_word-first in
     let same = ap (λ ps. length (items_of holds ps)) c.copied-cursor.ensures.left in
-    let items = ap length (first.ensures.items holds) in
-    let both = length-append (bits_from first.result.0 first.result.1) (items_of holds (left first.new.cursor)) in
-    let bits = bits-count first.result.0 first.result.1 first.ensures.fits in
+    let count = count_front first.result.0 first.result.1 _ _ (first.ensures.items holds) first.ensures.fits in
     let room = c.requires in
-    omega (arith, same, items, both, bits, room)
+    omega (arith, same, count, room)
 
 pub parts-init : goal.parts-init
 unfolding items_left
@@ -45,10 +43,7 @@ write_under-end-requires-clause-room g c =
     omega (arith, count, here, both, front, room)
 
 pub parts-smaller : goal.parts-smaller
-parts-smaller g c =
-    let fewer = fewer_words (g.T.BitSetLike.word c.args.walk.now.set) c.in-Some.start c.in-Some.word (left c.step_block.new.cursor) c.in-Some.ensures.some.0 c.in-Some.ensures.some.1 in
-    let more = no_more c.in-Some.ensures.goes in
-    omega (arith, fewer, more)
+parts-smaller g c = fewer_after_block c.in-Some.start c.in-Some.word (left c.step_block.new.cursor) c.in-Some.ensures.goes c.in-Some.ensures.some.0 c.in-Some.ensures.some.1
 
 pub parts-preserved : goal.parts-preserved
 parts-preserved g c =

@@ -1,0 +1,11 @@
+use Rattle.std.proofs.Common.{refl}
+use Rattle.hibitset_base.proofs.Left.{bits-none}
+use Rattle.hibitset_base.proofs.words.fold_word.Goals as goal
+
+pub bits-preserved : goal.bits-preserved
+bits-preserved g c = (c.bits.invariant.0, λ last h. c.bits.invariant.1 last (rw c.take_bit.ensures.taken (c.step-so_far.result, c.step-so_far.ensures, h)))
+
+pub returns : goal.returns
+returns g c =
+    let none = bits-none c.args.start c.bits.rest c.bits-test.false in
+    c.bits.invariant.1 c.bits.so_far (rw none refl)
