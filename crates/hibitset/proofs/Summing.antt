@@ -12,11 +12,6 @@ use Rattle.hibitset.specs.Laying.{IsSummedBut}
 abbrev pub Tells : (ℕ → ℕ → ℕ) → ℕ → ℕ → Type 0
 Tells w k q = (bit_at (w (k + 1) (q / 64)) (q % 64) ≡ 1) ↔ (0 < w k q)
 
-pub summed_tells : (n k q : ℕ) (w : ℕ → ℕ → ℕ) → IsSummed n w → k + 1 < n → Tells w k q
-summed_tells n k q w summed below =
-    let whole : 64 * (q / 64) + q % 64 ≡ q = omega arith in
-    rw whole at (summed.summed k (q / 64) (q % 64) below (omega arith))
-
 pub but_tells : (n k q : ℕ) (w : ℕ → ℕ → ℕ) → IsSummedBut n w k q → k + 1 + 1 < n → Tells w (k + 1) (q / 64)
 but_tells n k q w but below =
     let whole : 64 * (q / 64 / 64) + q / 64 % 64 ≡ q / 64 = omega arith in

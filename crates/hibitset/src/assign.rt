@@ -63,14 +63,6 @@ impl BitSetLike for Empty {
     }
 }
 
-// Tells whether a word has turned from 0 or to 0. Where it has not, the summaries over it stay.
-#[inline]
-fn has_turned(before: usize, word: usize) -> bool
-    ensures stays { result ≡ false → (0 < word) ↔ (0 < before) }
-{
-    (before == 0) != (word == 0)
-}
-
 // Merges one of the first `len` words, and tells whether it is not 0 then.
 #[inline]
 fn merge_word<O: Operator, B: BitSetLike>(
@@ -226,8 +218,8 @@ impl BitSet {
             .layers
             .merge::<O, B>(other, place, visited & theirs, kept);
         self.layers.put(1, place, word);
-        if has_turned(ours, word) {
-            self.layers.sum_up(1, place, word != 0);
+        if self.layers.link(1, place, word != 0) {
+            self.layers.sum_up(2, place / 64, word != 0);
         }
     }
 

@@ -1,6 +1,5 @@
-use Rattle.std.proofs.Common.{◌≡◌, ◌≢◌, ℕ, ◌+◌, ◌-◌, ◌*◌, ◌/◌, ◌^◌, ◌<◌, ◌≤◌, ◌↔◌, [], get_or, arith, lit<, refl, sym, ◌∙◌}
+use Rattle.std.proofs.Common.{◌≡◌, ◌≢◌, ℕ, ◌+◌, ◌-◌, ◌*◌, ◌/◌, ◌^◌, ◌<◌, ◌≤◌, [], get_or, arith, lit<, refl, sym, ◌∙◌}
 use Rattle.std.proofs.lemmas.List.{get_or_past}
-use Rattle.hibitset_base.specs.Words.{IsSummed}
 use Rattle.hibitset_base.specs.declared.util.TheConstants.{LAYERS}
 use Rattle.hibitset.specs.BitSet.{layers, word_of, slice_len}
 use Rattle.hibitset.specs.Layers.{word_in}
@@ -8,9 +7,9 @@ use Rattle.hibitset.specs.Laying.{IsSummedBut}
 use Rattle.hibitset.specs.Merging.{Summarizes, MergedUnder, MergedAt}
 use Rattle.hibitset.specs.declared.layers.Layers.{Layers}
 use Rattle.hibitset.specs.declared.set.BitSet.{BitSet}
-use Rattle.hibitset.proofs.Layered.{shaped}
+use Rattle.hibitset.proofs.Layered.{shaped, has_above}
 use Rattle.hibitset.proofs.Merging.{block_merged}
-use Rattle.hibitset.proofs.Summing.{but_block, but_last, summed_tells}
+use Rattle.hibitset.proofs.Summing.{but_block}
 use Rattle.hibitset.proofs.set.BitSet.merge_block.Goals as goal
 
 -- our summary word of a block
@@ -55,52 +54,44 @@ module _ (s : BitSet) (kept merged new : Layers) (q word : ℕ) (base : (p : ℕ
       above
       (record { bits = λ b small. rw (here, layers-are 0 (64 * q + b) (λ e. absurd (omega (arith, e)))) (exact.bits b small) })
 
-  -- where the summary has not turned, all is right
-  block_stays : (0 < word) ↔ (0 < word_in s.layers 1 q) → IsSummed LAYERS (word_in new)
-  block_stays stays = but_last LAYERS 1 q (word_in s.layers) (word_in new) block_but (λ below. summed_tells LAYERS 1 q (word_in s.layers) s.summed below) (λ p. above (1 + 1) p (lit< tt))
-      (rw here (stays.1, stays.0))
-
 -- where neither turn has merged
 merged_base : (merged : ℕ → ℕ → ℕ) (none theirs old mid new : ℕ → ℕ) (q bits bits' : ℕ) → MergedAt merged none old mid 1 q bits → MergedAt merged theirs mid new 1 q bits' → (p : ℕ) → p / 64 ≢ q → new p ≡ old p
 merged_base merged none theirs old mid new q bits bits' first second p other = let same : p / 1 ≡ p = omega arith in second.outside p (rw same other) ∙ first.outside p (rw same other)
 
-pub sum_up-requires-clause-summed : goal.sum_up-requires-clause-summed
+pub link-requires-clause-summed : goal.link-requires-clause-summed
 unfolding word_of
-sum_up-requires-clause-summed g c =
+link-requires-clause-summed g c =
     let kept = c.merge-kept.ensures in
     let merged = c.merge-word.ensures in
     let put = c.put.ensures in
     block_but c.args.self.now c.merge-kept.new.self c.merge-word.new.self c.put.new.self c.args.place c.merge-word.result (merged_base _ _ _ _ _ _ c.args.place _ _ kept.words merged.words) kept.above merged.above merged.exact put.here put.others put.layers
 
-pub invariant_of-self-else-has_turned : goal.invariant_of-self-else-has_turned
-unfolding word_of
-invariant_of-self-else-has_turned g c =
-    let kept = c.merge-kept.ensures in
-    let merged = c.merge-word.ensures in
-    let put = c.put.ensures in
-    let stays = c.has_turned.ensures.stays c.if-has_turned.false in
-    record {
-      summed = block_stays c.args.self.now c.merge-kept.new.self c.merge-word.new.self c.put.new.self c.args.place c.merge-word.result (merged_base _ _ _ _ _ _ c.args.place _ _ kept.words merged.words) kept.above merged.above merged.exact put.here put.others put.layers
-          (rw (← c.slice-2.ensures.words c.args.place) stays);
-    }
+pub sum_up-requires-clause-place : goal.sum_up-requires-clause-place
+sum_up-requires-clause-place g c =
+    let first = c.slice.ensures.length in
+    let kept = c.merge-kept.ensures.lengths 1 in
+    let merged = c.merge-word.ensures.lengths 1 in
+    let put = c.put.ensures.lengths 1 in
+    let within = c.if-slice-place.false in
+    rw (c.link.ensures.lengths 2) (has_above c.put.new.self 1 c.args.place (lit< tt) (omega (arith, first, kept, merged, put, within)))
 
-pub returns-then-has_turned-clause-words : goal.returns-then-has_turned-clause-words
+pub returns-then-link-clause-words : goal.returns-then-link-clause-words
 unfolding word_of
-returns-then-has_turned-clause-words g c =
+returns-then-link-clause-words g c =
     let visit = c.visit-visited.ensures in
     let ours : ℕ = get_or c.slice-2.result.now c.args.place 0 in
-    merged_same _ _ _ (word_in c.merge-word.new.self 0) _ 64 c.args.place (λ p. c.sum_up.ensures.lower 0 p (omega arith) ∙ c.put.ensures.layers 0 p (λ e. absurd (omega (arith, e))))
+    merged_same _ _ _ (word_in c.merge-word.new.self 0) _ 64 c.args.place (λ p. c.sum_up.ensures.lower 0 p (omega arith) ∙ (c.link.ensures.lower 0 p (omega arith) ∙ c.put.ensures.layers 0 p (λ e. absurd (omega (arith, e)))))
     (block_merged _ _ _ _ _ c.args.place ours c.args.theirs c.visit-visited.result (omega arith)
     (λ b x y off here there. g.met.O.Operator.keeps ours c.args.theirs b x y (rw visit at off) here there)
     (summary_of c.args.self.now c.args.place ours (c.slice-2.ensures.words c.args.place)) c.requires.theirs
     c.merge-kept.ensures.words c.merge-word.ensures.words)
 
-pub returns-else-has_turned-clause-words : goal.returns-else-has_turned-clause-words
+pub returns-else-link-clause-words : goal.returns-else-link-clause-words
 unfolding word_of
-returns-else-has_turned-clause-words g c =
+returns-else-link-clause-words g c =
     let visit = c.visit-visited.ensures in
     let ours : ℕ = get_or c.slice-2.result.now c.args.place 0 in
-    merged_same _ _ _ (word_in c.merge-word.new.self 0) _ 64 c.args.place (λ p. c.put.ensures.layers 0 p (λ e. absurd (omega (arith, e))))
+    merged_same _ _ _ (word_in c.merge-word.new.self 0) _ 64 c.args.place (λ p. c.link.ensures.lower 0 p (omega arith) ∙ c.put.ensures.layers 0 p (λ e. absurd (omega (arith, e))))
     (block_merged _ _ _ _ _ c.args.place ours c.args.theirs c.visit-visited.result (omega arith)
     (λ b x y off here there. g.met.O.Operator.keeps ours c.args.theirs b x y (rw visit at off) here there)
     (summary_of c.args.self.now c.args.place ours (c.slice-2.ensures.words c.args.place)) c.requires.theirs
