@@ -175,8 +175,8 @@ REQUESTS = {
 
 # The same of walks in parts. Where there is one processor they ask for nothing but the list of `collect`.
 REQUESTS_AT_MOST = {
-    "parts::collect": 6,
-    "parts::count": 5,
+    "parts::collect": 5,
+    "parts::count": 7,
     "parts::fold": 6,
     "parts::for_each": 6,
 }

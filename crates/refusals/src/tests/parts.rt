@@ -7,8 +7,8 @@ use std::test::Fail;
 
 const MEMBERS: u32 = 524_288;
 
-// So many words are enough to be counted in several threads.
-const MANY_WORDS: usize = 2_097_152;
+// So many words are enough to be counted in several threads. They lie in three ranges of 16,777,216 indices, so three parts have one each.
+const MANY_WORDS: usize = 786_432;
 
 // The indices below `MEMBERS`.
 fn many(alloc: Global) -> Result<BitSet, AllocError> {
