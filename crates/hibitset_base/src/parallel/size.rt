@@ -6,6 +6,13 @@ use crate::util::{LAYERS, average_ones};
 use rayon::current_num_threads;
 use std::thread::Threads;
 
+/// About how many words of layer 0 a walk over a set looks at, and how many members it gives.
+#[derive(Clone, Copy)]
+pub(super) struct Size {
+    words: usize,
+    members: usize,
+}
+
 /// What a call has to do at each word of layer 0 and at each member, and from how much of it on threads save more than it takes to start them.
 #[derive(Clone, Copy)]
 pub(super) struct Work {
@@ -14,11 +21,14 @@ pub(super) struct Work {
     worth: usize,
 }
 
+// So many words are worth threads to each call.
+const MANY_WORDS: usize = 700_000;
+
 // To count is to look at words, many of them in a row.
 pub(super) const COUNTING: Work = Work {
     word: 1,
     member: 0,
-    worth: 700_000,
+    worth: MANY_WORDS,
 };
 
 // To collect is to write down each member.
@@ -41,41 +51,62 @@ pub(super) const FOLDING: Work = Work {
     worth: 500_000,
 };
 
-// Tells whether a walk over the set goes faster in several threads, where so much is done: never where there is one processor.
-pub(super) fn pays<R: Threads, T: BitSetLike>(rt: &R, set: &T, work: Work) -> bool {
-    is_worth(set, work) && current_num_threads(rt) > 1
+// Tells whether a walk over a set of this size goes faster in several threads, where so much is done: never where there is one processor.
+pub(super) fn pays<R: Threads>(rt: &R, size: Size, work: Work) -> bool {
+    is_worth(size, work) && current_num_threads(rt) > 1
 }
 
-// Tells whether there is so much to do. It reads a few words under each bit of the layer below the top, until there is enough.
-fn is_worth<T: BitSetLike>(set: &T, work: Work) -> bool {
+// Tells whether there is so much to do.
+pub(super) fn is_worth(size: Size, work: Work) -> bool {
+    let words = size.words.saturating_mul(work.word);
+    let members = size.members.saturating_mul(work.member);
+    words.saturating_add(members) >= work.worth
+}
+
+// The size of both.
+fn joined(size: Size, other: Size) -> Size {
+    Size {
+        words: size.words.saturating_add(other.words),
+        members: size.members.saturating_add(other.members),
+    }
+}
+
+/// About how large the set is. It reads a few words under each bit of the layer below the top, until there are so many words that each call is worth threads.
+pub(super) fn estimate<T: BitSetLike>(set: &T) -> Size {
     let top = set.get_from_layer(LAYERS - 1, 0);
-    let mut sum = 0usize;
+    let mut size = Size {
+        words: 0,
+        members: 0,
+    };
     for position in 0..usize::BITS {
         if top >> position & 1 == 1 {
-            sum = sum.saturating_add(work_below(set, work, position as usize));
+            size = joined(size, size_below(set, position as usize));
         }
-        if sum >= work.worth {
-            return true;
+        if size.words >= MANY_WORDS {
+            return size;
         }
     }
-    false
+    size
 }
 
-// About how much there is to do under a word of the layer below the top.
-fn work_below<T: BitSetLike>(set: &T, work: Work, position: usize) -> usize {
+// About how large the part under a word of the layer below the top is.
+fn size_below<T: BitSetLike>(set: &T, position: usize) -> Size {
     let word = set.get_from_layer(LAYERS - 2, position);
     let first = position.wrapping_mul(64);
-    let mut sum = 0usize;
+    let mut size = Size {
+        words: 0,
+        members: 0,
+    };
     for bit in 0..usize::BITS {
         if word >> bit & 1 == 1 {
-            sum = sum.saturating_add(work_under(set, work, first.wrapping_add(bit as usize)));
+            size = joined(size, size_under(set, first.wrapping_add(bit as usize)));
         }
     }
-    sum
+    size
 }
 
-// About how much there is to do under a word of the layer below that: as if there were as much under each of its bits as under the middle one.
-fn work_under<T: BitSetLike>(set: &T, work: Work, position: usize) -> usize {
+// About how large the part under a word of the layer below that is: as if there were as much under each of its bits as under the middle one.
+fn size_under<T: BitSetLike>(set: &T, position: usize) -> Size {
     let mut middle = position;
     let mut words = 1usize;
     for layer in (1..LAYERS - 2).rev() {
@@ -85,9 +116,8 @@ fn work_under<T: BitSetLike>(set: &T, work: Work, position: usize) -> usize {
         middle = middle.wrapping_mul(64).wrapping_add(bit);
     }
     let members = set.get_from_layer(0, middle).count_ones() as usize;
-    words.saturating_mul(
-        members
-            .saturating_mul(work.member)
-            .saturating_add(work.word),
-    )
+    Size {
+        words,
+        members: words.saturating_mul(members),
+    }
 }

@@ -164,7 +164,7 @@ fn a_choice_that_reads_few_words(rt: HostRuntime) -> Result<(), AllocError> {
     Ok(())
 }
 
-// Of a large set too `collect` reads a word of layer 0 once to count and once to list. The choice is made twice, of who lists and of who counts: here it reads two words of layer 0 and the top each time.
+// Of a large set too `collect` reads a word of layer 0 once to count and once to list; one look at its size, here two words of layer 0 and the top, tells of both.
 #[test]
 fn a_large_set_that_is_listed(rt: HostRuntime) -> Result<(), AllocError> {
     let tally = Tally::over(run_of(rt.alloc(), 524_288)?);
@@ -172,8 +172,8 @@ fn a_large_set_that_is_listed(rt: HostRuntime) -> Result<(), AllocError> {
     assert_count(&rt, all.len(), 524_288);
     assert_count(&rt, all.capacity(), 524_288);
     let [words, _, _, _, tops, asked] = tally.read();
-    assert_count(&rt, words, 2 * 8_192 + 2 * 2);
-    assert_count(&rt, tops, 1 + 2);
+    assert_count(&rt, words, 2 * 8_192 + 2);
+    assert_count(&rt, tops, 1 + 1);
     assert_count(&rt, asked, 0);
     Ok(())
 }
