@@ -223,7 +223,7 @@ impl BitSet {
         }
     }
 
-    // Merges what lies under word `place` of a layer, where the other has the word `theirs`.
+    // Merges what lies under word `place` of a layer above 1, where the other has the word `theirs`. The blocks below layer 2 are merged from its loop, without a call of this for each.
     fn merge_under<O: Operator, B: BitSetLike>(
         &mut self,
         other: &B,
@@ -231,24 +231,24 @@ impl BitSet {
         place: usize,
         theirs: usize,
     )
-        requires layer { (0 < layer) × (layer < LAYERS) }
+        requires layer { (1 < layer) × (layer < LAYERS) }
         requires place { place < 64 ^ (LAYERS - 1 - layer) }
         requires theirs { Covers (B.word other.now (layer - 1)) place theirs }
         requires fits { (p : ℕ) → p < 64 ^ (LAYERS - 1) → slice_len self.old 0 ≤ p → O.merged 0 (B.word other.now 0 p) ≡ 0 }
         ensures length { slice_len self.new 0 ≡ slice_len self.old 0 }
         ensures words { MergedUnder O.merged (B.word other.now 0) (word_of self.old 0) (word_of self.new 0) (64 ^ layer) place }
     {
-        if layer == 1 {
-            self.merge_block::<O, B>(other, place, theirs);
-            return;
-        }
         let ours = self.get_from_layer(layer, place);
         let visited = O::visit(ours, theirs);
         let mut left = visited;
         while left != 0 {
             let bit = take_bit(&mut left);
             let lower = lower_word::<B>(other, layer - 1, place, theirs, bit);
-            self.merge_under::<O, B>(other, layer - 1, 64 * place + bit, lower);
+            if layer == 2 {
+                self.merge_block::<O, B>(other, 64 * place + bit, lower);
+            } else {
+                self.merge_under::<O, B>(other, layer - 1, 64 * place + bit, lower);
+            }
         }
     }
 

@@ -9,19 +9,19 @@ use Rattle.hibitset.proofs.set.BitSet.+merge_under.Goals as goal
 
 pub overflow_mul-place : goal.overflow_mul-place
 overflow_mul-place g t c =
-    let h = place_fits LAYERS c.args.layer c.args.place 0 c.requires.layer.0 c.requires.layer.1 c.requires.place (lit< tt) in
+    let h = place_fits LAYERS c.args.layer c.args.place 0 (omega (arith, c.requires.layer)) c.requires.layer.1 c.requires.place (lit< tt) in
     omega (arith, h)
 
 pub overflow_add-place : goal.overflow_add-place
 overflow_add-place g t c =
-    let h = place_fits LAYERS c.args.layer c.args.place c.take_bit-bit.result c.requires.layer.0 c.requires.layer.1 c.requires.place c.take_bit-bit.ensures.below in
+    let h = place_fits LAYERS c.args.layer c.args.place c.take_bit-bit.result (omega (arith, c.requires.layer)) c.requires.layer.1 c.requires.place c.take_bit-bit.ensures.below in
     omega (arith, h)
 
 pub merge_under-requires : goal.merge_under-requires
 merge_under-requires g t c κs within =
     let layer : ℕ = c.args.layer in
-    let lower : 1 < layer = (let some = c.requires.layer.0 in let other = c.if-layer-eq1.false in omega (arith, some, other)) in
-    let range = place_below LAYERS layer c.args.place c.take_bit-bit.result c.requires.layer.0 c.requires.layer.1 c.requires.place c.take_bit-bit.ensures.below in
+    let lower : 2 < layer = (let some = c.requires.layer.0 in let other = c.if-layer-eq2.false in omega (arith, some, other)) in
+    let range = place_below LAYERS layer c.args.place c.take_bit-bit.result (omega (arith, lower)) c.requires.layer.1 c.requires.place c.take_bit-bit.ensures.below in
     let fits = rw (← c.loop-left.invariant.long) at c.requires.fits in
     (omega (arith, lower, c.decreases), (within.0, (within.1, ((omega (arith, lower), omega (arith, c.requires.layer)), (range, (c.lower_word-lower.ensures, fits))))))
 
@@ -33,6 +33,16 @@ loop-left-preserved g t c =
       words = past_step _ _ _ _ _ (64 ^ (c.args.layer - 1)) _ _ _ _ _ bit.below bit.stood bit.gone bit.same c.loop-left.invariant.words c.merge_under.ensures.words;
     }
 
+pub loop-left-preserved-then-layer-eq2 : goal.loop-left-preserved-then-layer-eq2
+loop-left-preserved-then-layer-eq2 g t c =
+    let bit = c.take_bit-bit.ensures in
+    let second : c.args.layer - 1 ≡ 1 = (let is = c.if-layer-eq2.true in omega (arith, is)) in
+    let block : 64 ^ (c.args.layer - 1) ≡ 64 = ap (λ l. 64 ^ l) second in
+    record {
+      long = c.merge_block.ensures.length ∙ c.loop-left.invariant.long;
+      words = past_step _ _ _ _ _ (64 ^ (c.args.layer - 1)) _ _ _ _ _ bit.below bit.stood bit.gone bit.same c.loop-left.invariant.words (rw block c.merge_block.ensures.words);
+    }
+
 pub returns-clause-words : goal.returns-clause-words
 unfolding word_of
 returns-clause-words g t c =
@@ -42,7 +52,7 @@ returns-clause-words g t c =
     let words : ℕ → ℕ → ℕ = word_of self in
     let ours : ℕ = c.get_from_layer-ours.result in
     let within : layer < LAYERS = c.requires.layer.1 in
-    let above : layer - 1 + 1 ≡ layer = (let h = c.requires.layer.0 in omega arith) in
+    let above : layer - 1 + 1 ≡ layer = (let h = c.requires.layer.0 in omega (arith, h)) in
     let whole : 64 ^ layer ≡ 64 ^ (layer - 1) * 64 = (let s : layer ≡ suc (layer - 1) = omega (arith, above) in ap (λ x. 64 ^ x) s ∙ pow-suc 64 (layer - 1)) in
     let ours-is : ours ≡ words layer place = read_word words layer place ours within c.requires.place c.get_from_layer-ours.ensures.below c.get_from_layer-ours.ensures.top in
     let range : place < 64 ^ (LAYERS - 1 - (layer - 1 + 1)) = rw above c.requires.place in
