@@ -31,20 +31,64 @@ const SHAPES: [(&str, Shape); 5] = [
 
 const SIZES: [u32; 4] = [10_000, 100_000, 1_000_000, 4_000_000];
 
+// Each of these is a function of its own, so that its loops have the registers to themselves.
+#[inline(never)]
+fn count_alone(set: &BitSet) -> u64 {
+    set.iter().count() as u64
+}
+
+#[inline(never)]
+fn collect_alone(alloc: Global, set: &BitSet) -> Result<u64, AllocError> {
+    let list: Vec<Index> = set.iter().collect(alloc)?;
+    Ok(u64::from(list.last().copied().unwrap_or(0)))
+}
+
+#[inline(never)]
+fn fold_alone(set: &BitSet) -> u64 {
+    set.iter()
+        .fold(0u64, |sum, index| sum.wrapping_add(u64::from(index)))
+}
+
+#[inline(never)]
+fn count_in_parts(
+    rt: &(impl Threads + Sync),
+    alloc: Global,
+    set: &BitSet,
+) -> Result<u64, AllocError> {
+    Ok(set.par_iter().count(rt, alloc)? as u64)
+}
+
+#[inline(never)]
+fn collect_in_parts(
+    rt: &(impl Threads + Sync),
+    alloc: Global,
+    set: &BitSet,
+) -> Result<u64, AllocError> {
+    let list = set.par_iter().collect(rt, alloc)?;
+    Ok(u64::from(list.last().copied().unwrap_or(0)))
+}
+
+#[inline(never)]
+fn fold_in_parts(
+    rt: &(impl Threads + Sync),
+    alloc: Global,
+    set: &BitSet,
+) -> Result<u64, AllocError> {
+    set.par_iter().fold(
+        rt,
+        alloc,
+        || 0u64,
+        |sum: u64, index: Index| sum.wrapping_add(u64::from(index)),
+        |sum: u64, other: u64| sum.wrapping_add(other),
+    )
+}
+
 // One walk in the calling thread.
 fn alone(alloc: Global, set: &BitSet, work: Work) -> Result<u64, AllocError> {
     match work {
-        Work::Count => Ok(set.iter().count() as u64),
-        Work::Collect => {
-            let list: Vec<Index> = set.iter().collect(alloc)?;
-            Ok(u64::from(list.last().copied().unwrap_or(0)))
-        }
-        Work::Fold => {
-            Ok(
-                set.iter()
-                    .fold(0u64, |sum, index| sum.wrapping_add(u64::from(index))),
-            )
-        }
+        Work::Count => Ok(count_alone(set)),
+        Work::Collect => collect_alone(alloc, set),
+        Work::Fold => Ok(fold_alone(set)),
     }
 }
 
@@ -56,20 +100,9 @@ fn in_parts(
     work: Work,
 ) -> Result<u64, AllocError> {
     match work {
-        Work::Count => Ok(set.par_iter().count(rt, alloc)? as u64),
-        Work::Collect => {
-            let list = set.par_iter().collect(rt, alloc)?;
-            Ok(u64::from(list.last().copied().unwrap_or(0)))
-        }
-        Work::Fold => {
-            set.par_iter().fold(
-                rt,
-                alloc,
-                || 0u64,
-                |sum: u64, index: Index| sum.wrapping_add(u64::from(index)),
-                |sum: u64, other: u64| sum.wrapping_add(other),
-            )
-        }
+        Work::Count => count_in_parts(rt, alloc, set),
+        Work::Collect => collect_in_parts(rt, alloc, set),
+        Work::Fold => fold_in_parts(rt, alloc, set),
     }
 }
 
