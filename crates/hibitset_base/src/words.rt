@@ -189,7 +189,7 @@ fn write_bit(buffer: &mut [Index], end: usize, start: Index, rest: usize) -> usi
 
 // Writes the indices of a word's bits into a buffer, from a place on, and answers the place after them. It writes four, since most words of a sparse set have few, and then goes by eights: so it may write past that place.
 #[inline]
-fn write_bits(buffer: &mut [Index], at: usize, start: Index, word: usize) -> usize
+fn write_by_eights(buffer: &mut [Index], at: usize, start: Index, word: usize) -> usize
     requires room { at + 68 ≤ length buffer.old }
     requires aligned { start % 64 ≡ 0 }
     requires within { start < MAX_EID }
@@ -208,6 +208,34 @@ fn write_bits(buffer: &mut [Index], at: usize, start: Index, word: usize) -> usi
         end += 8;
     }
     at + word.count_ones() as usize
+}
+
+// Writes the indices of a word of which all bits stand into a buffer, from a place on. The loop goes by vectors.
+#[inline]
+fn write_all(buffer: &mut [Index], at: usize, start: Index)
+    requires room { at + 64 ≤ length buffer.old }
+    requires within { start + 64 ≤ 2 ^ 32 }
+    ensures { take (at + 64) buffer.new ≡ take at buffer.old ++ bits_from start (2 ^ 64 - 1) }
+{
+    'bits: for bit in 0..64usize {
+        buffer[at + bit] = start + bit as Index;
+    }
+}
+
+// The same of any word; it answers the place after them, and may write past that.
+#[inline]
+fn write_bits(buffer: &mut [Index], at: usize, start: Index, word: usize) -> usize
+    requires room { at + 68 ≤ length buffer.old }
+    requires aligned { start % 64 ≡ 0 }
+    requires within { start < MAX_EID }
+    ensures written { take result buffer.new ≡ take at buffer.old ++ bits_from start word }
+    ensures few { result ≤ at + 64 }
+{
+    if word == usize::MAX {
+        write_all(buffer, at, start);
+        return at + 64;
+    }
+    write_by_eights(buffer, at, start, word)
 }
 
 // Empties a buffer into a list, where a word's bits might not fit behind those it has, and answers how many it has then.

@@ -6,33 +6,40 @@ use crate::util::{LAYERS, average_ones};
 use rayon::current_num_threads;
 use std::thread::Threads;
 
-/// About how many words of layer 0 a walk over a set looks at, and how many members it gives.
+/// About how many words of layer 0 with members a set has: those of which all bits stand, the others, and the members of these.
 #[derive(Clone, Copy)]
 pub(super) struct Size {
+    full: usize,
     words: usize,
     members: usize,
 }
 
-/// What a call has to do at each word of layer 0 and at each member, and from how much of it on threads save more than it takes to start them.
+const NOTHING: Size = Size {
+    full: 0,
+    words: 0,
+    members: 0,
+};
+
+/// What a call has to do at each word of layer 0 of which all bits stand, and at each of the others and each of their members, and from how much of it on threads save more than it takes to start them.
 #[derive(Clone, Copy)]
 pub(super) struct Work {
+    full: usize,
     word: usize,
     member: usize,
     worth: usize,
 }
 
-// So many words are worth threads to each call.
-const MANY_WORDS: usize = 700_000;
-
 // To count is to look at words, many of them in a row.
 pub(super) const COUNTING: Work = Work {
+    full: 1,
     word: 1,
     member: 0,
-    worth: MANY_WORDS,
+    worth: 700_000,
 };
 
-// To collect is to write down each member.
+// To collect is to write down each member. A list of full words is written as fast as its room is made, which one thread does.
 pub(super) const COLLECTING: Work = Work {
+    full: 0,
     word: 2,
     member: 1,
     worth: 500_000,
@@ -40,12 +47,14 @@ pub(super) const COLLECTING: Work = Work {
 
 // A visit leaves something behind, which takes longer.
 pub(super) const VISITING: Work = Work {
+    full: 66,
     word: 2,
     member: 1,
     worth: 300_000,
 };
 
 pub(super) const FOLDING: Work = Work {
+    full: 66,
     word: 2,
     member: 1,
     worth: 500_000,
@@ -58,31 +67,30 @@ pub(super) fn pays<R: Threads>(rt: &R, size: Size, work: Work) -> bool {
 
 // Tells whether there is so much to do.
 pub(super) fn is_worth(size: Size, work: Work) -> bool {
+    let full = size.full.saturating_mul(work.full);
     let words = size.words.saturating_mul(work.word);
     let members = size.members.saturating_mul(work.member);
-    words.saturating_add(members) >= work.worth
+    full.saturating_add(words).saturating_add(members) >= work.worth
 }
 
 // The size of both.
 fn joined(size: Size, other: Size) -> Size {
     Size {
+        full: size.full.saturating_add(other.full),
         words: size.words.saturating_add(other.words),
         members: size.members.saturating_add(other.members),
     }
 }
 
-/// About how large the set is. It reads a few words under each bit of the layer below the top, until there are so many words that each call is worth threads.
+/// About how large the set is. It reads a few words under each bit of the layer below the top, until there are enough to be counted in threads, however many more there are.
 pub(super) fn estimate<T: BitSetLike>(set: &T) -> Size {
     let top = set.get_from_layer(LAYERS - 1, 0);
-    let mut size = Size {
-        words: 0,
-        members: 0,
-    };
+    let mut size = NOTHING;
     for position in 0..usize::BITS {
         if top >> position & 1 == 1 {
             size = joined(size, size_below(set, position as usize));
         }
-        if size.words >= MANY_WORDS {
+        if is_worth(size, COUNTING) {
             return size;
         }
     }
@@ -93,10 +101,7 @@ pub(super) fn estimate<T: BitSetLike>(set: &T) -> Size {
 fn size_below<T: BitSetLike>(set: &T, position: usize) -> Size {
     let word = set.get_from_layer(LAYERS - 2, position);
     let first = position.wrapping_mul(64);
-    let mut size = Size {
-        words: 0,
-        members: 0,
-    };
+    let mut size = NOTHING;
     for bit in 0..usize::BITS {
         if word >> bit & 1 == 1 {
             size = joined(size, size_under(set, first.wrapping_add(bit as usize)));
@@ -115,9 +120,16 @@ fn size_under<T: BitSetLike>(set: &T, position: usize) -> Size {
         words = words.saturating_mul(word.count_ones() as usize);
         middle = middle.wrapping_mul(64).wrapping_add(bit);
     }
-    let members = set.get_from_layer(0, middle).count_ones() as usize;
+    let word = set.get_from_layer(0, middle);
+    if word == usize::MAX {
+        return Size {
+            full: words,
+            ..NOTHING
+        };
+    }
     Size {
+        full: 0,
         words,
-        members: words.saturating_mul(members),
+        members: words.saturating_mul(word.count_ones() as usize),
     }
 }

@@ -9,17 +9,20 @@ use std::thread::Threads;
 // How often each side looks for the other, at most.
 const TURNS: u32 = 200_000_000;
 
-// How many indices the set of a run has: the first ones.
-const INDICES: usize = 524_288;
-
-// How many words of layer 0 they are.
+// How many words of layer 0 the set of a run has: the first ones.
 const RUN: usize = 8_192;
+
+// A word of it, which lacks its last bit: words that have all are soon collected in one thread.
+const WORD: usize = usize::MAX >> 1;
+
+// How many members these are.
+const MEMBERS: usize = 516_096;
+
+// Their sum.
+const SUM: u64 = 135_290_953_728;
 
 // So many words are enough to be counted in several threads.
 const MANY_WORDS: usize = 2_097_152;
-
-// The sum of all indices of the run.
-const SUM: u64 = 137_438_691_328;
 
 // How many items meet through `rayon` alone.
 const ITEMS: usize = 4_096;
@@ -86,9 +89,9 @@ struct Meeting {
 }
 
 impl Meeting {
-    // Of the first `INDICES` indices. The first times, as many as `alone`, its words can be read one after the other.
+    // Of a run. The first times, as many as `alone`, its words can be read one after the other.
     fn of_run(alloc: Global, alone: u32) -> Result<Meeting, AllocError> {
-        let words = vec![in alloc; usize::MAX; RUN]?;
+        let words = vec![in alloc; WORD; RUN]?;
         Ok(Meeting {
             set: BitSet::from_words(alloc, words.as_slice())?,
             last_word: RUN - 1,
@@ -194,7 +197,7 @@ fn parts_meet(rt: HostRuntime) -> Result<(), Fail> {
     assert!(rt; set.places.both_found(1), "count");
     let set = Meeting::of_run(rt.alloc(), 1)?;
     let all = (&set).par_iter().collect(&rt, rt.alloc())?;
-    assert_eq!(rt; all.len(), INDICES);
+    assert_eq!(rt; all.len(), MEMBERS);
     assert!(rt;
         set.places.both_found(2),
         "collect, which counts in one thread and then writes"
@@ -236,7 +239,7 @@ fn few_heavy_parts_meet(rt: HostRuntime) -> Result<(), Fail> {
     assert!(rt; set.places.both_found(1), "count");
     let set = Meeting::of_run(rt.alloc(), 1)?;
     let all = (&set).par_iter().layers_split(2).collect(&rt, rt.alloc())?;
-    assert_eq!(rt; all.len(), INDICES);
+    assert_eq!(rt; all.len(), MEMBERS);
     assert!(rt; set.places.both_found(2), "collect");
     let set = Meeting::of_run(rt.alloc(), 0)?;
     let sum = sum_of(&rt, rt.alloc(), (&set).par_iter().layers_split(2))?;

@@ -196,6 +196,16 @@ fn each_of_many(rt: HostRuntime) -> Result<(), AllocError> {
     assert_visits(&rt, rt.alloc(), walk, 524_288, 137_438_691_328)
 }
 
+// As many as are collected in threads.
+#[test]
+fn a_list_of_every_second(rt: HostRuntime) -> Result<(), AllocError> {
+    let set = every_second(rt.alloc(), 1, 524_288)?;
+    let all = (&set).par_iter().collect(&rt, rt.alloc())?;
+    assert_count(&rt, all.len(), 524_288);
+    assert!(rt; all == list(rt.alloc(), &set)?);
+    Ok(())
+}
+
 // One member in each of so many words that threads count them.
 #[test]
 fn counts_of_many_words(rt: HostRuntime) -> Result<(), AllocError> {

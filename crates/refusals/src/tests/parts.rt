@@ -25,6 +25,15 @@ fn in_many_words(alloc: Global) -> Result<BitSet, AllocError> {
     BitSet::from_words(alloc, words.as_slice())
 }
 
+// How many words of layer 0 are enough to be collected in several threads, where each lacks its last bit.
+const WORDS: usize = 8_192;
+
+// The first 63 indices of each of `WORDS` words.
+fn all_but_last(alloc: Global) -> Result<BitSet, AllocError> {
+    let words = vec![in alloc; usize::MAX >> 1; WORDS]?;
+    BitSet::from_words(alloc, words.as_slice())
+}
+
 // Tells whether a set has exactly so many indices, from 0 on, each so much after the one before.
 fn is_evenly(set: &BitSet, distance: Index, members: usize) -> bool {
     let mut next = 0u32;
@@ -62,7 +71,7 @@ fn count(rt: HostRuntime) -> Result<(), Fail> {
 
 #[test]
 fn collect(rt: HostRuntime) -> Result<(), Fail> {
-    let set = many(rt.alloc())?;
+    let set = all_but_last(rt.alloc())?;
     ask(&rt)?;
     let collected = (&set).par_iter().layers_split(2).collect(&rt, rt.alloc());
     say(&rt, collected.is_err())?;
@@ -71,8 +80,8 @@ fn collect(rt: HostRuntime) -> Result<(), Fail> {
         Ok(all) => all,
         Err(_) => (&set).par_iter().layers_split(2).collect(&rt, rt.alloc())?,
     };
-    assert!(rt; all.len() == 524_288);
-    assert!(rt; is_many(&set));
+    assert!(rt; all.len() == 63 * WORDS);
+    assert!(rt; set == all_but_last(rt.alloc())?);
     Ok(())
 }
 

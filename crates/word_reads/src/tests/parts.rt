@@ -164,13 +164,19 @@ fn a_choice_that_reads_few_words(rt: HostRuntime) -> Result<(), AllocError> {
     Ok(())
 }
 
+// The first 63 indices of each of 8,192 words, which are collected in threads.
+fn in_many_words(alloc: Global) -> Result<BitSet, AllocError> {
+    let words = vec![in alloc; usize::MAX >> 1; 8_192]?;
+    BitSet::from_words(alloc, words.as_slice())
+}
+
 // Of a large set too `collect` reads a word of layer 0 once to count and once to list; one look at its size, here two words of layer 0 and the top, tells of both.
 #[test]
 fn a_large_set_that_is_listed(rt: HostRuntime) -> Result<(), AllocError> {
-    let tally = Tally::over(run_of(rt.alloc(), 524_288)?);
+    let tally = Tally::over(in_many_words(rt.alloc())?);
     let all = (&tally).par_iter().collect(&rt, rt.alloc())?;
-    assert_count(&rt, all.len(), 524_288);
-    assert_count(&rt, all.capacity(), 524_288);
+    assert_count(&rt, all.len(), 516_096);
+    assert_count(&rt, all.capacity(), 516_096);
     let [words, _, _, _, tops, asked] = tally.read();
     assert_count(&rt, words, 2 * 8_192 + 2);
     assert_count(&rt, tops, 1 + 1);
