@@ -8,33 +8,16 @@ here=$(cd "$(dirname "$0")" && pwd)
 work=$here/out/inlined
 crate=$here/../crates/hibitset_bench
 rm -rf "$work"
-mkdir -p "$work/kit/toolchain/bin"
-for file in "$kit"/*; do
-    case $(basename "$file") in
-        bin | toolchain) ;;
-        *) ln -s "$file" "$work/kit/" ;;
-    esac
-done
-cp -R "$kit/bin" "$work/kit/"
-for file in "$kit"/toolchain/* "$kit"/toolchain/bin/*; do
-    case $file in
-        */bin | */bin/clang) ;;
-        */bin/*) ln -s "$(readlink -f "$file")" "$work/kit/toolchain/bin/$(basename "$file")" ;;
-        *) ln -s "$file" "$work/kit/toolchain/" ;;
-    esac
-done
-cat >"$work/kit/toolchain/bin/clang" <<END
-#!/bin/sh
-for word in "\$@"; do
+mkdir -p "$work"
+wrapped "$work/kit" "#!/bin/sh
+for word in \"\$@\"; do
     case \$word in
-        *.bc) cp "\$word" "$work/module.bc" ;;
+        *.bc) cp \"\$word\" '$work/module.bc' ;;
         -o | *.o) ;;
-        *) printf '%s\n' "\$word" ;;
+        *) printf '%s\\n' \"\$word\" ;;
     esac
-done >"$work/words"
-exec "$kit/toolchain/bin/clang" "\$@"
-END
-chmod +x "$work/kit/toolchain/bin/clang"
+done >'$work/words'
+exec '$kit/toolchain/bin/clang' \"\$@\""
 
 rm -f "$crate/out/libhibitset_bench.a"
 (cd "$crate" && "$work/kit/bin/rt" lib) >"$work/lib.log" 2>&1 || { tail -n 30 "$work/lib.log" >&2; exit 1; }

@@ -1,4 +1,4 @@
-# library.sh: read by run.sh and beside.sh, which set `here` first. It sets `flags`, how rustc compiles, and `kit`, the folder of the toolchain.
+# library.sh: read by the other scripts here, which set `here` first. It sets `flags`, how rustc compiles, and `kit`, the folder of the toolchain.
 flags=${FLAGS:--C opt-level=3 -C target-cpu=x86-64-v2 -C llvm-args=-align-all-functions=6}
 kit=$(dirname "$(rt doc)")
 
@@ -14,4 +14,25 @@ aligned() {
     from=$1 to=$2
     shift 2
     objcopy --set-section-alignment '.text*=64' "$@" "$from" "$to"
+}
+
+# wrapped FOLDER SCRIPT: the toolchain in a folder of its own, whose clang is this script.
+wrapped() {
+    mkdir -p "$1/toolchain/bin"
+    for file in "$kit"/*; do
+        case $(basename "$file") in
+            bin | toolchain) ;;
+            *) ln -s "$file" "$1/" ;;
+        esac
+    done
+    cp -R "$kit/bin" "$1/"
+    for file in "$kit"/toolchain/* "$kit"/toolchain/bin/*; do
+        case $file in
+            */bin | */bin/clang) ;;
+            */bin/*) ln -s "$(readlink -f "$file")" "$1/toolchain/bin/$(basename "$file")" ;;
+            *) ln -s "$file" "$1/toolchain/" ;;
+        esac
+    done
+    printf '%s\n' "$2" >"$1/toolchain/bin/clang"
+    chmod +x "$1/toolchain/bin/clang"
 }

@@ -1,6 +1,7 @@
 #!/bin/sh
 # threads.sh ORIGINAL [REPEATS]: times the calls that start threads, beside the original with its own rayon, on all processors and on one; then the shared set, beside the original's AtomicBitSet.
 # ORIGINAL: the folder of the original crate's sources. REPEATS: how many times each call is made, of which the median counts (15).
+# Both programs are compiled so that each function begins at a multiple of 64 bytes and no jump lies at a border of 32, or the luck of where a loop falls is measured too. `rt run` links ours with a clang that is told so.
 # It needs rt, cargo and taskset, and of Debian's packages librust-rayon-dev under REGISTRY; without that the original is left out.
 # README=1: also puts what it prints into README.md, each table in the place of its last results.
 set -eu
@@ -9,13 +10,23 @@ here=$(cd "$(dirname "$0")" && pwd)
 original=$(cd "$1" && pwd)
 repeats=${2:-15}
 registry=${REGISTRY:-/usr/share/cargo/registry}
+. "$here/library.sh"
 crate=$here/../crates/hibitset_bench_threads
 work=$here/out/threads
-rm -rf "$work/hibitset"
+rm -rf "$work/hibitset" "$work/kit"
 mkdir -p "$work/src" "$work/.cargo" "$work/hibitset/src" "$work/atom/src"
 
-(cd "$crate" && rt run) >"$work/ours.log" 2>&1 || { tail -n 30 "$work/ours.log" >&2; exit 1; }
-ours=$crate/out/hibitset_bench_threads
+wrapped "$work/kit" "#!/bin/sh
+for word in \"\$@\"; do
+    if [ \"\$word\" = -c ]; then
+        exec '$kit/toolchain/bin/clang' \"\$@\" -Xclang -mllvm -Xclang -align-all-functions=6 -Xclang -mllvm -Xclang -x86-branches-within-32B-boundaries
+    fi
+done
+exec '$kit/toolchain/bin/clang' \"\$@\""
+rm -f "$crate/out/hibitset_bench_threads"
+(cd "$crate" && "$work/kit/bin/rt" run) >"$work/ours.log" 2>&1 || { tail -n 30 "$work/ours.log" >&2; exit 1; }
+ours=$work/ours
+mv "$crate/out/hibitset_bench_threads" "$ours"
 
 theirs=
 if ls -d "$registry"/rayon-1* >/dev/null 2>&1; then
@@ -26,7 +37,7 @@ if ls -d "$registry"/rayon-1* >/dev/null 2>&1; then
     printf '[package]\nname = "hibitset"\nversion = "0.6.3"\nedition = "2015"\n[features]\ndefault = ["parallel"]\nparallel = ["rayon"]\n[dependencies]\natom = { path = "../atom" }\nrayon = { version = "1.1", optional = true }\n' >"$work/hibitset/Cargo.toml"
     printf '[package]\nname = "threads"\nversion = "0.1.0"\nedition = "2021"\n[dependencies]\nhibitset = { path = "hibitset" }\nrayon = "1"\n[profile.release]\nopt-level = 3\n[workspace]\nexclude = ["hibitset", "atom"]\n' >"$work/Cargo.toml"
     printf '[source.crates-io]\nreplace-with = "debian"\n[source.debian]\ndirectory = "%s"\n[net]\noffline = true\n' "$registry" >"$work/.cargo/config.toml"
-    (cd "$work" && RUSTFLAGS="--cap-lints allow -C target-cpu=x86-64-v2 -C llvm-args=-align-all-functions=6" cargo build --release --quiet)
+    (cd "$work" && RUSTFLAGS="--cap-lints allow -C target-cpu=x86-64-v2 -C llvm-args=-align-all-functions=6 -C llvm-args=-x86-branches-within-32B-boundaries" cargo build --release --quiet)
     theirs=$work/target/release/threads
 fi
 
