@@ -1,4 +1,4 @@
-use Rattle.std.proofs.Common.{◌≡◌, ◌+◌, ◌++◌, [], take, arith, sym, add-zero, append-nil}
+use Rattle.std.proofs.Common.{◌≡◌, ◌+◌, take, arith, sym, add-zero, append-nil}
 use Rattle.hibitset_base.proofs.Writing.{wrote_next}
 use Rattle.hibitset_base.proofs.words.write_all.Goals as goal
 
