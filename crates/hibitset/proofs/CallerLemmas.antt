@@ -8,7 +8,7 @@ use Rattle.std.proofs.Common.{◌≡◌, ℕ, ◌+◌, ◌-◌, ◌*◌, ◌/◌
 use Rattle.std.specs.Int.{bit_at}
 use Rattle.std.proofs.lemmas.Bool.Decides.{nat_tests}
 use Rattle.hibitset_base.specs.Places.{IsWellFormed}
-use Rattle.hibitset.proofs.Testing.{holds_below, below_holds, both}
+use Rattle.hibitset_base.proofs.Testing.{holds_below, below_holds, both}
 
 -- whole words within the set
 abbrev is_aligned : ℕ → ℕ → ℕ → ℕ → Bool

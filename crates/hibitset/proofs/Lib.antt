@@ -9,7 +9,6 @@ pub mod Comparing
 pub mod Equality
 pub mod Ending
 pub mod Ends
-pub mod Testing
 pub mod Tabling
 pub mod Lengths
 pub mod Sizes

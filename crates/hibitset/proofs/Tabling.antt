@@ -6,7 +6,7 @@ use Rattle.std.proofs.lemmas.Bool.{eqb-true}
 use Rattle.std.proofs.lemmas.Nat.Bits.{bit_at-zero, bit_at_or, bit_at-pow_same, bit_at-pow_other}
 use Rattle.hibitset_base.specs.Deciding.{same_or_not}
 use Rattle.hibitset.specs.declared.layers.TheConstants.{ONE_BIT}
-use Rattle.hibitset.proofs.Testing.{below_holds}
+use Rattle.hibitset_base.proofs.Testing.{below_holds}
 
 -- place b of the table has bit b alone
 pub one_bit : (b : ℕ) → b < 64 → get_or ONE_BIT b 0 ≡ 2 ^ b

@@ -17,7 +17,7 @@ AreHighest n r = (i j : ℕ) → bit_at r i ≡ 1 → i ≤ j → bit_at r j ≡
 pub all_highest : (n : ℕ) → AreHighest n n
 all_highest n i j here later = refl
 
-bit_past : (n p j : ℕ) → bit_at (n / 2 ^ p) j ≡ bit_at n (p + j)
+pub bit_past : (n p j : ℕ) → bit_at (n / 2 ^ p) j ≡ bit_at n (p + j)
 bit_past n zero j = let one : n / 2 ^ 0 ≡ n = omega arith in let same : 0 + j ≡ j = omega arith in rw (one, same) refl
 bit_past n (suc p) j =
     let halved : n / 2 ^ suc p ≡ n / 2 / 2 ^ p = ap (λ k. n / k) (pow-suc 2 p) ∙ (let turned : 2 ^ p * 2 ≡ 2 * 2 ^ p = omega arith in rw turned (sym (div-div-eq-div-mul n 2 (2 ^ p)))) in

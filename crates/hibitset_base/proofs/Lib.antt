@@ -14,6 +14,8 @@ pub mod Cutting
 pub mod Layers
 pub mod Counting
 pub mod Writing
+pub mod Testing
+pub mod ByteTable
 pub mod Going
 pub mod Blocks
 pub mod Descending

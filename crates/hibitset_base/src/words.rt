@@ -14,6 +14,7 @@ ghost use Rattle.hibitset_base.specs.Reading.{GoesOn};
 ghost use Rattle.hibitset_base.specs.Walk.{items_left};
 ghost use Rattle.hibitset_base.specs.declared.util.TheConstants.{LAYERS, MAX_EID};
 
+use crate::bytes::write_byte;
 use crate::cursor::Cursor;
 use crate::iter::{BitIter, descend, refill, refill_above1, start, step};
 use crate::like::BitSetLike;
@@ -187,20 +188,30 @@ fn write_bit(buffer: &mut [Index], end: usize, start: Index, rest: usize) -> usi
     rest & rest.wrapping_sub(1)
 }
 
-// Writes the indices of a word's bits into a buffer, from a place on, and answers the place after them. It writes four, since most words of a sparse set have few, and then goes by eights: so it may write past that place.
+// Writes the indices of a word's first four bits into a buffer, from a place on, or what does not matter where it has fewer, and answers the word without them.
 #[inline]
-fn write_by_eights(buffer: &mut [Index], at: usize, start: Index, word: usize) -> usize
-    requires room { at + 68 ≤ length buffer.old }
+fn write_four(buffer: &mut [Index], at: usize, start: Index, word: usize) -> usize
+    requires room { at + 4 ≤ length buffer.old }
     requires aligned { start % 64 ≡ 0 }
-    requires within { start < MAX_EID }
-    ensures written { take result buffer.new ≡ take at buffer.old ++ bits_from start word }
-    ensures few { result ≤ at + 64 }
+    ensures { IsWritten buffer.new at (at + 4) (count_ones word) start result (take at buffer.old ++ bits_from start word) }
 {
     let mut rest = word;
     'four: for bit in 0..4usize {
         rest = write_bit(buffer, at + bit, start, rest);
     }
-    let mut end = at + 4;
+    rest
+}
+
+// Writes the indices of a word's bits into a buffer, from a place on, and answers the place after them. It goes by eights, so it may write past that place.
+#[inline]
+fn write_by_eights(buffer: &mut [Index], at: usize, start: Index, word: usize) -> usize
+    requires room { at + 64 ≤ length buffer.old }
+    requires aligned { start % 64 ≡ 0 }
+    ensures written { take result buffer.new ≡ take at buffer.old ++ bits_from start word }
+    ensures few { result ≤ at + 64 }
+{
+    let mut rest = word;
+    let mut end = at;
     'eights: while rest != 0 {
         'bits: for bit in 0..8usize {
             rest = write_bit(buffer, end + bit, start, rest);
@@ -222,7 +233,30 @@ fn write_all(buffer: &mut [Index], at: usize, start: Index)
     }
 }
 
-// The same of any word; it answers the place after them, and may write past that.
+// Writes the indices of a word's bits into a buffer, from a place on, byte by byte, and answers the place after them. It is called where it pays: in line it would take registers from the loop around it.
+#[inline(never)]
+fn write_by_bytes(buffer: &mut [Index], at: usize, start: Index, word: usize) -> usize
+    requires room { at + 64 ≤ length buffer.old }
+    requires within { start + 64 ≤ 2 ^ 32 }
+    ensures written { take result buffer.new ≡ take at buffer.old ++ bits_from start word }
+    ensures few { result ≤ at + 64 }
+{
+    let mut end = at;
+    'bytes: for place in 0..8u32 {
+        end = write_byte(
+            buffer,
+            end,
+            start + 8 * place,
+            (word >> (8 * place) & 255) as u8,
+        );
+    }
+    end
+}
+
+// How many bits are written by eights at most. Where there are more, a table of bytes is faster.
+const MOST_BY_EIGHTS: usize = 8;
+
+// Writes the indices of a word's bits into a buffer, from a place on, and answers the place after them. Most words of a sparse set have no more than four, and those of a dense one all. It may write past that place.
 #[inline]
 fn write_bits(buffer: &mut [Index], at: usize, start: Index, word: usize) -> usize
     requires room { at + 68 ≤ length buffer.old }
@@ -235,7 +269,14 @@ fn write_bits(buffer: &mut [Index], at: usize, start: Index, word: usize) -> usi
         write_all(buffer, at, start);
         return at + 64;
     }
-    write_by_eights(buffer, at, start, word)
+    let rest = write_four(buffer, at, start, word);
+    if rest == 0 {
+        return at + word.count_ones() as usize;
+    }
+    if rest.count_ones() as usize > MOST_BY_EIGHTS {
+        return write_by_bytes(buffer, at + 4, start, rest);
+    }
+    write_by_eights(buffer, at + 4, start, rest)
 }
 
 // Empties a buffer into a list, where a word's bits might not fit behind those it has, and answers how many it has then.

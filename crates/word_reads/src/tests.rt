@@ -35,6 +35,12 @@ fn run_of(alloc: Global, end: Index) -> Result<BitSet, AllocError> {
     Ok(set)
 }
 
+// Every eighth index of the first 65,536 words: so many are collected in threads.
+fn every_eighth(alloc: Global) -> Result<BitSet, AllocError> {
+    let words = vec![in alloc; 0x0101_0101_0101_0101usize; 65_536]?;
+    BitSet::from_words(alloc, words.as_slice())
+}
+
 // What a walk over a set gives.
 fn list<T: BitSetLike>(alloc: Global, set: T) -> Result<Vec<Index>, AllocError> {
     set.iter().collect(alloc)

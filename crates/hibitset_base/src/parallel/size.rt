@@ -4,59 +4,73 @@
 use crate::like::BitSetLike;
 use crate::util::{LAYERS, average_ones};
 use rayon::current_num_threads;
+use std::cmp::min;
 use std::thread::Threads;
 
-/// About how many words of layer 0 with members a set has: those of which all bits stand, the others, and the members of these.
+/// About how many words of layer 0 with members a set has: those of which all bits stand, the others, the members of these, and the first few members of each.
 #[derive(Clone, Copy)]
 pub(super) struct Size {
     full: usize,
     words: usize,
     members: usize,
+    first: usize,
 }
 
 const NOTHING: Size = Size {
     full: 0,
     words: 0,
     members: 0,
+    first: 0,
 };
 
-/// What a call has to do at each word of layer 0 of which all bits stand, and at each of the others and each of their members, and from how much of it on threads save more than it takes to start them.
+// How many members are the first few.
+const FIRST: usize = 6;
+
+/// What a call has to do at each word of layer 0 of which all bits stand, and at each of the others, at each of their members, and once more at the first few of each; and from how much of it on threads save more than it takes to start them.
 #[derive(Clone, Copy)]
 pub(super) struct Work {
     full: usize,
     word: usize,
     member: usize,
+    first: usize,
     worth: usize,
 }
+
+// What a full word takes where each of its members takes one.
+const WORD_AND_MEMBERS: usize = 2 + 64;
 
 // To count is to look at words, many of them in a row.
 pub(super) const COUNTING: Work = Work {
     full: 1,
     word: 1,
     member: 0,
+    first: 0,
     worth: 700_000,
 };
 
-// To collect is to write down each member. A list of full words is written as fast as its room is made, which one thread does.
+// To collect is to write down each member. Where a word has many, that takes hardly longer than to make their room in a list, which one thread does; where it has all, no longer at all.
 pub(super) const COLLECTING: Work = Work {
     full: 0,
     word: 2,
-    member: 1,
+    member: 0,
+    first: 1,
     worth: 500_000,
 };
 
 // A visit leaves something behind, which takes longer.
 pub(super) const VISITING: Work = Work {
-    full: 66,
+    full: WORD_AND_MEMBERS,
     word: 2,
     member: 1,
+    first: 0,
     worth: 300_000,
 };
 
 pub(super) const FOLDING: Work = Work {
-    full: 66,
+    full: WORD_AND_MEMBERS,
     word: 2,
     member: 1,
+    first: 0,
     worth: 500_000,
 };
 
@@ -70,7 +84,11 @@ pub(super) fn is_worth(size: Size, work: Work) -> bool {
     let full = size.full.saturating_mul(work.full);
     let words = size.words.saturating_mul(work.word);
     let members = size.members.saturating_mul(work.member);
-    full.saturating_add(words).saturating_add(members) >= work.worth
+    let first = size.first.saturating_mul(work.first);
+    full.saturating_add(words)
+        .saturating_add(members)
+        .saturating_add(first)
+        >= work.worth
 }
 
 // The size of both.
@@ -79,6 +97,7 @@ fn joined(size: Size, other: Size) -> Size {
         full: size.full.saturating_add(other.full),
         words: size.words.saturating_add(other.words),
         members: size.members.saturating_add(other.members),
+        first: size.first.saturating_add(other.first),
     }
 }
 
@@ -127,9 +146,11 @@ fn size_under<T: BitSetLike>(set: &T, position: usize) -> Size {
             ..NOTHING
         };
     }
+    let members = word.count_ones() as usize;
     Size {
         full: 0,
         words,
-        members: words.saturating_mul(word.count_ones() as usize),
+        members: words.saturating_mul(members),
+        first: words.saturating_mul(min(members, FIRST)),
     }
 }

@@ -9,17 +9,15 @@ use std::thread::Threads;
 // How often each side looks for the other, at most.
 const TURNS: u32 = 200_000_000;
 
-// How many words of layer 0 the set of a run has: the first ones.
+// A run of full words of layer 0, which are enough to be folded in several threads, and the sum of their indices.
 const RUN: usize = 8_192;
 
-// A word of it, which lacks its last bit: words that have all are soon collected in one thread.
-const WORD: usize = usize::MAX >> 1;
+const SUM: u64 = 137_438_691_328;
 
-// How many members these are.
-const MEMBERS: usize = 516_096;
+// A word with every eighth bit, and so many of them that they are collected in several threads; words with more bits each are sooner collected in one.
+const EIGHTHS: usize = 0x0101_0101_0101_0101;
 
-// Their sum.
-const SUM: u64 = 135_290_953_728;
+const MANY_EIGHTHS: usize = 65_536;
 
 // So many words are enough to be counted in several threads.
 const MANY_WORDS: usize = 2_097_152;
@@ -89,24 +87,33 @@ struct Meeting {
 }
 
 impl Meeting {
-    // Of a run. The first times, as many as `alone`, its words can be read one after the other.
-    fn of_run(alloc: Global, alone: u32) -> Result<Meeting, AllocError> {
-        let words = vec![in alloc; WORD; RUN]?;
+    // Of so many times the same word. The first times, as many as `alone`, its words can be read one after the other.
+    fn of_words(
+        alloc: Global,
+        word: usize,
+        count: usize,
+        alone: u32,
+    ) -> Result<Meeting, AllocError> {
+        let words = vec![in alloc; word; count]?;
         Ok(Meeting {
             set: BitSet::from_words(alloc, words.as_slice())?,
-            last_word: RUN - 1,
+            last_word: count.wrapping_sub(1),
             places: Places::new(alone),
         })
     }
 
+    fn of_run(alloc: Global) -> Result<Meeting, AllocError> {
+        Meeting::of_words(alloc, usize::MAX, RUN, 0)
+    }
+
+    // Of words that are counted in one thread, and then listed in several.
+    fn of_eighths(alloc: Global) -> Result<Meeting, AllocError> {
+        Meeting::of_words(alloc, EIGHTHS, MANY_EIGHTHS, 1)
+    }
+
     // Of the first index of each of the first `MANY_WORDS` words of layer 0.
     fn of_many_words(alloc: Global) -> Result<Meeting, AllocError> {
-        let words = vec![in alloc; 1usize; MANY_WORDS]?;
-        Ok(Meeting {
-            set: BitSet::from_words(alloc, words.as_slice())?,
-            last_word: MANY_WORDS - 1,
-            places: Places::new(0),
-        })
+        Meeting::of_words(alloc, 1, MANY_WORDS, 0)
     }
 }
 
@@ -195,18 +202,18 @@ fn parts_meet(rt: HostRuntime) -> Result<(), Fail> {
     let count = (&set).par_iter().count(&rt, rt.alloc())?;
     assert_eq!(rt; count, MANY_WORDS);
     assert!(rt; set.places.both_found(1), "count");
-    let set = Meeting::of_run(rt.alloc(), 1)?;
+    let set = Meeting::of_eighths(rt.alloc())?;
     let all = (&set).par_iter().collect(&rt, rt.alloc())?;
-    assert_eq!(rt; all.len(), MEMBERS);
+    assert_eq!(rt; all.len(), 8 * MANY_EIGHTHS);
     assert!(rt;
         set.places.both_found(2),
         "collect, which counts in one thread and then writes"
     );
-    let set = Meeting::of_run(rt.alloc(), 0)?;
+    let set = Meeting::of_run(rt.alloc())?;
     let sum = sum_of(&rt, rt.alloc(), (&set).par_iter())?;
     assert_eq!(rt; sum, SUM);
     assert!(rt; set.places.both_found(1), "fold");
-    let set = Meeting::of_run(rt.alloc(), 0)?;
+    let set = Meeting::of_run(rt.alloc())?;
     (&set)
         .par_iter()
         .for_each(&rt, rt.alloc(), |_index: Index| {})?;
@@ -227,7 +234,7 @@ fn counts_of_a_list_meet(rt: HostRuntime) -> Result<(), Fail> {
     Ok(())
 }
 
-// Two parts, each of them half of the work, or, to count, eight: a thread has to take each, however few they are.
+// Two parts, each of them half of the work, or, to count, eight, or, to collect, sixteen: a thread has to take each, however few they are.
 #[test]
 fn few_heavy_parts_meet(rt: HostRuntime) -> Result<(), Fail> {
     if !threads_meet(&rt) {
@@ -237,15 +244,15 @@ fn few_heavy_parts_meet(rt: HostRuntime) -> Result<(), Fail> {
     let count = (&set).par_iter().layers_split(1).count(&rt, rt.alloc())?;
     assert_eq!(rt; count, MANY_WORDS);
     assert!(rt; set.places.both_found(1), "count");
-    let set = Meeting::of_run(rt.alloc(), 1)?;
+    let set = Meeting::of_eighths(rt.alloc())?;
     let all = (&set).par_iter().layers_split(2).collect(&rt, rt.alloc())?;
-    assert_eq!(rt; all.len(), MEMBERS);
+    assert_eq!(rt; all.len(), 8 * MANY_EIGHTHS);
     assert!(rt; set.places.both_found(2), "collect");
-    let set = Meeting::of_run(rt.alloc(), 0)?;
+    let set = Meeting::of_run(rt.alloc())?;
     let sum = sum_of(&rt, rt.alloc(), (&set).par_iter().layers_split(2))?;
     assert_eq!(rt; sum, SUM);
     assert!(rt; set.places.both_found(1), "fold");
-    let set = Meeting::of_run(rt.alloc(), 0)?;
+    let set = Meeting::of_run(rt.alloc())?;
     (&set)
         .par_iter()
         .layers_split(2)

@@ -196,14 +196,28 @@ fn each_of_many(rt: HostRuntime) -> Result<(), AllocError> {
     assert_visits(&rt, rt.alloc(), walk, 524_288, 137_438_691_328)
 }
 
-// As many as are collected in threads.
-#[test]
-fn a_list_of_every_second(rt: HostRuntime) -> Result<(), AllocError> {
-    let set = every_second(rt.alloc(), 1, 524_288)?;
-    let all = (&set).par_iter().collect(&rt, rt.alloc())?;
-    assert_count(&rt, all.len(), 524_288);
-    assert!(rt; all == list(rt.alloc(), &set)?);
+// A set of so many times the same word of layer 0, collected.
+fn assert_collected(
+    rt: &(impl Abort + Threads + Sync),
+    alloc: Global,
+    word: usize,
+    count: usize,
+) -> Result<(), AllocError> {
+    let words = vec![in alloc; word; count]?;
+    let set = BitSet::from_words(alloc, words.as_slice())?;
+    let all = (&set).par_iter().collect(rt, alloc)?;
+    let members = count.wrapping_mul(word.count_ones() as usize);
+    assert_count(rt, all.len(), members);
+    assert!(rt; all == list(alloc, &set)?);
     Ok(())
+}
+
+// As many as are collected in threads, few to a word, half of a word, and nearly all.
+#[test]
+fn lists_from_threads(rt: HostRuntime) -> Result<(), AllocError> {
+    assert_collected(&rt, rt.alloc(), 0x0101_0101_0101_0101, 65_536)?;
+    assert_collected(&rt, rt.alloc(), 0xAAAA_AAAA_AAAA_AAAA, 65_536)?;
+    assert_collected(&rt, rt.alloc(), usize::MAX >> 1, 65_536)
 }
 
 // One member in each of so many words that threads count them.

@@ -25,23 +25,16 @@ fn in_many_words(alloc: Global) -> Result<BitSet, AllocError> {
     BitSet::from_words(alloc, words.as_slice())
 }
 
-// How many words of layer 0 are enough to be collected in several threads, where each lacks its last bit.
-const WORDS: usize = 8_192;
+// How many words of layer 0 are enough to be collected in several threads, where each has every eighth bit.
+const WORDS: usize = 65_536;
 
-// The first 63 indices of each of `WORDS` words.
-fn all_but_last(alloc: Global) -> Result<BitSet, AllocError> {
-    let words = vec![in alloc; usize::MAX >> 1; WORDS]?;
+// A word of these.
+const EIGHTHS: usize = 0x0101_0101_0101_0101;
+
+// Every eighth index of `WORDS` words.
+fn every_eighth(alloc: Global) -> Result<BitSet, AllocError> {
+    let words = vec![in alloc; EIGHTHS; WORDS]?;
     BitSet::from_words(alloc, words.as_slice())
-}
-
-// Tells whether a set has exactly these indices. It takes no memory.
-fn is_all_but_last(set: &BitSet) -> bool {
-    for word in set.layer0_as_slice() {
-        if *word != usize::MAX >> 1 {
-            return false;
-        }
-    }
-    set.layer0_as_slice().len() == WORDS
 }
 
 // Tells whether a set has exactly so many indices, from 0 on, each so much after the one before.
@@ -81,7 +74,7 @@ fn count(rt: HostRuntime) -> Result<(), Fail> {
 
 #[test]
 fn collect(rt: HostRuntime) -> Result<(), Fail> {
-    let set = all_but_last(rt.alloc())?;
+    let set = every_eighth(rt.alloc())?;
     ask(&rt)?;
     let collected = (&set).par_iter().layers_split(2).collect(&rt, rt.alloc());
     say(&rt, collected.is_err())?;
@@ -90,8 +83,8 @@ fn collect(rt: HostRuntime) -> Result<(), Fail> {
         Ok(all) => all,
         Err(_) => (&set).par_iter().layers_split(2).collect(&rt, rt.alloc())?,
     };
-    assert!(rt; all.len() == 63 * WORDS);
-    assert!(rt; is_all_but_last(&set));
+    assert!(rt; all.len() == 8 * WORDS);
+    assert!(rt; is_evenly(&set, 8, 8 * WORDS));
     Ok(())
 }
 

@@ -1,5 +1,5 @@
 //! How many words of each layer splits and walks in parts read.
-use crate::tests::{assert_count, run_of, set_of};
+use crate::tests::{assert_count, every_eighth, run_of, set_of};
 use hibitset::{BitParIter, BitProducer, BitSet, BitSetLike, Index, LAYERS};
 use std::alloc::{AllocError, Global};
 use std::process::Abort;
@@ -164,21 +164,15 @@ fn a_choice_that_reads_few_words(rt: HostRuntime) -> Result<(), AllocError> {
     Ok(())
 }
 
-// The first 63 indices of each of 8,192 words, which are collected in threads.
-fn in_many_words(alloc: Global) -> Result<BitSet, AllocError> {
-    let words = vec![in alloc; usize::MAX >> 1; 8_192]?;
-    BitSet::from_words(alloc, words.as_slice())
-}
-
-// Of a large set too `collect` reads a word of layer 0 once to count and once to list; one look at its size, here two words of layer 0 and the top, tells of both.
+// Of a large set too `collect` reads a word of layer 0 once to count and once to list; one look at its size, here sixteen words of layer 0 and the top, tells of both.
 #[test]
 fn a_large_set_that_is_listed(rt: HostRuntime) -> Result<(), AllocError> {
-    let tally = Tally::over(in_many_words(rt.alloc())?);
+    let tally = Tally::over(every_eighth(rt.alloc())?);
     let all = (&tally).par_iter().collect(&rt, rt.alloc())?;
-    assert_count(&rt, all.len(), 516_096);
-    assert_count(&rt, all.capacity(), 516_096);
+    assert_count(&rt, all.len(), 524_288);
+    assert_count(&rt, all.capacity(), 524_288);
     let [words, _, _, _, tops, asked] = tally.read();
-    assert_count(&rt, words, 2 * 8_192 + 2);
+    assert_count(&rt, words, 2 * 65_536 + 16);
     assert_count(&rt, tops, 1 + 1);
     assert_count(&rt, asked, 0);
     Ok(())

@@ -2,7 +2,9 @@
 ghost use Rattle.std.specs.Prelude.{◌<◌};
 ghost use Rattle.hibitset_base.specs.declared.util.TheConstants.{LAYERS};
 
-use crate::tests::{assert_count, assert_index, assert_indices, assert_members, run_of, set_of};
+use crate::tests::{
+    assert_count, assert_index, assert_indices, assert_members, every_eighth, set_of,
+};
 use hibitset::{BitSet, BitSetAnd, BitSetLike, BitSetNot, BitSetOr, BitSetXor, Index};
 use std::alloc::{AllocError, Global};
 use std::thread::Threads;
@@ -113,11 +115,11 @@ fn a_stranger_in_parts_of_four_layers(rt: HostRuntime) -> Result<(), AllocError>
 #[test]
 fn a_large_stranger_in_parts(rt: HostRuntime) -> Result<(), AllocError> {
     let many = Everywhere {
-        set: run_of(rt.alloc(), 524_288)?,
+        set: every_eighth(rt.alloc())?,
     };
     let all = (&many).par_iter().collect(&rt, rt.alloc())?;
     assert_count(&rt, all.len(), 524_288);
-    assert_index(&rt, all.last().copied(), Some(524_287));
+    assert_index(&rt, all.last().copied(), Some(4_194_296));
     Ok(())
 }
 
