@@ -25,16 +25,34 @@ fn in_many_words(alloc: Global) -> Result<BitSet, AllocError> {
     BitSet::from_words(alloc, words.as_slice())
 }
 
-// How many words of layer 0 are enough to be collected in several threads, where each has every eighth bit.
-const WORDS: usize = 65_536;
+// How many words of layer 0 a range of 16,777,216 indices has.
+const RANGE: usize = 262_144;
 
-// A word of these.
+// So many words of each of two such ranges, with every eighth bit, are enough to be collected in several threads. Two parts have one range each.
+const WORDS: usize = 32_768;
+
 const EIGHTHS: usize = 0x0101_0101_0101_0101;
 
-// Every eighth index of `WORDS` words.
-fn every_eighth(alloc: Global) -> Result<BitSet, AllocError> {
-    let words = vec![in alloc; EIGHTHS; WORDS]?;
+// The set of these words.
+fn in_two_ranges(alloc: Global) -> Result<BitSet, AllocError> {
+    let mut words = vec![in alloc; 0usize; RANGE + WORDS]?;
+    for at in 0..WORDS {
+        words[at] = EIGHTHS;
+        words[RANGE + at] = EIGHTHS;
+    }
     BitSet::from_words(alloc, words.as_slice())
+}
+
+// Tells whether a set has exactly these words. It takes no memory.
+fn is_in_two_ranges(set: &BitSet) -> bool {
+    let words = set.layer0_as_slice();
+    for (at, word) in words.iter().enumerate() {
+        let wanted = if at % RANGE < WORDS { EIGHTHS } else { 0 };
+        if *word != wanted {
+            return false;
+        }
+    }
+    words.len() == RANGE + WORDS
 }
 
 // Tells whether a set has exactly so many indices, from 0 on, each so much after the one before.
@@ -74,17 +92,17 @@ fn count(rt: HostRuntime) -> Result<(), Fail> {
 
 #[test]
 fn collect(rt: HostRuntime) -> Result<(), Fail> {
-    let set = every_eighth(rt.alloc())?;
+    let set = in_two_ranges(rt.alloc())?;
     ask(&rt)?;
-    let collected = (&set).par_iter().layers_split(2).collect(&rt, rt.alloc());
+    let collected = (&set).par_iter().layers_split(1).collect(&rt, rt.alloc());
     say(&rt, collected.is_err())?;
     ask(&rt)?;
     let all = match collected {
         Ok(all) => all,
-        Err(_) => (&set).par_iter().layers_split(2).collect(&rt, rt.alloc())?,
+        Err(_) => (&set).par_iter().layers_split(1).collect(&rt, rt.alloc())?,
     };
-    assert!(rt; all.len() == 8 * WORDS);
-    assert!(rt; is_evenly(&set, 8, 8 * WORDS));
+    assert!(rt; all.len() == 16 * WORDS);
+    assert!(rt; is_in_two_ranges(&set));
     Ok(())
 }
 
