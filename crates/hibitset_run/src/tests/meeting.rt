@@ -1,4 +1,7 @@
 //! Parts of a walk that wait for one another, which only threads that run side by side get through.
+ghost use Rattle.std.specs.Prelude.{◌-◌, ◌^◌, ◌≤◌};
+ghost use Rattle.hibitset_base.specs.declared.util.TheConstants.{LAYERS};
+
 use hibitset::{BitParIter, BitSet, BitSetLike, Index};
 use rayon::prelude::*;
 use std::alloc::{AllocError, Global};
@@ -88,12 +91,9 @@ struct Meeting {
 
 impl Meeting {
     // Of so many times the same word. The first times, as many as `alone`, its words can be read one after the other.
-    fn of_words(
-        alloc: Global,
-        word: usize,
-        count: usize,
-        alone: u32,
-    ) -> Result<Meeting, AllocError> {
+    fn of_words(alloc: Global, word: usize, count: usize, alone: u32) -> Result<Meeting, AllocError>
+        requires { count ≤ 64 ^ (LAYERS - 1) }
+    {
         let words = vec![in alloc; word; count]?;
         Ok(Meeting {
             set: BitSet::from_words(alloc, words.as_slice())?,

@@ -1,7 +1,7 @@
 //! Walks in parts, by several threads.
-ghost use Rattle.std.specs.Prelude.{◌≡◌, length, IfOk};
+ghost use Rattle.std.specs.Prelude.{◌≡◌, ◌-◌, ◌^◌, ◌≤◌, length, IfOk};
 ghost use Rattle.hibitset_base.specs.Members.{members_below};
-ghost use Rattle.hibitset_base.specs.declared.util.TheConstants.{MAX_EID};
+ghost use Rattle.hibitset_base.specs.declared.util.TheConstants.{LAYERS, MAX_EID};
 
 use crate::tests::{assert_count, assert_indices, every_second, list, run_of, set_of};
 use hibitset::{BitParIter, BitSet, BitSetAnd, BitSetLike, Index};
@@ -202,7 +202,9 @@ fn assert_collected(
     alloc: Global,
     word: usize,
     count: usize,
-) -> Result<(), AllocError> {
+) -> Result<(), AllocError>
+    requires { count ≤ 64 ^ (LAYERS - 1) }
+{
     let words = vec![in alloc; word; count]?;
     let set = BitSet::from_words(alloc, words.as_slice())?;
     let all = (&set).par_iter().collect(rt, alloc)?;

@@ -1,5 +1,6 @@
 //! Walks in parts, over a set that is large enough for threads.
 use crate::tests::{ask, say};
+use hibitset::util::MAX_EID;
 use hibitset::{BitSet, BitSetLike, Index};
 use std::alloc::{AllocError, Global};
 use std::sync::atomic::{AtomicUsize, Ordering};
@@ -35,12 +36,16 @@ const EIGHTHS: usize = 0x0101_0101_0101_0101;
 
 // The set of these words.
 fn in_two_ranges(alloc: Global) -> Result<BitSet, AllocError> {
-    let mut words = vec![in alloc; 0usize; RANGE + WORDS]?;
-    for at in 0..WORDS {
-        words[at] = EIGHTHS;
-        words[RANGE + at] = EIGHTHS;
+    let mut set = BitSet::new(alloc);
+    for start in [0u32, 16_777_216] {
+        for place in 0..262_144u32 {
+            let id = start.wrapping_add(place.wrapping_mul(8));
+            if (id as usize) < MAX_EID {
+                set.add(id)?;
+            }
+        }
     }
-    BitSet::from_words(alloc, words.as_slice())
+    Ok(set)
 }
 
 // Tells whether a set has exactly these words. It takes no memory.
