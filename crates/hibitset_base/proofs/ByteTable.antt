@@ -18,17 +18,17 @@ use Rattle.hibitset_base.proofs.Halving.{bit_past}
 use Rattle.hibitset_base.proofs.Members.{members-append, members-none, members-same, members-length}
 use Rattle.hibitset_base.proofs.Testing.{below_holds, both}
 
--- the first places of a byte's row
-abbrev places : ℕ → ℕ → List ℕ
-places byte n = take n (drop (8 * byte) BITS_OF)
+-- the first places of a byte's row, of any table, so that nothing computes over this one
+abbrev pub places : List ℕ → ℕ → ℕ → List ℕ
+places table byte n = take n (drop (8 * byte) table)
 
--- Each byte has its bits in the first places of its row, ascending, as many as it has: the table is gone over once, and nothing else looks into it.
+-- a byte has its bits in the first places of its row, ascending, as many as it has
 is_right : ℕ → Bool
-is_right byte = bytes_eq (places byte (count_ones byte)) (members (λ q. bit_at byte q == 1) 0 8)
+is_right byte = bytes_eq (places BITS_OF byte (count_ones byte)) (members (λ q. bit_at byte q == 1) 0 8)
 
-rows_right : (byte : ℕ) → byte < 256 → places byte (count_ones byte) ≡ members (λ q. bit_at byte q == 1) 0 8
+rows_right : (byte : ℕ) → byte < 256 → places BITS_OF byte (count_ones byte) ≡ members (λ q. bit_at byte q == 1) 0 8
 unfolding members is_right count_ones
-rows_right byte small = (bytes_eq-Decides (places byte (count_ones byte)) (members (λ q. bit_at byte q == 1) 0 8)).0 (below_holds 256 is_right refl byte small)
+rows_right byte small = (bytes_eq-Decides (places BITS_OF byte (count_ones byte)) (members (λ q. bit_at byte q == 1) 0 8)).0 (below_holds 256 is_right refl byte small)
 
 abbrev are_below : ℕ → List ℕ → Bool
 are_below n [] = true
@@ -64,38 +64,38 @@ bits-in_byte s byte small =
     ∙ (ap (λ xs. members p s 8 ++ xs) (members-none p (s + 8) 56 (λ i from below. ap (λ b. b == 1) (bit_at_above byte 8 (i - s) small (omega arith))))
     ∙ append-nil (members p s 8))
 
--- What the first places of a row give, moved up. The rows are those of any table, so that nothing computes over this one.
+-- what the first places of a row give, moved up
 abbrev pub moved : List ℕ → ℕ → ℕ → ℕ → List ℕ
-moved table s row n = map (λ k. s + k) (take n (drop (8 * row) table))
+moved table s byte n = map (λ k. s + k) (places table byte n)
 
-one_moved : (table : List ℕ) (s row n : ℕ) → 8 * row + n < length table → moved table s row (n + 1) ≡ moved table s row n ++ ((s + get_or table (8 * row + n) 0) ∷ [])
-one_moved table s row n inside =
-    let rest : List ℕ = drop (8 * row) table in
-    let long : n < length rest = (let left = length-drop (8 * row) table in omega (arith, left)) in
+one_moved : (table : List ℕ) (s byte n : ℕ) → 8 * byte + n < length table → moved table s byte (n + 1) ≡ moved table s byte n ++ ((s + get_or table (8 * byte + n) 0) ∷ [])
+one_moved table s byte n inside =
+    let rest : List ℕ = drop (8 * byte) table in
+    let long : n < length rest = (let left = length-drop (8 * byte) table in omega (arith, left)) in
     ap (λ xs. map (λ k. s + k) xs) (take_more rest n 0 long)
     ∙ (map-append (λ k. s + k) (take n rest) (get_or rest n 0 ∷ [])
-    ∙ ap (λ v. map (λ k. s + k) (take n rest) ++ ((s + v) ∷ [])) (get_or-drop (8 * row) table n 0))
+    ∙ ap (λ v. map (λ k. s + k) (take n rest) ++ ((s + v) ∷ [])) (get_or-drop (8 * byte) table n 0))
 
 -- the step of the loop that writes a row
-pub wrote_place : (table buffer front : List ℕ) (s row end n : ℕ) → 8 * row + n < length table → end < length buffer → take end buffer ≡ front ++ moved table s row n
-    → take (end + 1) (set buffer end (s + get_or table (8 * row + n) 0)) ≡ front ++ moved table s row (n + 1)
-wrote_place table buffer front s row end n inside here so_far =
-    let v : ℕ = s + get_or table (8 * row + n) 0 in
+pub wrote_place : (table buffer front : List ℕ) (s byte end n : ℕ) → 8 * byte + n < length table → end < length buffer → take end buffer ≡ front ++ moved table s byte n
+    → take (end + 1) (set buffer end (s + get_or table (8 * byte + n) 0)) ≡ front ++ moved table s byte (n + 1)
+wrote_place table buffer front s byte end n inside here so_far =
+    let v : ℕ = s + get_or table (8 * byte + n) 0 in
     take_more_set buffer end v here
     ∙ (ap (λ xs. xs ++ (v ∷ [])) so_far
-    ∙ (append_assoc front (moved table s row n) (v ∷ [])
-    ∙ ap (λ xs. front ++ xs) (sym (one_moved table s row n inside))))
+    ∙ (append_assoc front (moved table s byte n) (v ∷ [])
+    ∙ ap (λ xs. front ++ xs) (sym (one_moved table s byte n inside))))
 
--- of a row of eight as many places as there are bits
-some_moved : (table buffer old bits : List ℕ) (at s row c : ℕ) → at ≤ length old → c ≤ 8 → take (at + 8) buffer ≡ take at old ++ moved table s row 8 → moved table s row c ≡ bits → take (at + c) buffer ≡ take at old ++ bits
-some_moved table buffer old bits at s row c inside few so_far are =
-    let row_of : List ℕ = moved table s row 8 in
+-- of the eight places of a byte as many as it has bits
+some_moved : (table buffer old bits : List ℕ) (at s byte c : ℕ) → at ≤ length old → c ≤ 8 → take (at + 8) buffer ≡ take at old ++ moved table s byte 8 → moved table s byte c ≡ bits → take (at + c) buffer ≡ take at old ++ bits
+some_moved table buffer old bits at s byte c inside few so_far are =
+    let eight : List ℕ = moved table s byte 8 in
     let long : length (take at old) ≡ at = length-take-le at old inside in
     sym (take-take (at + c) (at + 8) buffer (omega arith))
     ∙ (ap (λ xs. take (at + c) xs) so_far
-    ∙ (ap (λ n. take (n + c) (take at old ++ row_of)) (sym long)
-    ∙ (take-append-add (take at old) row_of c
-    ∙ ap (λ xs. take at old ++ xs) (take-map (λ k. s + k) c (take 8 (drop (8 * row) table)) ∙ (ap (λ xs. map (λ k. s + k) xs) (take-take c 8 (drop (8 * row) table) few) ∙ are)))))
+    ∙ (ap (λ n. take (n + c) (take at old ++ eight)) (sym long)
+    ∙ (take-append-add (take at old) eight c
+    ∙ ap (λ xs. take at old ++ xs) (take-map (λ k. s + k) c (places table byte 8) ∙ (ap (λ xs. map (λ k. s + k) xs) (take-take c 8 (drop (8 * byte) table) few) ∙ are)))))
 
 pub few_in_byte : (byte : ℕ) → byte < 256 → count_ones byte ≤ 8
 few_in_byte byte small =

@@ -1,4 +1,4 @@
-//! The bits of a byte, from tables.
+//! The bits of a byte, from a table.
 #![tactic(auto)]
 
 ghost use Rattle.std.specs.Prelude.{◌≡◌, ℕ, ◌+◌, ◌^◌, ◌≤◌, ◌++◌, length, take};

@@ -12,14 +12,16 @@ use std::thread::Threads;
 // How often each side looks for the other, at most.
 const TURNS: u32 = 200_000_000;
 
-// A run of full words of layer 0, which are enough to be folded in several threads, and the sum of their indices.
+// So many full words of layer 0 are enough to be folded in several threads.
 const RUN: usize = 8_192;
 
+// The sum of their indices.
 const SUM: u64 = 137_438_691_328;
 
-// A word with every eighth bit, and so many of them that they are collected in several threads; words with more bits each are sooner collected in one.
+// A word with every eighth bit. Words with more bits each are sooner collected in one thread.
 const EIGHTHS: usize = 0x0101_0101_0101_0101;
 
+// So many of these are enough to be collected in several threads.
 const MANY_EIGHTHS: usize = 65_536;
 
 // So many words are enough to be counted in several threads.
