@@ -63,7 +63,7 @@ impl BitSet {
         Ok(BitSet { layers })
     }
 
-    // Makes room for the words over `id`, and changes no word. Where it takes memory, it makes room for `room` words of layer 0, where that is more. It is apart from `extend`, so that a call of `add` that needs no room tests one length alone.
+    // Makes room for the words over `id`, and changes no word. Where it takes memory, it makes room for `room` words of layer 0, where that is more.
     #[inline(never)]
     pub(crate) fn grow(&mut self, id: Index, room: usize) -> Result<(), AllocError>
         requires range { id < MAX_EID }
@@ -78,7 +78,28 @@ impl BitSet {
         self.layers.lengthen(id as usize / 64 + 1, room)
     }
 
-    // Makes room for the words over `id`, and changes no word. Where it takes memory, it takes twice as much, so that adds one after the other seldom do.
+    // Makes room for the words over `id`, and changes no word. Where it takes memory, it makes room for a power of two of words of layer 0, the first time for no more than it needs: so adds one after the other seldom take any, and a set of random indices ends with the words of its range. It is apart from `extend`, so that a call of `add` that needs no room tests one length alone.
+    #[inline(never)]
+    fn grow_for_adds(&mut self, id: Index) -> Result<(), AllocError>
+        requires range { id < MAX_EID }
+        requires more { slice_len self.old 0 ≤ id / 64 }
+        ensures same { (l p : ℕ) → word_of self.new l p ≡ word_of self.old l p }
+        ensures keeps { slice_len self.old 0 ≤ slice_len self.new 0 }
+        ensures most { slice_len self.new 0 ≤ max (slice_len self.old 0) (id / 64 + 1) }
+        ensures above { (l : ℕ) → l < LAYERS - 1 → slice_len self.new l ≤ max (slice_len self.old l) (id / 64 ^ (l + 1) + 1) }
+        ensures stays { OnErr result (slice_len self.new 0 ≡ slice_len self.old 0) }
+        ensures covers { OnOk result (id / 64 < slice_len self.new 0) }
+    {
+        let len = id as usize / 64 + 1;
+        let room = if self.layers.room() == 0 {
+            len
+        } else {
+            len.next_power_of_two()
+        };
+        self.grow(id, room)
+    }
+
+    // Makes room for the words over `id`, and changes no word.
     #[inline]
     pub(crate) fn extend(&mut self, id: Index) -> Result<(), AllocError>
         requires { id < MAX_EID }
@@ -93,8 +114,7 @@ impl BitSet {
         if (id as usize) / 64 < self.layers.len() {
             return Ok(());
         }
-        let room = self.layers.room();
-        self.grow(id, 2 * room)
+        self.grow_for_adds(id)
     }
 
     // Puts a word into layer 0 in the place of the word `before`, of which one bit was set or cleared, and sets the summaries over it right, as far up as one turns from 0 or to 0.

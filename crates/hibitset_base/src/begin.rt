@@ -11,7 +11,6 @@ ghost use Rattle.hibitset_base.specs.Reading.{AllStand, Encloses, IsBoundBy, wor
 ghost use Rattle.hibitset_base.specs.Walk.{set_of, items_left, words_read, words_ahead, IsDrawn, WalkSteps};
 ghost use Rattle.hibitset_base.specs.declared.util.TheConstants.{LAYERS, MAX_EID};
 
-use crate::bits::with_bit;
 use crate::cursor::Cursor;
 use crate::iter::{BitIter, read};
 use crate::like::BitSetLike;
@@ -33,7 +32,7 @@ fn tail_after(word: usize, bit: u32) -> usize
     requires { bit < 64 }
     ensures { HasTail word (bit + 1) result }
 {
-    with_bit(tail(word, bit), bit as usize, false)
+    word & (!1usize << bit)
 }
 
 // What is left of the word over an index, which lies at a place of a layer: in layer 0 the bits from the index's own on, and above it those after its own.
