@@ -106,28 +106,40 @@ fn in_parts(
     }
 }
 
-// How long one call takes: the median of so many.
+// How long one call takes.
 fn time_of<R: Clock + Threads + Sync>(
     rt: &R,
     alloc: Global,
     set: &BitSet,
     work: Work,
     is_in_parts: bool,
-    repeats: usize,
 ) -> anyhow::Result<u64> {
-    let mut times = Vec::new(alloc);
+    let start = Instant::now(rt)?;
+    let sum = if is_in_parts {
+        in_parts(rt, alloc, set, work)?
+    } else {
+        alone(alloc, set, work)?
+    };
+    let time = nanoseconds(rt, start)?;
+    // The sum is used, so that the work is not left out.
+    Ok(if sum == u64::MAX { 0 } else { time })
+}
+
+// How long one call takes alone, and how long in parts: the medians of so many of each. They take turns, so that a machine that grows slower slows both.
+fn times_of<R: Clock + Threads + Sync>(
+    rt: &R,
+    alloc: Global,
+    set: &BitSet,
+    work: Work,
+    repeats: usize,
+) -> anyhow::Result<(u64, u64)> {
+    let mut alone = Vec::new(alloc);
+    let mut in_parts = Vec::new(alloc);
     for _ in 0..repeats {
-        let start = Instant::now(rt)?;
-        let sum = if is_in_parts {
-            in_parts(rt, alloc, set, work)?
-        } else {
-            alone(alloc, set, work)?
-        };
-        let time = nanoseconds(rt, start)?;
-        // The sum is used, so that the work is not left out.
-        times.push(if sum == u64::MAX { 0 } else { time })?;
+        alone.push(time_of(rt, alloc, set, work, false)?)?;
+        in_parts.push(time_of(rt, alloc, set, work, true)?)?;
     }
-    median(&mut times)
+    Ok((median(&mut alone)?, median(&mut in_parts)?))
 }
 
 // Prints all rows, each the median of so many calls.
@@ -140,10 +152,9 @@ pub(crate) fn print_all<R: Clock + Print + Threads + Sync>(
         for size in SIZES {
             let set = set_of(alloc, shape, size)?;
             for (work_name, work) in WORKS {
-                for (way_name, is_in_parts) in [("alone", false), ("in parts", true)] {
-                    let time = time_of(rt, alloc, &set, work, is_in_parts, repeats)?;
-                    println!(rt; "{work_name}\t{shape_name}\t{size}\t{way_name}\t{time}")?;
-                }
+                let (alone, in_parts) = times_of(rt, alloc, &set, work, repeats)?;
+                println!(rt; "{work_name}\t{shape_name}\t{size}\talone\t{alone}")?;
+                println!(rt; "{work_name}\t{shape_name}\t{size}\tin parts\t{in_parts}")?;
             }
         }
     }
