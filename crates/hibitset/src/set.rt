@@ -21,7 +21,7 @@ use std::fmt::{self, Debug, Formatter};
 ///
 /// A set is 96 bytes, and its words lie in one block of memory beside it: none for an empty set, 56 bytes for {5} or the first 20 indices, 152 for the first 1,000, added one by one. With a vector for each layer it was 104 bytes, and 128, 128 and 224 in four blocks. `fixedbitset` takes 32 bytes, and 16, 16 and 128 beside them; CRoaring 80, 142 and 2,264 in all, and 69, 71 and 71 once it has been optimized and shrunk. These are measurements; no contract says them.
 ///
-/// Layer 0 has a word for each 64 indices up to the highest member, however few members there are, and the layers above it have a sixty-third of that: 8 bytes for each 64 indices, so 2,130,440 bytes where a member lies just below 2^24, and 136,348,160 where one lies just below 2^30. Room that adds made may be up to twice as much.
+/// Layer 0 has a word for each 64 indices up to the highest member that there has been since `clear`, however few there are, and the layers above it have a sixty-third of that: 8 bytes for each 64 indices, so 2,130,440 bytes where a member lies just below 2^24, and 136,348,160 where one lies just below 2^30. Room that adds made may be up to twice as much.
 #[derive(Drop)]
 pub struct BitSet {
     pub(crate) layers: Layers,
@@ -80,7 +80,7 @@ impl BitSet {
         self.layers.lengthen(id as usize / 64 + 1, room)
     }
 
-    // Makes room for the words over `id`, and changes no word. Where it takes memory, it makes room for a power of two of words of layer 0, the first time for no more than it needs: so adds one after the other seldom take any, and a set of random indices ends with the words of its range. It is apart from `extend`, so that a call of `add` that needs no room tests one length alone.
+    // Makes room for the words over `id`, and changes no word. Where it takes memory, it makes room for a power of two of words of layer 0, and for no more than it needs where that is more than twice what there was: so adds one after the other seldom take any, a set of random indices ends with the words of its range, and one index far up takes no more than the words up to it. It is apart from `extend`, so that a call of `add` that needs no room tests one length alone.
     #[inline(never)]
     fn grow_for_adds(&mut self, id: Index) -> Result<(), AllocError>
         requires range { id < MAX_EID }
@@ -93,7 +93,7 @@ impl BitSet {
         ensures covers { OnOk result (id / 64 < slice_len self.new 0) }
     {
         let len = id as usize / 64 + 1;
-        let room = if self.layers.room() == 0 {
+        let room = if len > 2 * self.layers.room() {
             len
         } else {
             len.next_power_of_two()
