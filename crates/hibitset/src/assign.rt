@@ -10,6 +10,7 @@ ghost use Rattle.hibitset_base.specs.Connectives.{is_member, IsIntersection, IsU
 ghost use Rattle.hibitset.specs.Operators.{none_lawful};
 ghost use Rattle.hibitset_base.specs.declared.util.TheConstants.{LAYERS, MAX_EID};
 
+use crate::growth::Growth;
 use crate::operator::{And, Difference, Operator, Or, Xor};
 use crate::set::BitSet;
 use hibitset_base::bits::{last_bit, take_bit, take_last_bit, with_bit};
@@ -17,9 +18,6 @@ use hibitset_base::like::BitSetLike;
 use hibitset_base::util::{Index, LAYERS, MAX_EID};
 use std::alloc::AllocError;
 use std::ops::BitAndAssign;
-
-// Where an assignment takes memory, it makes room for one in so many words more than there was room for. Adds, which come one by one, double it; here all that the other has is known, and room that is not needed is written all the same.
-const SPARE_PART: usize = 8;
 
 // The set with no members, which is merged in where the other has no word.
 #[derive(Drop)]
@@ -278,8 +276,7 @@ impl BitSet {
         if end <= self.layers.len() {
             return Ok(());
         }
-        let room = self.layers.room();
-        self.grow((64 * (end - 1)) as Index, room + room / SPARE_PART)
+        self.grow((64 * (end - 1)) as Index, Growth::Assignment)
     }
 
     /// Adds the members of any other set. Where memory is refused the members stay.

@@ -4,6 +4,7 @@
 pub mod assign;
 pub mod build;
 mod compare;
+mod growth;
 pub mod laws;
 mod layers;
 mod operator;

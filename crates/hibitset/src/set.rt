@@ -8,6 +8,7 @@ ghost use Rattle.hibitset.specs.Numbers.{stands_in};
 ghost use Rattle.hibitset.specs.Layers.{word_in};
 ghost use Rattle.hibitset_base.specs.declared.util.TheConstants.{LAYERS, MAX_EID};
 
+use crate::growth::Growth;
 use crate::layers::{Layers, turns};
 use hibitset_base::bits::with_bit;
 use hibitset_base::like::{BitSetLike, DrainableBitSet};
@@ -65,24 +66,9 @@ impl BitSet {
         Ok(BitSet { layers })
     }
 
-    // Makes room for the words over `id`, and changes no word. Where it takes memory, it makes room for `room` words of layer 0, where that is more.
+    // Makes room for the words over `id`, and changes no word. It is apart from `extend`, so that a call of `add` that needs no room tests one length alone.
     #[inline(never)]
-    pub(crate) fn grow(&mut self, id: Index, room: usize) -> Result<(), AllocError>
-        requires range { id < MAX_EID }
-        requires more { slice_len self.old 0 ≤ id / 64 }
-        ensures same { (l p : ℕ) → word_of self.new l p ≡ word_of self.old l p }
-        ensures keeps { slice_len self.old 0 ≤ slice_len self.new 0 }
-        ensures most { slice_len self.new 0 ≤ max (slice_len self.old 0) (id / 64 + 1) }
-        ensures above { (l : ℕ) → l < LAYERS - 1 → slice_len self.new l ≤ max (slice_len self.old l) (id / 64 ^ (l + 1) + 1) }
-        ensures stays { OnErr result (slice_len self.new 0 ≡ slice_len self.old 0) }
-        ensures covers { OnOk result (id / 64 < slice_len self.new 0) }
-    {
-        self.layers.lengthen(id as usize / 64 + 1, room)
-    }
-
-    // Makes room for the words over `id`, and changes no word. Where it takes memory, it makes room for a power of two of words of layer 0, and for no more than it needs where that is more than twice what there was: so adds one after the other seldom take any, a set of random indices ends with the words of its range, and one index far up takes no more than the words up to it. It is apart from `extend`, so that a call of `add` that needs no room tests one length alone.
-    #[inline(never)]
-    fn grow_for_adds(&mut self, id: Index) -> Result<(), AllocError>
+    pub(crate) fn grow(&mut self, id: Index, growth: Growth) -> Result<(), AllocError>
         requires range { id < MAX_EID }
         requires more { slice_len self.old 0 ≤ id / 64 }
         ensures same { (l p : ℕ) → word_of self.new l p ≡ word_of self.old l p }
@@ -93,12 +79,8 @@ impl BitSet {
         ensures covers { OnOk result (id / 64 < slice_len self.new 0) }
     {
         let len = id as usize / 64 + 1;
-        let room = if len > 2 * self.layers.room() {
-            len
-        } else {
-            len.next_power_of_two()
-        };
-        self.grow(id, room)
+        let room = growth.room(self.layers.room(), len);
+        self.layers.lengthen(len, room)
     }
 
     // Makes room for the words over `id`, and changes no word.
@@ -116,7 +98,7 @@ impl BitSet {
         if (id as usize) / 64 < self.layers.len() {
             return Ok(());
         }
-        self.grow_for_adds(id)
+        self.grow(id, Growth::Adds)
     }
 
     // Puts a word into layer 0 in the place of the word `before`, of which one bit was set or cleared, and sets the summaries over it right, as far up as one turns from 0 or to 0.
