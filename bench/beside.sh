@@ -1,18 +1,18 @@
 #!/bin/sh
-# beside.sh LIB [REPEATS [MILLISECONDS [WORDS]]]: the rows of run.sh over the library as it is and over another of it, in one process: the
-# column `original` is then the other's. LIB: the other's out/libhibitset_bench.a, as `rt lib` makes it in a checkout of another commit. A row whose
-# kernel it lacks has ours twice. NOW: the static library of this one, if it is not to be built. REPEATS, MILLISECONDS and WORDS: as of run.sh.
+# beside.sh OTHER [REPEATS [MILLISECONDS [WORDS]]]: the rows of run.sh over the library as it is and over another of it, in one process: the
+# column `original` is then the other's. OTHER: a checkout of another commit, whose library is built alike, or a static library that was. A row
+# whose kernel it lacks has ours twice. NOW: the same for this one. REPEATS, MILLISECONDS and WORDS: as of run.sh.
 set -eu
 here=$(cd "$(dirname "$0")" && pwd)
-[ $# -ge 1 ] || { echo "usage: beside.sh LIB [REPEATS [MILLISECONDS [WORDS]]]" >&2; exit 64; }
+[ $# -ge 1 ] || { echo "usage: beside.sh OTHER [REPEATS [MILLISECONDS [WORDS]]]" >&2; exit 64; }
 other=$1
 shift
 . "$here/library.sh"
 work=$here/out/beside
 rm -rf "$work"
 mkdir -p "$work"
-now=${NOW:-}
-[ -n "$now" ] || now=$(library "$work/lib.log")
+now=$(library "${NOW:-$here/..}" "$work/now")
+other=$(library "$other" "$work/other")
 nm --defined-only "$other" | awk 'NF == 3 && $2 ~ /[A-Z]/ { print $3 }' | sort -u >"$work/symbols"
 sed 's/.*/& before_&/' "$work/symbols" >"$work/renamed"
 aligned "$now" "$work/libhibitset_bench.a"

@@ -1,6 +1,5 @@
 #!/bin/sh
 # inlined.sh [WORD]: the calls that LLVM did not put in line in the library of the benches, each with what it counted for the function and how much it lets pass; how often, and the last place. WORD: the functions whose names have it, alone.
-# It also makes out/inlined/aligned.a, the same library with no jump at a border of 32 bytes, for NOW and LIB of beside.sh: two forms are then compared without the luck of where a loop falls.
 # It needs rt, whose kit it links with a clang of its own that keeps the module.
 set -eu
 here=$(cd "$(dirname "$0")" && pwd)
@@ -22,9 +21,6 @@ exec '$kit/toolchain/bin/clang' \"\$@\""
 rm -f "$crate/out/libhibitset_bench.a"
 (cd "$crate" && "$work/kit/bin/rt" lib) >"$work/lib.log" 2>&1 || { tail -n 30 "$work/lib.log" >&2; exit 1; }
 # The words have no blanks.
-# shellcheck disable=SC2046
-"$kit/toolchain/bin/clang" $(cat "$work/words") -Xclang -mllvm -Xclang -x86-branches-within-32B-boundaries "$work/module.bc" -o "$work/hibitset_bench.o"
-ar rcs "$work/aligned.a" "$work/hibitset_bench.o"
 # shellcheck disable=SC2046
 "$kit/toolchain/bin/clang" $(cat "$work/words") -Rpass-missed=inline "$work/module.bc" -o "$work/remarks.o" 2>"$work/remarks"
 grep 'too costly to inline' "$work/remarks" | awk -F "'" -v word="${1:-}" '

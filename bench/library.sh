@@ -1,12 +1,19 @@
-# library.sh: read by the other scripts here, which set `here` first. It sets `flags`, how rustc compiles, and `kit`, the folder of the toolchain.
-flags=${FLAGS:--C opt-level=3 -C target-cpu=x86-64-v2 -C llvm-args=-align-all-functions=6}
+# library.sh: read by the other scripts here, which set `here` first. It sets `flags`, how rustc compiles, `padding`, what both compilers are told of jumps, and `kit`, the folder of the toolchain.
+# No jump lies at a border of 32 bytes: many processors of Intel are slow there, and where a loop falls would decide the row. What it takes is prefixes before other instructions, and not instructions of its own.
+padding='-x86-branches-within-32B-boundaries -x86-pad-max-prefix-size=5'
+flags=${FLAGS:--C opt-level=3 -C target-cpu=x86-64-v2 -C llvm-args=-align-all-functions=6$(printf ' -C llvm-args=%s' $padding)}
 kit=$(dirname "$(rt doc)")
 
-# library LOG: proves and builds the static library of this checkout, and prints where it lies.
+# library FROM FOLDER: where the static library lies that is given as FROM, a file, or that of the checkout FROM, which is proved and built, and then lies in FOLDER.
 library() {
-    crate=$here/../crates/hibitset_bench
-    (cd "$crate" && rt lib) >"$1" 2>&1 || { tail -n 30 "$1" >&2; exit 1; }
-    echo "$crate/out/libhibitset_bench.a"
+    [ -d "$1" ] || { echo "$1"; return; }
+    crate=$(cd "$1/crates/hibitset_bench" && pwd)
+    mkdir -p "$2"
+    padded "$2/kit"
+    rm -f "$crate/out/libhibitset_bench.a"
+    (cd "$crate" && "$2/kit/bin/rt" lib) >"$2/lib.log" 2>&1 || { tail -n 30 "$2/lib.log" >&2; exit 1; }
+    mv "$crate/out/libhibitset_bench.a" "$2/"
+    echo "$2/libhibitset_bench.a"
 }
 
 # aligned FROM TO: the same library, in which every function begins at a multiple of 64 bytes, or the place that it happens to get decides.
@@ -18,6 +25,7 @@ aligned() {
 
 # wrapped FOLDER SCRIPT: the toolchain in a folder of its own, whose clang is this script.
 wrapped() {
+    rm -rf "$1"
     mkdir -p "$1/toolchain/bin"
     for file in "$kit"/*; do
         case $(basename "$file") in
@@ -35,4 +43,17 @@ wrapped() {
     done
     printf '%s\n' "$2" >"$1/toolchain/bin/clang"
     chmod +x "$1/toolchain/bin/clang"
+}
+
+# padded FOLDER [WORD..]: the toolchain in a folder of its own, whose clang pads jumps away from borders, and is told WORDs too.
+padded() {
+    folder=$1
+    shift
+    wrapped "$folder" "#!/bin/sh
+for word in \"\$@\"; do
+    if [ \"\$word\" = -c ]; then
+        exec '$kit/toolchain/bin/clang' \"\$@\"$(printf " -Xclang -mllvm -Xclang %s" $padding "$@")
+    fi
+done
+exec '$kit/toolchain/bin/clang' \"\$@\""
 }

@@ -5,7 +5,7 @@
 # WORDS: the rows whose names have them, alone. It needs rt, rustc and objcopy, and of Debian's packages librust-fixedbitset-dev and
 # librust-bit-set-dev, where they are to be in the table, under REGISTRY, and libroaring-dev.
 # README=1: also puts what it prints into README.md, in the place of the last results.
-# FLAGS: how the original, the peers and the driver are compiled. LIB: the static library, if it is not to be built.
+# FLAGS: how the original, the peers and the driver are compiled. LIB: the static library, if it is not to be built, or a checkout of another commit, whose library is built.
 set -eu
 here=$(cd "$(dirname "$0")" && pwd)
 [ $# -ge 1 ] || { echo "usage: run.sh ORIGINAL [REPEATS [MILLISECONDS [WORDS]]]" >&2; exit 64; }
@@ -16,8 +16,7 @@ registry=${REGISTRY:-/usr/share/cargo/registry}
 work=$here/out
 mkdir -p "$work/original"
 
-lib=${LIB:-}
-[ -n "$lib" ] || lib=$(library "$work/lib.log")
+lib=$(library "${LIB:-$here/..}" "$work/library")
 aligned "$lib" "$work/libhibitset_bench.a"
 
 compile() { # NAME EDITION FILE FLAGS..: one library

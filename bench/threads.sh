@@ -13,16 +13,10 @@ registry=${REGISTRY:-/usr/share/cargo/registry}
 . "$here/library.sh"
 crate=$here/../crates/hibitset_bench_threads
 work=$here/out/threads
-rm -rf "$work/hibitset" "$work/kit"
+rm -rf "$work/hibitset"
 mkdir -p "$work/src" "$work/.cargo" "$work/hibitset/src" "$work/atom/src"
 
-wrapped "$work/kit" "#!/bin/sh
-for word in \"\$@\"; do
-    if [ \"\$word\" = -c ]; then
-        exec '$kit/toolchain/bin/clang' \"\$@\" -Xclang -mllvm -Xclang -align-all-functions=6 -Xclang -mllvm -Xclang -x86-branches-within-32B-boundaries
-    fi
-done
-exec '$kit/toolchain/bin/clang' \"\$@\""
+padded "$work/kit" -align-all-functions=6
 rm -f "$crate/out/hibitset_bench_threads"
 (cd "$crate" && "$work/kit/bin/rt" run) >"$work/ours.log" 2>&1 || { tail -n 30 "$work/ours.log" >&2; exit 1; }
 ours=$work/ours
@@ -37,7 +31,7 @@ if ls -d "$registry"/rayon-1* >/dev/null 2>&1; then
     printf '[package]\nname = "hibitset"\nversion = "0.6.3"\nedition = "2015"\n[features]\ndefault = ["parallel"]\nparallel = ["rayon"]\n[dependencies]\natom = { path = "../atom" }\nrayon = { version = "1.1", optional = true }\n' >"$work/hibitset/Cargo.toml"
     printf '[package]\nname = "threads"\nversion = "0.1.0"\nedition = "2021"\n[dependencies]\nhibitset = { path = "hibitset" }\nrayon = "1"\n[profile.release]\nopt-level = 3\n[workspace]\nexclude = ["hibitset", "atom"]\n' >"$work/Cargo.toml"
     printf '[source.crates-io]\nreplace-with = "debian"\n[source.debian]\ndirectory = "%s"\n[net]\noffline = true\n' "$registry" >"$work/.cargo/config.toml"
-    (cd "$work" && RUSTFLAGS="--cap-lints allow -C target-cpu=x86-64-v2 -C llvm-args=-align-all-functions=6 -C llvm-args=-x86-branches-within-32B-boundaries" cargo build --release --quiet)
+    (cd "$work" && RUSTFLAGS="--cap-lints allow $flags" cargo build --release --quiet)
     theirs=$work/target/release/threads
 fi
 
