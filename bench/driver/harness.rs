@@ -139,6 +139,15 @@ fn turns_for(kernel: &Kernel, wanted: Duration) -> usize {
     turns
 }
 
+/// So many turns that what they do to their copies takes as long as wanted by itself, but at most so many times what they would be with the copies.
+fn turns_on_copies(kernel: &Kernel, copy: &Kernel, wanted: Duration) -> usize {
+    const MOST: f64 = 8.0;
+    let turns = turns_for(kernel, wanted);
+    let whole = turn(kernel, turns).0;
+    let work = whole - turn(copy, turns).0;
+    (turns as f64 * (whole / work.max(1.0)).clamp(1.0, MOST)) as usize
+}
+
 fn median(values: &mut [f64]) -> f64 {
     values.sort_by(f64::total_cmp);
     values[values.len() / 2]
@@ -180,7 +189,10 @@ impl Bench {
             Answer::Last => judge(0),
         };
         assert_eq!(work[0](0), judge(0), "{name}: another answer than the original's");
-        let turns: Vec<usize> = work.iter().map(|kernel| turns_for(kernel, self.wanted)).collect();
+        let turns: Vec<usize> = work.iter().enumerate().map(|(who, kernel)| match copy.get(who) {
+            Some(copy) => turns_on_copies(kernel, copy, self.wanted),
+            None => turns_for(kernel, self.wanted),
+        }).collect();
         let sums: Vec<u64> = work.iter().zip(&turns).map(|(kernel, turns)| kernel(1 + turns)).collect();
         if work.len() > 1 {
             assert_eq!(work[0](1 + turns[1]), sums[1], "{name}: another answer than the original's");
