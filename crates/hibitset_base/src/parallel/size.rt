@@ -1,6 +1,7 @@
 //! Which sets are large enough for threads.
 //!
 //! Nothing is promised of the choice, which is between two ways to the same answer. Threads are started anew at each call, and until they run a walk in one thread has gone over some hundred thousand members. What a call has to do is told by the words of layer 0 that it looks at and the members that it gives, so that a sparse set goes by its words. bench/README.md has the times on either side of these numbers.
+use crate::bits::take_bit;
 use crate::like::BitSetLike;
 use crate::util::{LAYERS, average_ones};
 use rayon::current_num_threads;
@@ -103,28 +104,23 @@ fn joined(size: Size, other: Size) -> Size {
 
 /// About how large the set is. It reads a few words under each bit of the layer below the top, until there are enough to be counted in threads, however many more there are.
 pub(super) fn estimate<T: BitSetLike>(set: &T) -> Size {
-    let top = set.get_from_layer(LAYERS - 1, 0);
+    let mut left = set.get_from_layer(LAYERS - 1, 0);
     let mut size = NOTHING;
-    for position in 0..usize::BITS {
-        if top >> position & 1 == 1 {
-            size = joined(size, size_below(set, position as usize));
-        }
-        if is_worth(size, COUNTING) {
-            return size;
-        }
+    'bits: while left != 0 && !is_worth(size, COUNTING) {
+        let position = take_bit(&mut left);
+        size = joined(size, size_below(set, position));
     }
     size
 }
 
 // About how large the part under a word of the layer below the top is.
 fn size_below<T: BitSetLike>(set: &T, position: usize) -> Size {
-    let word = set.get_from_layer(LAYERS - 2, position);
+    let mut left = set.get_from_layer(LAYERS - 2, position);
     let first = position.wrapping_mul(64);
     let mut size = NOTHING;
-    for bit in 0..usize::BITS {
-        if word >> bit & 1 == 1 {
-            size = joined(size, size_under(set, first.wrapping_add(bit as usize)));
-        }
+    'bits: while left != 0 {
+        let bit = take_bit(&mut left);
+        size = joined(size, size_under(set, first.wrapping_add(bit)));
     }
     size
 }
