@@ -9,8 +9,8 @@ use std::sync::atomic::{AtomicU32, Ordering};
 use std::test::Fail;
 use std::thread::Threads;
 
-// How often each side looks for the other, at most.
-const TURNS: u32 = 200_000_000;
+// How often each side looks for the other, at most: for a second or more, since the other may wait for a processor where programs use them all.
+const TURNS: u32 = 2_000_000_000;
 
 // So many full words of layer 0 are enough to be folded in several threads.
 const RUN: usize = 8_192;
