@@ -10,7 +10,7 @@ ghost use Rattle.hibitset_base.specs.Connectives.{is_member, IsIntersection, IsU
 ghost use Rattle.hibitset.specs.Operators.{none_lawful};
 ghost use Rattle.hibitset_base.specs.declared.util.TheConstants.{LAYERS, MAX_EID};
 
-use crate::growth::Growth;
+use crate::growth::Assignment;
 use crate::operator::{And, Difference, Operator, Or, Xor};
 use crate::set::BitSet;
 use hibitset_base::bits::{last_bit, take_bit, take_last_bit, with_bit};
@@ -276,7 +276,7 @@ impl BitSet {
         if end <= self.layers.len() {
             return Ok(());
         }
-        self.grow((64 * (end - 1)) as Index, Growth::Assignment)
+        self.grow::<Assignment>((64 * (end - 1)) as Index)
     }
 
     /// Adds the members of any other set. Where memory is refused the members stay.

@@ -8,7 +8,7 @@ ghost use Rattle.hibitset.specs.Numbers.{stands_in};
 ghost use Rattle.hibitset.specs.Layers.{word_in};
 ghost use Rattle.hibitset_base.specs.declared.util.TheConstants.{LAYERS, MAX_EID};
 
-use crate::growth::Growth;
+use crate::growth::{Adds, Growth};
 use crate::layers::{Layers, turns};
 use hibitset_base::bits::with_bit;
 use hibitset_base::like::{BitSetLike, DrainableBitSet};
@@ -68,7 +68,7 @@ impl BitSet {
 
     // Makes room for the words over `id`, and changes no word. It is apart from `extend`, so that a call of `add` that needs no room tests one length alone.
     #[inline(never)]
-    pub(crate) fn grow(&mut self, id: Index, growth: Growth) -> Result<(), AllocError>
+    pub(crate) fn grow<G: Growth>(&mut self, id: Index) -> Result<(), AllocError>
         requires range { id < MAX_EID }
         requires more { slice_len self.old 0 ≤ id / 64 }
         ensures same { (l p : ℕ) → word_of self.new l p ≡ word_of self.old l p }
@@ -79,7 +79,7 @@ impl BitSet {
         ensures covers { OnOk result (id / 64 < slice_len self.new 0) }
     {
         let len = id as usize / 64 + 1;
-        let room = growth.room(self.layers.room(), len);
+        let room = G::room(self.layers.room(), len);
         self.layers.lengthen(len, room)
     }
 
@@ -98,7 +98,7 @@ impl BitSet {
         if (id as usize) / 64 < self.layers.len() {
             return Ok(());
         }
-        self.grow(id, Growth::Adds)
+        self.grow::<Adds>(id)
     }
 
     // Puts a word into layer 0 in the place of the word `before`, of which one bit was set or cleared, and sets the summaries over it right, as far up as one turns from 0 or to 0.
