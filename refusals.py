@@ -65,7 +65,7 @@ CALLS = {
         "BitSet::bitxor_assign": "sets::bitxor_assign",
         "BitSet::clone": "sets::clone sets::add_to_a_clone",
         "BitSet::extend_index_refs": "sets::extend_index_refs",
-        "BitSet::extend_indices": "sets::extend_indices",
+        "BitSet::extend_indices": "sets::extend_indices sets::extend_indices_by_a_row",
         "BitSet::from_index_refs": "sets::from_index_refs",
         "BitSet::from_indices": "sets::from_indices",
         "BitSet::from_words": "sets::from_words",
@@ -106,8 +106,8 @@ CALLS = {
 OTHERS = "columns::collect callers::take"
 
 # The tests of calls that make no request.
-ROOM = """sets sets_with_room virtual_sets atomic_sets settled_sets shared_sets last_shares new_worlds worlds parts columns identifiers
-pages tasks tags"""
+ROOM = """sets sets_with_room sets_with_room_of_adds sets_with_room_of_assignments virtual_sets atomic_sets
+settled_sets shared_sets last_shares new_worlds worlds parts columns identifiers pages tasks tags"""
 
 # How many requests the call of each test makes where none is refused. A call that does its work twice is seen here alone.
 REQUESTS = {
@@ -159,6 +159,7 @@ REQUESTS = {
     "sets::clone": 1,
     "sets::extend_index_refs": 1,
     "sets::extend_indices": 1,
+    "sets::extend_indices_by_a_row": 5,
     "sets::from_index_refs": 2,
     "sets::from_indices": 2,
     "sets::from_words": 1,

@@ -52,6 +52,28 @@ fn sets_with_room(rt: HostRuntime) -> Result<(), Fail> {
     ask(&rt)
 }
 
+// Five words make room for eight.
+#[test]
+fn sets_with_room_of_adds(rt: HostRuntime) -> Result<(), Fail> {
+    let mut set = BitSet::new(rt.alloc());
+    set.extend_indices(0..257)?;
+    ask(&rt)?;
+    assert!(rt; set.extend_indices(257..512) == Ok(()) && set.len() == 512);
+    ask(&rt)
+}
+
+// An assignment that needs one word more than there is room for makes room for an eighth more.
+#[test]
+fn sets_with_room_of_assignments(rt: HostRuntime) -> Result<(), Fail> {
+    let mut set = BitSet::new(rt.alloc());
+    set.extend_indices(0..4096)?;
+    set.bitor_assign(&set_of(rt.alloc(), &[4096])?)?;
+    let other = set_of(rt.alloc(), &[4600])?;
+    ask(&rt)?;
+    assert!(rt; set.bitor_assign(&other).is_ok() && set.contains(4600));
+    ask(&rt)
+}
+
 // The set is to be {5, 70, 300,000} and the other one the same without 5, and so they are afterwards.
 fn assert_members(rt: &impl Abort, set: &mut BitSet, other: &BitSet) {
     assert!(rt; set.remove(5) && !set.remove(5) && !set.remove(4_294_967_295));

@@ -305,6 +305,36 @@ fn extend_indices(rt: HostRuntime) -> Result<(), Fail> {
     Ok(())
 }
 
+fn extended_by_a_row(set: &mut BitSet) -> Result<(), BuildError> {
+    set.extend_indices(0..4096)
+}
+
+// Tells whether an error is want of memory for the first index past 0, 4, 8, 16 or 32 words, and the set has the indices before it.
+fn is_refused_in_the_row(error: BuildError, set: &BitSet) -> bool {
+    match error {
+        BuildError::Memory { place } => {
+            [0, 256, 512, 1024, 2048].contains(&place) && set.len() == place
+        }
+        BuildError::OutOfRange { place: _, index: _ } => false,
+    }
+}
+
+// The first word of 64 makes room for four, and the room is doubled where it is full.
+#[test]
+fn extend_indices_by_a_row(rt: HostRuntime) -> Result<(), Fail> {
+    let mut set = BitSet::new(rt.alloc());
+    ask(&rt)?;
+    let extended = extended_by_a_row(&mut set);
+    say(&rt, extended.is_err())?;
+    ask(&rt)?;
+    if let Err(error) = extended {
+        assert!(rt; is_refused_in_the_row(error, &set));
+        extended_by_a_row(&mut set)?;
+    }
+    assert!(rt; set.len() == 4096 && set.last() == Some(4095));
+    Ok(())
+}
+
 fn extended_by_references(set: &mut BitSet) -> (Result<(), BuildError>, Option<Index>) {
     let mut left = ITEMS.iter();
     let extended = set.extend_index_refs(&mut left);
