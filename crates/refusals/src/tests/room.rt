@@ -56,7 +56,8 @@ fn sets_with_room(rt: HostRuntime) -> Result<(), Fail> {
 #[test]
 fn sets_with_room_of_adds(rt: HostRuntime) -> Result<(), Fail> {
     let mut set = BitSet::new(rt.alloc());
-    set.extend_indices(0..257)?;
+    set.add_range(0, 256)?;
+    set.add(256)?;
     ask(&rt)?;
     assert!(rt; set.extend_indices(257..512) == Ok(()) && set.len() == 512);
     ask(&rt)
@@ -66,7 +67,7 @@ fn sets_with_room_of_adds(rt: HostRuntime) -> Result<(), Fail> {
 #[test]
 fn sets_with_room_of_assignments(rt: HostRuntime) -> Result<(), Fail> {
     let mut set = BitSet::new(rt.alloc());
-    set.extend_indices(0..4096)?;
+    set.add_range(0, 4096)?;
     set.bitor_assign(&set_of(rt.alloc(), &[4096])?)?;
     let other = set_of(rt.alloc(), &[4600])?;
     ask(&rt)?;
