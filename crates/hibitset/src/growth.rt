@@ -5,7 +5,7 @@ ghost use Rattle.hibitset_base.specs.declared.util.TheConstants.{LAYERS};
 // An assignment makes room for one in so many words more than there was room for. All that the other set has is known by then, and room that is not needed is written all the same.
 const SPARE_PART: usize = 8;
 
-/// What a set makes room for. It is a type, so that a call of `grow` hands on no argument for it: in a loop of adds that would be one more to keep at hand.
+/// What a set makes room for. It is a type, so that `grow` is compiled for each and has no argument for it.
 pub(crate) trait Growth {
     /// How many words of layer 0 to make room for, where there is room for `room` and `len` are to count.
     fn room(room: usize, len: usize) -> usize
