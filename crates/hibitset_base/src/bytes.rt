@@ -6,9 +6,9 @@ ghost use Rattle.hibitset_base.specs.Places.{bits_from};
 
 use crate::util::Index;
 
-// The positions of each byte's bits, ascending, in a row of eight: what follows the last is 0.
+// The positions of each byte's bits, ascending, in a row of eight: what follows the last is 0. They are as wide as the indices that are made of them, so that none has to be widened.
 #[rattlefmt::skip]
-const BITS_OF: [u8; 2_048] = [
+const BITS_OF: [Index; 2_048] = [
     0, 0, 0, 0, 0, 0, 0, 0,
     0, 0, 0, 0, 0, 0, 0, 0,
     1, 0, 0, 0, 0, 0, 0, 0,
@@ -277,7 +277,7 @@ pub(crate) fn write_byte(buffer: &mut [Index], at: usize, start: Index, byte: u8
 {
     let row = 8 * byte as usize;
     'places: for place in 0..8usize {
-        buffer[at + place] = start + BITS_OF[row + place] as Index;
+        buffer[at + place] = start + BITS_OF[row + place];
     }
     at + byte.count_ones() as usize
 }

@@ -202,13 +202,12 @@ fn write_four(buffer: &mut [Index], at: usize, start: Index, word: usize) -> usi
     rest
 }
 
-// Writes the indices of a word's bits into a buffer, from a place on, and answers the place after them. It goes by eights, so it may write past that place.
+// Writes the indices of a word's bits into a buffer, from a place on. It goes by eights, so it may write past them.
 #[inline]
-fn write_by_eights(buffer: &mut [Index], at: usize, start: Index, word: usize) -> usize
+fn write_by_eights(buffer: &mut [Index], at: usize, start: Index, word: usize)
     requires room { at + 64 ≤ length buffer.old }
     requires aligned { start % 64 ≡ 0 }
-    ensures written { take result buffer.new ≡ take at buffer.old ++ bits_from start word }
-    ensures few { result ≤ at + 64 }
+    ensures { take (at + count_ones word) buffer.new ≡ take at buffer.old ++ bits_from start word }
 {
     let mut rest = word;
     let mut end = at;
@@ -218,7 +217,6 @@ fn write_by_eights(buffer: &mut [Index], at: usize, start: Index, word: usize) -
         }
         end += 8;
     }
-    at + word.count_ones() as usize
 }
 
 // Writes the indices of a word of which all bits stand into a buffer, from a place on. The loop goes by vectors.
@@ -253,8 +251,8 @@ fn write_by_bytes(buffer: &mut [Index], at: usize, start: Index, word: usize) ->
     end
 }
 
-// How many bits are written by eights at most. Where there are more, a table of bytes is faster.
-const MOST_BY_EIGHTS: usize = 8;
+/// How many bits a word has at most that are written four and then eight at a time. Where there are more, a table of bytes is faster.
+pub(crate) const MOST_BY_EIGHTS: usize = 12;
 
 // Writes the indices of a word's bits into a buffer, from a place on, and answers the place after them. Most words of a sparse set have no more than four, and those of a dense one all. It may write past that place.
 #[inline]
@@ -269,14 +267,15 @@ fn write_bits(buffer: &mut [Index], at: usize, start: Index, word: usize) -> usi
         write_all(buffer, at, start);
         return at + 64;
     }
+    let count = word.count_ones() as usize;
+    if count > MOST_BY_EIGHTS {
+        return write_by_bytes(buffer, at, start, word);
+    }
     let rest = write_four(buffer, at, start, word);
-    if rest == 0 {
-        return at + word.count_ones() as usize;
+    if count > 4 {
+        write_by_eights(buffer, at + 4, start, rest);
     }
-    if rest.count_ones() as usize > MOST_BY_EIGHTS {
-        return write_by_bytes(buffer, at + 4, start, rest);
-    }
-    write_by_eights(buffer, at + 4, start, rest)
+    at + count
 }
 
 // Empties a buffer into a list, where a word's bits might not fit behind those it has, and answers how many it has then.
@@ -460,13 +459,31 @@ fn take_bit(start: Index, rest: &mut usize) -> Index
     index
 }
 
+// The indices of a word of which all bits stand, folded in order. The loop looks for no bit.
+#[inline]
+fn fold_all<R, F: Fn(R, Index) -> R>(start: Index, init: R, step: &F) -> R
+    requires callable { F.IsAlwaysCallable step.now }
+    requires within { start + 64 ≤ 2 ^ 32 }
+    ensures { FoldsTo (λ a x b. F.post step.now a x b) init (bits_from start (2 ^ 64 - 1)) result }
+{
+    let mut so_far = init;
+    'bits: for bit in 0..64u32 {
+        so_far = step(so_far, start + bit);
+    }
+    so_far
+}
+
 // The indices of a word's bits, folded in order.
 #[inline]
 fn fold_word<R, F: Fn(R, Index) -> R>(start: Index, word: usize, init: R, step: &F) -> R
     requires callable { F.IsAlwaysCallable step.now }
     requires aligned { start % 64 ≡ 0 }
+    requires within { start < MAX_EID }
     ensures { FoldsTo (λ a x b. F.post step.now a x b) init (bits_from start word) result }
 {
+    if word == usize::MAX {
+        return fold_all(start, init, step);
+    }
     let mut so_far = init;
     let mut rest = word;
     'bits: while rest != 0 {

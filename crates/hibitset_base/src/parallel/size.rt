@@ -4,74 +4,81 @@
 use crate::bits::take_bit;
 use crate::like::BitSetLike;
 use crate::util::{LAYERS, average_ones};
+use crate::words::MOST_BY_EIGHTS;
 use rayon::current_num_threads;
 use std::cmp::min;
 use std::thread::Threads;
 
-/// About how many words of layer 0 with members a set has: those of which all bits stand, the others, the members of these, and the first few members of each.
+/// About how many words of layer 0 with members a set has: those of which all bits stand, the others, the members of these, and what it takes to list them.
 #[derive(Clone, Copy)]
 pub(super) struct Size {
     full: usize,
     words: usize,
     members: usize,
-    first: usize,
+    listing: usize,
 }
 
 const NOTHING: Size = Size {
     full: 0,
     words: 0,
     members: 0,
-    first: 0,
+    listing: 0,
 };
 
-// How many members are the first few.
+// How many members of a word count where it is listed. The others are written beside these.
 const FIRST: usize = 6;
 
-/// What a call has to do at each word of layer 0 of which all bits stand, and at each of the others, at each of their members, and once more at the first few of each; and from how much of it on threads save more than it takes to start them.
+// What it takes to list the members of a word. Those of one with many are written nearly as fast as one thread could make their room in a list, so that several save nothing.
+fn listing(members: usize) -> usize {
+    if members > MOST_BY_EIGHTS {
+        return 0;
+    }
+    2 + min(members, FIRST)
+}
+
+/// What a call has to do at each word of layer 0 of which all bits stand, and at each of the others, at each of their members, and for each unit of what it takes to list them; and from how much of it on threads save more than it takes to start them.
 #[derive(Clone, Copy)]
 pub(super) struct Work {
     full: usize,
     word: usize,
     member: usize,
-    first: usize,
+    listing: usize,
     worth: usize,
 }
-
-// What a full word takes where each of its members takes one.
-const WORD_AND_MEMBERS: usize = 2 + 64;
 
 // To count is to look at words, many of them in a row.
 pub(super) const COUNTING: Work = Work {
     full: 1,
     word: 1,
     member: 0,
-    first: 0,
+    listing: 0,
     worth: 700_000,
 };
 
-// To collect is to write down each member. Where a word has many, that takes hardly longer than to make their room in a list, which one thread does; where it has all, no longer at all.
+// To collect is to write down each member.
 pub(super) const COLLECTING: Work = Work {
     full: 0,
-    word: 2,
+    word: 0,
     member: 0,
-    first: 1,
+    listing: 1,
     worth: 500_000,
 };
 
-// A visit leaves something behind, which takes longer.
+// A visit leaves something behind, which takes longer, also where a word has all bits.
 pub(super) const VISITING: Work = Work {
-    full: WORD_AND_MEMBERS,
+    full: 2 + 64,
     word: 2,
     member: 1,
-    first: 0,
+    listing: 0,
     worth: 300_000,
 };
 
+// A fold goes over a word with all bits without looking for them, which is a matter of its step alone: an addition takes less than a quarter of a member's time elsewhere, and nearly any other step more.
 pub(super) const FOLDING: Work = Work {
-    full: WORD_AND_MEMBERS,
+    full: 16,
     word: 2,
     member: 1,
-    first: 0,
+    listing: 0,
     worth: 500_000,
 };
 
@@ -85,10 +92,10 @@ pub(super) fn is_worth(size: Size, work: Work) -> bool {
     let full = size.full.saturating_mul(work.full);
     let words = size.words.saturating_mul(work.word);
     let members = size.members.saturating_mul(work.member);
-    let first = size.first.saturating_mul(work.first);
+    let listing = size.listing.saturating_mul(work.listing);
     full.saturating_add(words)
         .saturating_add(members)
-        .saturating_add(first)
+        .saturating_add(listing)
         >= work.worth
 }
 
@@ -98,7 +105,7 @@ fn joined(size: Size, other: Size) -> Size {
         full: size.full.saturating_add(other.full),
         words: size.words.saturating_add(other.words),
         members: size.members.saturating_add(other.members),
-        first: size.first.saturating_add(other.first),
+        listing: size.listing.saturating_add(other.listing),
     }
 }
 
@@ -147,6 +154,6 @@ fn size_under<T: BitSetLike>(set: &T, position: usize) -> Size {
         full: 0,
         words,
         members: words.saturating_mul(members),
-        first: words.saturating_mul(min(members, FIRST)),
+        listing: words.saturating_mul(listing(members)),
     }
 }

@@ -12,11 +12,14 @@ use std::thread::Threads;
 // How often each side looks for the other, at most: for a second or more, since the other may wait for a processor where programs use them all.
 const TURNS: u32 = 2_000_000_000;
 
-// So many full words of layer 0 are enough to be folded in several threads.
+// So many full words of layer 0 are enough to be visited in several threads.
 const RUN: usize = 8_192;
 
+// So many are enough to be folded in several threads.
+const LONG_RUN: usize = 32_768;
+
 // The sum of their indices.
-const SUM: u64 = 137_438_691_328;
+const SUM: u64 = 2_199_022_206_976;
 
 // A word with every eighth bit. Words with more bits each are sooner collected in one thread.
 const EIGHTHS: usize = 0x0101_0101_0101_0101;
@@ -104,8 +107,10 @@ impl Meeting {
         })
     }
 
-    fn of_run(alloc: Global) -> Result<Meeting, AllocError> {
-        Meeting::of_words(alloc, usize::MAX, RUN, 0)
+    fn of_run(alloc: Global, count: usize) -> Result<Meeting, AllocError>
+        requires { count ≤ 64 ^ (LAYERS - 1) }
+    {
+        Meeting::of_words(alloc, usize::MAX, count, 0)
     }
 
     // Of words that are counted in one thread, and then listed in several.
@@ -211,11 +216,11 @@ fn parts_meet(rt: HostRuntime) -> Result<(), Fail> {
         set.places.both_found(2),
         "collect, which counts in one thread and then writes"
     );
-    let set = Meeting::of_run(rt.alloc())?;
+    let set = Meeting::of_run(rt.alloc(), LONG_RUN)?;
     let sum = sum_of(&rt, rt.alloc(), (&set).par_iter())?;
     assert_eq!(rt; sum, SUM);
     assert!(rt; set.places.both_found(1), "fold");
-    let set = Meeting::of_run(rt.alloc())?;
+    let set = Meeting::of_run(rt.alloc(), RUN)?;
     (&set)
         .par_iter()
         .for_each(&rt, rt.alloc(), |_index: Index| {})?;
@@ -236,7 +241,7 @@ fn counts_of_a_list_meet(rt: HostRuntime) -> Result<(), Fail> {
     Ok(())
 }
 
-// Two parts, each of them half of the work, or, to count, eight, or, to collect, sixteen: a thread has to take each, however few they are.
+// Two parts, each of them half of the work, or, to count and to fold, eight, or, to collect, sixteen: a thread has to take each, however few they are.
 #[test]
 fn few_heavy_parts_meet(rt: HostRuntime) -> Result<(), Fail> {
     if !threads_meet(&rt) {
@@ -250,11 +255,11 @@ fn few_heavy_parts_meet(rt: HostRuntime) -> Result<(), Fail> {
     let all = (&set).par_iter().layers_split(2).collect(&rt, rt.alloc())?;
     assert_eq!(rt; all.len(), 8 * MANY_EIGHTHS);
     assert!(rt; set.places.both_found(2), "collect");
-    let set = Meeting::of_run(rt.alloc())?;
+    let set = Meeting::of_run(rt.alloc(), LONG_RUN)?;
     let sum = sum_of(&rt, rt.alloc(), (&set).par_iter().layers_split(2))?;
     assert_eq!(rt; sum, SUM);
     assert!(rt; set.places.both_found(1), "fold");
-    let set = Meeting::of_run(rt.alloc())?;
+    let set = Meeting::of_run(rt.alloc(), RUN)?;
     (&set)
         .par_iter()
         .layers_split(2)

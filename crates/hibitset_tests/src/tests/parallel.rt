@@ -142,17 +142,17 @@ fn sum_of<T: BitSetLike + Send + Sync>(
 fn folds_of_ten_and_of_many(rt: HostRuntime) -> Result<(), AllocError> {
     let ten = run_of(rt.alloc(), 10)?;
     assert!(rt; sum_of(&rt, rt.alloc(), &ten)? == 45);
-    let many = run_of(rt.alloc(), 524_288)?;
-    assert!(rt; sum_of(&rt, rt.alloc(), &many)? == 137_438_691_328);
+    let many = run_of(rt.alloc(), 2_097_152)?;
+    assert!(rt; sum_of(&rt, rt.alloc(), &many)? == 2_199_022_206_976);
     Ok(())
 }
 
 #[test]
 fn folds_count_their_pieces(rt: HostRuntime) -> Result<(), Fail> {
-    let many = run_of(rt.alloc(), 524_288)?;
+    let many = run_of(rt.alloc(), 2_097_152)?;
     // One processor alone walks over it whole.
     let is_cut = available_parallelism(&rt)?.get() > 1;
-    for (layers, parts) in [(1u8, 1), (2, 2), (3, 128), (4, 512)] {
+    for (layers, parts) in [(1u8, 1), (2, 8), (3, 512), (4, 512)] {
         let wanted = if is_cut { parts } else { 1 };
         let pieces = BitParIter::new(&many).layers_split(layers).fold(
             &rt,
@@ -196,30 +196,45 @@ fn each_of_many(rt: HostRuntime) -> Result<(), AllocError> {
     assert_visits(&rt, rt.alloc(), walk, 524_288, 137_438_691_328)
 }
 
-// A set of so many times the same word of layer 0, collected.
+// A set of so many words of layer 0 with eight members each, but for every fourth, collected. By the others it seems large enough for threads.
 fn assert_collected(
     rt: &(impl Abort + Threads + Sync),
     alloc: Global,
-    word: usize,
+    fourth: usize,
     count: usize,
 ) -> Result<(), AllocError>
     requires { count ≤ 64 ^ (LAYERS - 1) }
 {
-    let words = vec![in alloc; word; count]?;
+    let mut words = vec![in alloc; 0x0101_0101_0101_0101usize; count]?;
+    for place in 0..count {
+        if place % 4 == 1 {
+            words[place] = fourth;
+        }
+    }
     let set = BitSet::from_words(alloc, words.as_slice())?;
     let all = (&set).par_iter().collect(rt, alloc)?;
-    let members = count.wrapping_mul(word.count_ones() as usize);
-    assert_count(rt, all.len(), members);
+    assert_count(rt, all.len(), set.len());
     assert!(rt; all == list(alloc, &set)?);
     Ok(())
 }
 
-// As many as are collected in threads, few to a word, half of a word, and nearly all.
+// As many as are collected in threads, with few members to a word, half of a word, and nearly all.
 #[test]
 fn lists_from_threads(rt: HostRuntime) -> Result<(), AllocError> {
     assert_collected(&rt, rt.alloc(), 0x0101_0101_0101_0101, 65_536)?;
     assert_collected(&rt, rt.alloc(), 0xAAAA_AAAA_AAAA_AAAA, 65_536)?;
     assert_collected(&rt, rt.alloc(), usize::MAX >> 1, 65_536)
+}
+
+// Every second index, which one thread lists.
+#[test]
+fn a_list_of_half(rt: HostRuntime) -> Result<(), AllocError> {
+    let words = vec![in rt.alloc(); 0xAAAA_AAAA_AAAA_AAAAusize; 65_536]?;
+    let set = BitSet::from_words(rt.alloc(), words.as_slice())?;
+    let all = (&set).par_iter().collect(&rt, rt.alloc())?;
+    assert_count(&rt, all.len(), 2_097_152);
+    assert!(rt; all == list(rt.alloc(), &set)?);
+    Ok(())
 }
 
 // One member in each of so many words that threads count them.

@@ -29,7 +29,7 @@ fn in_many_words(alloc: Global) -> Result<BitSet, AllocError> {
 // How many words of layer 0 a range of 16,777,216 indices has.
 const RANGE: usize = 262_144;
 
-// So many words of each of two such ranges, with every eighth bit, are enough to be collected in several threads. Two parts have one range each.
+// So many words of each of two such ranges, with every eighth bit, are enough to be collected or folded in several threads. Two parts have one range each.
 const WORDS: usize = 32_768;
 
 const EIGHTHS: usize = 0x0101_0101_0101_0101;
@@ -113,14 +113,14 @@ fn collect(rt: HostRuntime) -> Result<(), Fail> {
 
 #[test]
 fn fold(rt: HostRuntime) -> Result<(), Fail> {
-    let set = many(rt.alloc())?;
+    let set = in_two_ranges(rt.alloc())?;
     let init = || 0u64;
     let step = |sum: u64, index: Index| sum.wrapping_add(u64::from(index));
     let combine = |sum: u64, other: u64| sum.wrapping_add(other);
     ask(&rt)?;
     let folded = (&set)
         .par_iter()
-        .layers_split(2)
+        .layers_split(1)
         .fold(&rt, rt.alloc(), init, step, combine);
     say(&rt, folded.is_err())?;
     ask(&rt)?;
@@ -128,11 +128,11 @@ fn fold(rt: HostRuntime) -> Result<(), Fail> {
         Ok(sum) => sum,
         Err(_) => (&set)
             .par_iter()
-            .layers_split(2)
+            .layers_split(1)
             .fold(&rt, rt.alloc(), init, step, combine)?,
     };
-    assert!(rt; sum == 137_438_691_328);
-    assert!(rt; is_many(&set));
+    assert!(rt; sum == 4_947_800_227_840);
+    assert!(rt; is_in_two_ranges(&set));
     Ok(())
 }
 

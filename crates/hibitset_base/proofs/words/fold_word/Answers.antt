@@ -9,3 +9,6 @@ pub returns : goal.returns
 returns g c =
     let none = bits-none c.args.start c.bits.rest c.bits-test.false in
     c.bits.invariant.1 c.bits.so_far (rw none refl)
+
+pub returns-then-word-eq18446744073709551615 : goal.returns-then-word-eq18446744073709551615
+returns-then-word-eq18446744073709551615 g c = rw c.if-word-eq18446744073709551615.true c.fold_all.ensures
