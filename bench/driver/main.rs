@@ -45,6 +45,16 @@ macro_rules! both {
     };
 }
 
+/// The same kernel over each of several sets, one after the other.
+macro_rules! each {
+    ($kernel:ident, $lists:expr) => {
+        Both {
+            ours: Box::new(|times| $lists.iter().map(|ids| ours::$kernel(ids, times)).fold(0, u64::wrapping_add)),
+            original: Box::new(|times| $lists.iter().map(|ids| original::$kernel(ids, times)).fold(0, u64::wrapping_add)),
+        }
+    };
+}
+
 /// Adds a peer where its crate or library was found.
 macro_rules! peer {
     ($row:ident, $cfg:ident, $who:expr, $run:expr) => {
@@ -166,6 +176,18 @@ fn sizes_and_lists(bench: &mut Bench, all: &[(&Sample, f64, f64)]) {
         peer!(row, roaring, "CRoaring", || timed(|| k.roaring.list()));
         bench.run(row);
     }
+}
+
+/// Sets of so few members that a processor learns by heart where a walk over one of them branches, and the one better than the other.
+fn sparse_sets(bench: &mut Bench, lists: &[Vec<u32>]) {
+    bench.part("eight sets of 0.01 %, one after the other (ns per item)");
+    let ops = lists.iter().map(Vec::len).sum();
+    bench.run(Row::new("walk, eight sets of 0.01 %", ops, 0.6, each!(walk, lists)));
+    bench.run(Row::new("count, eight sets of 0.01 %", ops, 0.6, each!(walk_count, lists)));
+    bench.run(Row::new("fold, eight sets of 0.01 %", ops, 0.6, each!(walk_fold, lists)));
+    bench.run(Row::new("collect, eight sets of 0.01 %", ops, 0.6, each!(walk_collect, lists)));
+    bench.run(Row::new("len, eight sets of 0.01 %", ops, 0.6, each!(len, lists)));
+    bench.run(Row::new("to_vec, eight sets of 0.01 %", ops, 0.6, each!(to_vec, lists)));
 }
 
 /// The first member of a set, and walks that begin at an index.
@@ -404,6 +426,7 @@ fn main() {
     walks(&mut bench, &[(&dense, 0.4), (&half, 0.6), (&ten, 0.6), (&one, 0.6), (&few, 0.6), (&clusters, 0.4)]);
     walks_by_method(&mut bench, &[(&dense, 0.4), (&half, 0.6), (&ten, 0.6), (&one, 0.6), (&few, 0.6)]);
     sizes_and_lists(&mut bench, &[(&dense, 0.02, 0.2), (&half, 0.02, 0.2), (&ten, 0.04, 0.33), (&one, 0.3, 0.6), (&few, 0.6, 0.6)]);
+    sparse_sets(&mut bench, &(0..8).map(|seed| Numbers(seed).one_in(10_000, end)).collect::<Vec<_>>());
     firsts(&mut bench, &[&dense, &ten, &one], &random);
     bench.part("walks of two sets (ns per member of both)");
     for (a, b, aim) in [(&half, &other_half, 0.6), (&ten, &other_ten, 0.6), (&one, &other_one, 0.6), (&few, &ten, 0.6), (&clusters, &one, 0.6)] {

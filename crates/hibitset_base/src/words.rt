@@ -272,9 +272,10 @@ fn write_bits(buffer: &mut [Index], at: usize, start: Index, word: usize) -> usi
         return write_by_bytes(buffer, at, start, word);
     }
     let rest = write_four(buffer, at, start, word);
-    if count > 4 {
-        write_by_eights(buffer, at + 4, start, rest);
+    if count <= 4 {
+        return at + count;
     }
+    write_by_eights(buffer, at + 4, start, rest);
     at + count
 }
 
