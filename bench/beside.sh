@@ -1,7 +1,7 @@
 #!/bin/sh
 # beside.sh OTHER [REPEATS [MILLISECONDS [WORDS]]]: the rows of run.sh over the library as it is and over another of it, in one process: the
 # column `original` is then the other's. OTHER: a checkout of another commit, whose library is built alike, or a static library that was. A row
-# whose kernel it lacks has ours twice. NOW: the same for this one. REPEATS, MILLISECONDS and WORDS: as of run.sh.
+# whose kernel it lacks has ours twice; peers are left out. NOW: the same for this one. REPEATS, MILLISECONDS and WORDS: as of run.sh.
 set -eu
 here=$(cd "$(dirname "$0")" && pwd)
 [ $# -ge 1 ] || { echo "usage: beside.sh OTHER [REPEATS [MILLISECONDS [WORDS]]]" >&2; exit 64; }
@@ -34,6 +34,6 @@ awk -v symbols="$work/symbols" '
 ' "$here/driver/ours.rs" >"$work/original.rs"
 # The flags are words.
 # shellcheck disable=SC2086
-rustc $flags --edition 2021 --crate-name bench -A unexpected_cfgs -A unused_mut -A dead_code -A unused_imports -L "$work" \
+rustc $flags --edition 2021 --crate-name bench --cfg beside -A unexpected_cfgs -A unused_mut -A dead_code -A unused_imports -L "$work" \
     -l static=hibitset_bench -l static=before_bench -L "native=$work" -l static=libc_c -L "native=$kit/c" -o "$work/bench" "$work/main.rs"
 MALLOC_MMAP_THRESHOLD_=1000000000 MALLOC_TRIM_THRESHOLD_=10000000000 "$work/bench" "$@"

@@ -35,7 +35,7 @@ if ls -d "$registry"/rayon-1* >/dev/null 2>&1; then
     theirs=$work/target/release/threads
 fi
 
-rows() { # PROCESSORS: one line a call: what, set, members, nanoseconds of ours in parts, of ours alone, of theirs in parts
+rows() { # PROCESSORS: one line a call: what, set, members, nanoseconds of ours in parts, of theirs in parts and of ours alone; the second ratio is the median of each turn's own
     "$ours" parallel "$repeats" >"$work/ours.txt"
     if [ -n "$theirs" ]; then "$theirs" parallel "$repeats" >"$work/theirs.txt"; else : >"$work/theirs.txt"; fi
     awk -F '\t' '
@@ -44,7 +44,7 @@ rows() { # PROCESSORS: one line a call: what, set, members, nanoseconds of ours 
         {
             original = theirs[$1 FS $2 FS $3 FS $4]
             printf "| %s, %s, %d | %.1f | %s | %s | %.1f | %.2f |\n", $1, $2, $3, $5 / 1000, original ? sprintf("%.1f", original / 1000) : "-",
-                original ? sprintf("%.2f", $5 / original) : "-", alone / 1000, $5 / alone
+                original ? sprintf("%.2f", $5 / original) : "-", alone / 1000, $6 / 10000
         }
     ' "$work/theirs.txt" "$work/ours.txt"
 }

@@ -1,5 +1,5 @@
 //! Medians of interleaved repeats. In each round every contender of a row runs once, so that a disturbance of the machine
-//! falls on all alike; ours and the original take turns in going first.
+//! falls on all alike; ours and the original take turns in going first, and the ratio is the median of the rounds' own.
 //!
 //! A kernel makes its sets, does its work so many times, and answers a sum. What one turn of the work takes is the time
 //! of `1 + turns` turns less the time of one, shared out. Where each turn works on a copy, the time of the copy alone,
@@ -153,6 +153,12 @@ fn median(values: &mut [f64]) -> f64 {
     values[values.len() / 2]
 }
 
+/// The median of what the first list has as parts of the second's, place by place: a machine that changes its pace from one round to another changes both.
+fn median_ratio(times: &[f64], others: &[f64]) -> f64 {
+    let mut ratios: Vec<f64> = times.iter().zip(others).map(|(time, other)| time / other).collect();
+    median(&mut ratios)
+}
+
 fn shown(ns: f64) -> String {
     if ns < 10.0 {
         format!("{ns:.2}")
@@ -212,7 +218,7 @@ impl Bench {
                 }
             }
             for ((who, run), times) in peers.iter_mut().zip(&mut peer_times) {
-                if round % 3 > 1 {
+                if cfg!(beside) || round % 3 > 1 {
                     continue; // They are slow, and no ratio rests on them.
                 }
                 let (took, sum) = run();
@@ -222,13 +228,14 @@ impl Bench {
                 }
             }
         }
+        let ratio = times.get(1).map(|others| median_ratio(&times[0], others));
         let medians: Vec<f64> = times.iter_mut().map(|times| median(times)).collect();
         let cells: Vec<String> = self.peers.iter().map(|peer| {
-            peers.iter().position(|(who, _)| who == peer).map_or("-".to_string(), |at| shown(median(&mut peer_times[at])))
+            let at = peers.iter().position(|(who, _)| who == peer).filter(|at| !peer_times[*at].is_empty());
+            at.map_or("-".to_string(), |at| shown(median(&mut peer_times[at])))
         }).collect();
-        let line = match (&medians[..], aim) {
-            ([ours, original], Some(aim)) => {
-                let ratio = ours / original;
+        let line = match (&medians[..], aim, ratio) {
+            ([ours, original], Some(aim), Some(ratio)) => {
                 let miss = if ratio > aim { " *" } else { "" };
                 self.chart.push((name.replace("\\|", "|"), ratio, aim));
                 format!("| {name} | {} | {} | {ratio:.2}{miss} | {aim:.2} | {} |", shown(*ours), shown(*original), cells.join(" | "))

@@ -264,6 +264,14 @@ fn assignments(bench: &mut Bench, a: &Sample, b: &Sample, aims: [f64; 3]) {
     row!("a ^= b", xor_assign, aims[2], ^, symmetric_difference_with);
 }
 
+/// Assignments without copies: an exclusive or that each second turn undoes, and a union that an intersection undoes.
+fn assignments_in_place(bench: &mut Bench, a: &Sample, b: &Sample) {
+    let of = format!("{} and {}", a.name, b.name);
+    let (x, y) = (&a.ids[..], &b.ids[..]);
+    bench.run(Row::new(format!("a ^= b, in place, {of}"), 1, 1.0, both!(xor_in_place, x, y)).answer(Answer::Last));
+    bench.run(Row::new(format!("a \\|= b, then &= what a was, {of}"), 1, 1.0, both!(or_and_in_place, x, y)).answer(Answer::Last));
+}
+
 fn drains(bench: &mut Bench, all: &[&Sample]) {
     bench.part("drains (ns per item)");
     for sample in all {
@@ -461,6 +469,10 @@ fn main() {
         (&few, &clusters, [1.0; 3]),
     ] {
         assignments(&mut bench, a, b, aims);
+    }
+    bench.part("assignments in place, over and over (ns per turn)");
+    for (a, b) in [(&one, &other_one), (&few, &other_few), (&ten, &few), (&few, &clusters)] {
+        assignments_in_place(&mut bench, a, b);
     }
     small_sets(&mut bench);
     ranges_and_words(&mut bench, &half, &other_half);

@@ -1,4 +1,4 @@
-//! Calls that change a whole set, each on a copy of its own.
+//! Calls that change a whole set, each on a copy of its own, or one set over and over.
 use crate::sets::{first_of, set_of, sum_of};
 use hibitset::{BitSet, DrainableBitSet, Index};
 use std::alloc::{AllocError, Global};
@@ -169,6 +169,38 @@ pub(crate) fn xor_assign(
     times: usize,
 ) -> Result<u64, AllocError> {
     changed_beside::<XorAssign>(alloc, a, b, times)
+}
+
+// Puts another set exclusively into one set, `times` times over: each second time the set is as it was.
+pub(crate) fn xor_in_place(
+    alloc: Global,
+    a: &[Index],
+    b: &[Index],
+    times: usize,
+) -> Result<u64, AllocError> {
+    let mut set = set_of(alloc, a)?;
+    let other = set_of(alloc, b)?;
+    for _ in 0..times {
+        set.bitxor_assign(&other)?;
+    }
+    Ok(sum_of(&set))
+}
+
+// Puts another set into one set and takes out again what was not there, `times` times over.
+pub(crate) fn or_and_in_place(
+    alloc: Global,
+    a: &[Index],
+    b: &[Index],
+    times: usize,
+) -> Result<u64, AllocError> {
+    let before = set_of(alloc, a)?;
+    let other = set_of(alloc, b)?;
+    let mut set = before.clone()?;
+    for _ in 0..times {
+        set.bitor_assign(&other)?;
+        set &= &before;
+    }
+    Ok(sum_of(&set))
 }
 
 pub(crate) fn subtract_assign(

@@ -215,6 +215,28 @@ pub extern "C" fn hibitset_bench_xor_assign(
     copies::xor_assign(alloc, a, b, times).unwrap_or(u64::MAX)
 }
 
+/// Puts `b` into `a` exclusively, `times` times over, without a copy: each second time `a` is as it was.
+#[unsafe(no_mangle)]
+pub extern "C" fn hibitset_bench_xor_in_place(
+    alloc: Global,
+    a: &[u32],
+    b: &[u32],
+    times: usize,
+) -> u64 {
+    copies::xor_in_place(alloc, a, b, times).unwrap_or(u64::MAX)
+}
+
+/// Puts `b` into `a` and takes out again what was not there, `times` times over, without a copy.
+#[unsafe(no_mangle)]
+pub extern "C" fn hibitset_bench_or_and_in_place(
+    alloc: Global,
+    a: &[u32],
+    b: &[u32],
+    times: usize,
+) -> u64 {
+    copies::or_and_in_place(alloc, a, b, times).unwrap_or(u64::MAX)
+}
+
 /// Asks whether two sets are equal, `times` times over.
 #[unsafe(no_mangle)]
 pub extern "C" fn hibitset_bench_equal(alloc: Global, a: &[u32], b: &[u32], times: usize) -> u64 {

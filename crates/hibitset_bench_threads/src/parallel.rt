@@ -125,21 +125,42 @@ fn time_of<R: Clock + Threads + Sync>(
     Ok(if sum == u64::MAX { 0 } else { time })
 }
 
-// How long one call takes alone, and how long in parts: the medians of so many of each. They take turns, so that a machine that grows slower slows both.
+// What is told of a row: how long a call takes alone and how long in parts, and how many ten-thousandths the one in parts takes of the one beside it.
+#[derive(Drop)]
+struct Times {
+    alone: u64,
+    in_parts: u64,
+    ratio: u64,
+}
+
+// How many ten-thousandths one time is of another.
+fn ratio_of(time: u64, other: u64) -> u64 {
+    time.saturating_mul(10_000) / other.max(1)
+}
+
+// The medians of so many calls of each. They take turns, and the ratio is that of each turn, so that a machine that changes its pace changes both.
 fn times_of<R: Clock + Threads + Sync>(
     rt: &R,
     alloc: Global,
     set: &BitSet,
     work: Work,
     repeats: usize,
-) -> anyhow::Result<(u64, u64)> {
+) -> anyhow::Result<Times> {
     let mut alone = Vec::new(alloc);
     let mut in_parts = Vec::new(alloc);
+    let mut ratios = Vec::new(alloc);
     for _ in 0..repeats {
-        alone.push(time_of(rt, alloc, set, work, false)?)?;
-        in_parts.push(time_of(rt, alloc, set, work, true)?)?;
+        let other = time_of(rt, alloc, set, work, false)?;
+        let time = time_of(rt, alloc, set, work, true)?;
+        alone.push(other)?;
+        in_parts.push(time)?;
+        ratios.push(ratio_of(time, other))?;
     }
-    Ok((median(&mut alone)?, median(&mut in_parts)?))
+    Ok(Times {
+        alone: median(&mut alone)?,
+        in_parts: median(&mut in_parts)?,
+        ratio: median(&mut ratios)?,
+    })
 }
 
 // Prints all rows, each the median of so many calls.
@@ -152,9 +173,10 @@ pub(crate) fn print_all<R: Clock + Print + Threads + Sync>(
         for size in SIZES {
             let set = set_of(alloc, shape, size)?;
             for (work_name, work) in WORKS {
-                let (alone, in_parts) = times_of(rt, alloc, &set, work, repeats)?;
+                let times = times_of(rt, alloc, &set, work, repeats)?;
+                let (alone, in_parts, ratio) = (times.alone, times.in_parts, times.ratio);
                 println!(rt; "{work_name}\t{shape_name}\t{size}\talone\t{alone}")?;
-                println!(rt; "{work_name}\t{shape_name}\t{size}\tin parts\t{in_parts}")?;
+                println!(rt; "{work_name}\t{shape_name}\t{size}\tin parts\t{in_parts}\t{ratio}")?;
             }
         }
     }
