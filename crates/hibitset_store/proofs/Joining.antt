@@ -1,8 +1,10 @@
 -- Joins of maps, as what is left of walks.
-use Rattle.std.proofs.Common.{◌≡◌, ℕ, zero, suc, ◌≤◌, Bool, true, false, cond, ◌&&◌, List, [], ◌∷◌, ◌++◌, length, length-append, Option, Some, None, refl, ap, arith}
-use Rattle.std.specs.List.{flat_map}
+use Rattle.std.proofs.Common.{◌≡◌, ℕ, zero, suc, ◌≤◌, Bool, true, false, cond, ◌&&◌, List, [], ◌∷◌, ◌++◌, length, length-append, Option, Some, None, refl, sym, subst, ap, arith}
+use Rattle.std.specs.List.{All, flat_map}
 use Rattle.std.specs.Option.{is_some}
+use Rattle.std.proofs.lemmas.List.Elements.{All-weaker}
 use Rattle.hibitset_base.specs.Members.{members, members_below}
+use Rattle.hibitset_base.proofs.CallerLemmas.{all_members}
 use Rattle.hibitset_base.specs.declared.util.TheConstants.{MAX_EID}
 use Rattle.hibitset_store.specs.Columns.{Map, entry, entries}
 use Rattle.hibitset_store.specs.Joins.{pair, pairs, in_both, joined, joined_within}
@@ -74,3 +76,7 @@ module _ {V : Type 0} where
   -- there are no more entries than indices
   pub entries-length : (p : Map V) (is : List ℕ) → length (entries p is) ≤ length is
   entries-length p = flat-length (λ i. entry i (p i)) (λ i. entry-length i (p i))
+
+-- What is so of each member of a set is so of the items of a walk over all of them.
+pub all-items : (P : ℕ → Type 0) (s : ℕ → Bool) (items : List ℕ) → items ≡ members_below MAX_EID s → ((i : ℕ) → s i ≡ true → P i) → All P items
+all-items P s items e so = subst (All P) (sym e) (All-weaker (λ i. s i ≡ true) P so (members_below MAX_EID s) (all_members MAX_EID s))

@@ -1,7 +1,10 @@
 -- The value of an index, after a place has changed, and that its place stays its own.
-use Rattle.std.proofs.Common.{◌≡◌, ℕ, zero, suc, ◌/◌, ◌<◌, ◌≤◌, ◌==◌, Bool, true, false, cond, not, ◌&&◌, ◌||◌, List, [], ◌∷◌, length, Option, Some, None, is_some, refl, sym, ◌∙◌, inl, inr, arith}
+use Rattle.std.proofs.Common.{◌≡◌, ℕ, zero, suc, ◌+◌, ◌/◌, ◌%◌, ◌<◌, ◌≤◌, ◌==◌, Bool, true, false, cond, not, ap, slice_index_or, ◌&&◌, ◌||◌, List, [], ◌∷◌, length, Option, Some, None, is_some, refl, sym, ◌∙◌, inl, inr, arith}
 use Rattle.std.specs.List.{filter}
-use Rattle.std.specs.Prelude.{◌≢◌, if◌then◌else◌, ◌⊎◌}
+use Rattle.std.specs.Prelude.{◌≢◌, if◌then◌else◌, ◌⊎◌, option_and_then}
+use Rattle.std.proofs.lemmas.Bool.{cases_lt}
+use Rattle.std.proofs.lemmas.List.{get_or_default, get_or_past}
+use Rattle.std.proofs.lemmas.Option.{slice_get_read}
 use Rattle.hibitset_base.specs.Deciding.{eq_other, same_or_not}
 use Rattle.hibitset_store.specs.declared.pages.Pages.{Pages}
 use Rattle.hibitset_store.specs.declared.pages.TheConstants.{NO_PAGE, PAGE}
@@ -93,3 +96,26 @@ module _ {V : Type 0} where
   -- an index whose page is not made has no value
   pub value_at-unmade : (pages : Pages V) (i : ℕ) → AreLaidOut pages → start_in pages.starts.items (i / PAGE) ≡ NO_PAGE → value_at pages i ≡ None
   value_at-unmade pages i laid none = let few = few_places pages laid in value_in-past pages.places.items (place_of pages i) (omega (arith, few, none))
+
+  -- the page of an index that has a value stands in the table
+  pub page-of_some : (pages : Pages V) (i : ℕ) → AreLaidOut pages → is_some (value_at pages i) ≡ true → i / PAGE < length pages.starts.items
+  page-of_some pages i laid some = elim (cases_lt (i / PAGE) (length pages.starts.items)) [
+    | inl within ↦ within
+    | inr past ↦
+        let none : start_in pages.starts.items (i / PAGE) ≡ NO_PAGE = get_or_past pages.starts.items (i / PAGE) NO_PAGE past in
+        let few = few_places pages laid in
+        let place = place_of-some pages i some in
+        absurd (omega (arith, few, place, none))
+  ]
+
+  -- where its places begin, as the table is read
+  pub start-of_some : (pages : Pages V) (i start : ℕ) → AreLaidOut pages → is_some (value_at pages i) ≡ true → start ≡ slice_index_or pages.starts.items (i / PAGE) start → start ≡ start_in pages.starts.items (i / PAGE)
+  start-of_some pages i start laid some read = read ∙ get_or_default pages.starts.items (i / PAGE) start NO_PAGE (page-of_some pages i laid some)
+
+  -- and its value, as its place is read
+  pub value-of_some : (pages : Pages V) (i start : ℕ) (value : Option V) → AreLaidOut pages → is_some (value_at pages i) ≡ true → start ≡ slice_index_or pages.starts.items (i / PAGE) start → value ≡ slice_index_or pages.places.items (start + i % PAGE) value → value_at pages i ≡ value
+  value-of_some pages i start value laid some begins read =
+      let here : start + i % PAGE ≡ place_of pages i = ap (λ s. s + i % PAGE) (start-of_some pages i start laid some begins) in
+      let place = place_of-some pages i some in
+      ap (value_in pages.places.items) (sym here)
+      ∙ ap (option_and_then (λ v. v)) (slice_get_read pages.places.items (place_count pages) (start + i % PAGE) value refl (omega (arith, here, place)) read)

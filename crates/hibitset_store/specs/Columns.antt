@@ -1,6 +1,6 @@
 -- What a contract sees of a column: a finite map from indices to values.
-use Rattle.std.specs.Prelude.{◌≡◌, ℕ, ◌==◌, if◌then◌else◌, List, [], ◌∷◌, Option, Some, None}
-use Rattle.std.specs.List.{flat_map}
+use Rattle.std.specs.Prelude.{◌≡◌, ℕ, true, ◌==◌, if◌then◌else◌, List, [], ◌∷◌, Option, Some, None}
+use Rattle.std.specs.List.{All, flat_map}
 use Rattle.std.specs.Option.{is_some}
 use Rattle.std.specs.Borrow.{Bor}
 use Rattle.hibitset_base.specs.Members.{members_below}
@@ -24,6 +24,10 @@ module _ {V : Type 0} where
   -- the keys, ascending
   abbrev pub keys_of : Map V → List ℕ
   keys_of values = members_below MAX_EID (λ i. is_some (values i))
+
+  -- the map has each of these indices
+  abbrev pub AreKeys : Map V → List ℕ → Type 0
+  AreKeys values = All (λ i. is_some (values i) ≡ true)
 
   -- an index with its value, where it has one
   abbrev pub entry : ℕ → Option V → List (ℕ × V)

@@ -1,6 +1,6 @@
 -- Two maps joined: the indices that both have, with both values.
-use Rattle.std.specs.Prelude.{ℕ, Bool, ◌&&◌, List, [], ◌∷◌, Option, Some, None}
-use Rattle.std.specs.List.{flat_map}
+use Rattle.std.specs.Prelude.{◌≡◌, ℕ, Bool, true, ◌&&◌, List, [], ◌∷◌, Option, Some, None}
+use Rattle.std.specs.List.{All, flat_map}
 use Rattle.std.specs.Option.{is_some}
 use Rattle.std.specs.Borrow.{Bor}
 use Rattle.hibitset_base.specs.Members.{members_below}
@@ -21,6 +21,10 @@ module _ {V W : Type 0} where
   -- both maps have the index
   abbrev pub in_both : Map V → Map W → ℕ → Bool
   in_both first second i = is_some (first i) && is_some (second i)
+
+  -- both maps have each of these indices
+  abbrev pub AreInBoth : Map V → Map W → List ℕ → Type 0
+  AreInBoth first second = All (λ i. in_both first second i ≡ true)
 
   -- the join: the indices that both maps have, ascending, each with its two values
   abbrev pub joined : Map V → Map W → List (ℕ × V × W)

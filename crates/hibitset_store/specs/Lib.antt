@@ -3,6 +3,7 @@ pub mod Filling
 pub mod Columns
 pub mod Room
 pub mod Joins
+pub mod Masks
 pub mod Reads
 pub mod Walks
 pub mod Lending

@@ -1,36 +1,17 @@
 -- What a contract sees of a walk over columns that is under way.
-use Rattle.std.specs.Prelude.{ℕ, Bool, ◌&&◌, bit_and, List, Option}
+use Rattle.std.specs.Prelude.{ℕ, Bool, List, Option}
 use Rattle.std.specs.Borrow.{Bor}
 use Rattle.std.specs.Iterator.{YieldsFirstBy}
 use Rattle.hibitset.specs.BitSet.{has, word_of}
-use Rattle.hibitset.specs.declared.set.BitSet.{BitSet}
 use Rattle.hibitset_base.specs.Walk.{items_left, words_read}
-use Rattle.hibitset_base.specs.declared.virt.BitSetAnd.{BitSetAnd}
+use Rattle.hibitset_base.specs.declared.like.BitSetLike.{Ghosts}
 use Rattle.hibitset_store.specs.declared.walks.Join.{Join}
 use Rattle.hibitset_store.specs.declared.walks.JoinMasked.{JoinMasked}
 use Rattle.hibitset_store.specs.declared.walks.Iter.{Iter}
 use Rattle.hibitset_store.specs.Columns.{entries, entry_seen, value_of}
 use Rattle.hibitset_store.specs.Joins.{pairs, seen}
+use Rattle.hibitset_store.specs.Masks.{in_masks, masks_word, in_three, three_word}
 use Rattle.hibitset_store.specs.Reads.{all_reads, GoesOnReading}
-
--- two masks, intersected
-abbrev pub Masks : Type 0
-Masks = BitSetAnd (Bor BitSet) (Bor BitSet)
-
--- what both masks hold, and the words of both
-abbrev pub in_masks : Masks → ℕ → Bool
-in_masks masks i = has masks.0.now i && has masks.1.now i
-
-abbrev pub masks_word : Masks → ℕ → ℕ → ℕ
-masks_word masks l p = bit_and (word_of masks.0.now l p) (word_of masks.1.now l p)
-
-module _ {M : Type 0} where
-  -- what both masks and a third set hold, and the words of all three
-  abbrev pub in_three : (M → ℕ → Bool) → BitSetAnd Masks M → ℕ → Bool
-  in_three holds sets i = in_masks sets.0 i && holds sets.1 i
-
-  abbrev pub three_word : (M → ℕ → ℕ → ℕ) → BitSetAnd Masks M → ℕ → ℕ → ℕ
-  three_word word sets l p = bit_and (masks_word sets.0 l p) (word sets.1 l p)
 
 module _ {V W : Type 0} where
   -- the pairs that a join has still to give
@@ -48,18 +29,18 @@ module _ {V W : Type 0} where
   abbrev pub JoinSteps : Join V W → Option (ℕ × Bor V × Bor W) → Join V W → Type 0
   JoinSteps old item new = YieldsFirstBy seen pairs_left old item new × GoesOnReading masks_word old.walk new.walk
 
-  module _ {M : Type 0} where
+  module _ {M : Type 0} {g : Ghosts M} where
     -- the same of a join within a third set
-    abbrev pub masked_left : (M → ℕ → Bool) → JoinMasked V W M → List (ℕ × V × W)
+    abbrev pub masked_left : (M → ℕ → Bool) → JoinMasked V W M g → List (ℕ × V × W)
     masked_left holds join = pairs (value_of join.first.now) (value_of join.second.now) (items_left (in_three holds) join.walk)
 
-    abbrev pub masked_reads_of : JoinMasked V W M → ℕ
+    abbrev pub masked_reads_of : JoinMasked V W M g → ℕ
     masked_reads_of join = words_read join.walk
 
-    abbrev pub masked_reads_in_all : (M → ℕ → ℕ → ℕ) → JoinMasked V W M → ℕ
+    abbrev pub masked_reads_in_all : (M → ℕ → ℕ → ℕ) → JoinMasked V W M g → ℕ
     masked_reads_in_all word join = all_reads (three_word word) join.walk
 
-    abbrev pub MaskedSteps : (M → ℕ → Bool) → (M → ℕ → ℕ → ℕ) → JoinMasked V W M → Option (ℕ × Bor V × Bor W) → JoinMasked V W M → Type 0
+    abbrev pub MaskedSteps : (M → ℕ → Bool) → (M → ℕ → ℕ → ℕ) → JoinMasked V W M g → Option (ℕ × Bor V × Bor W) → JoinMasked V W M g → Type 0
     MaskedSteps holds word old item new = YieldsFirstBy seen (masked_left holds) old item new × GoesOnReading (three_word word) old.walk new.walk
 
 module _ {V : Type 0} where

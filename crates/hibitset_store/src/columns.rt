@@ -1,7 +1,7 @@
 //! Values by index, beside the set of the indices that have one.
 #![tactic(auto, unfolding(crate::specs::Columns::value_of, crate::specs::Room::places, crate::specs::Room::table_len, crate::specs::Room::words_len))]
 
-ghost use Rattle.std.specs.Prelude.{◌≡◌, ℕ, ◌/◌, ◌<◌, ◌≤◌, Some, None, ◌↔◌, IsTrue, length, IfOk, IfErr, IsOk, IsSome, OnOk, OnErr, MatchOption};
+ghost use Rattle.std.specs.Prelude.{◌≡◌, ℕ, ◌/◌, ◌<◌, ◌≤◌, true, Some, None, ◌↔◌, IsTrue, length, IfOk, IfErr, IsOk, IsSome, OnOk, OnErr, MatchOption};
 ghost use Rattle.std.specs.Borrow.{sem};
 ghost use Rattle.std.specs.Option.{is_some, option_copied_mut};
 ghost use Rattle.hibitset.specs.BitSet.{has, members_of, slice_len};
@@ -78,6 +78,15 @@ impl<V: Drop> Column<V> {
         ensures { MatchOption result (value_of self.now id ≡ None) (λ value. value_of self.now id ≡ Some value.now) }
     {
         self.pages.get(id)
+    }
+
+    // The value of a key.
+    #[inline]
+    pub(crate) fn value(&self, id: Index) -> &V
+        requires { is_some (value_of self.now id) ≡ true }
+        ensures { value_of self.now id ≡ Some result.now }
+    {
+        self.pages.value(id)
     }
 
     /// The value of an index, to be changed. Once the loan ends, the index has what was left there, and no other index has changed.

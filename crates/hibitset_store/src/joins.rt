@@ -36,7 +36,7 @@ pub fn join_masked<'a, V: Drop, W: Drop, M: BitSetLike>(
     ensures pairs { masked_left M.holds result ≡ joined_within (value_of a.now) (value_of b.now) (M.holds m) }
     ensures begun { masked_reads_of result ≡ 1 }
     ensures bound { masked_reads_in_all M.word result ≤ (LAYERS - 1) * min (length (keys_of (value_of a.now))) (length (keys_of (value_of b.now))) + 1 }
-    ensures runs { EveryRun (MaskedSteps {V = V} {W = W} M.holds M.word) (λ p. ItemsMapTo p seen (masked_left M.holds p.from)) }
+    ensures runs { EveryRun (MaskedSteps {V = V} {W = W} {g = M.BitSetLike} M.holds M.word) (λ p. ItemsMapTo p seen (masked_left M.holds p.from)) }
     ensures fits { length (masked_left M.holds result) ≤ MAX_EID }
 {
     laws();
@@ -83,7 +83,7 @@ impl<V: Drop> Column<V> {
         ensures pairs { masked_left M.holds result ≡ joined_within (value_of self.now) (value_of other.now) (M.holds m) }
         ensures begun { masked_reads_of result ≡ 1 }
         ensures bound { masked_reads_in_all M.word result ≤ (LAYERS - 1) * min (length (keys_of (value_of self.now))) (length (keys_of (value_of other.now))) + 1 }
-        ensures runs { EveryRun (MaskedSteps {V = V} {W = W} M.holds M.word) (λ p. ItemsMapTo p seen (masked_left M.holds p.from)) }
+        ensures runs { EveryRun (MaskedSteps {V = V} {W = W} {g = M.BitSetLike} M.holds M.word) (λ p. ItemsMapTo p seen (masked_left M.holds p.from)) }
         ensures fits { length (masked_left M.holds result) ≤ MAX_EID }
     {
         join_masked(self, other, m)

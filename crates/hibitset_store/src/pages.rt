@@ -1,7 +1,7 @@
 //! Values in pages, each made whole when one of its indices first gets a value.
-ghost use Rattle.std.specs.Prelude.{◌≡◌, ◌≢◌, ℕ, ◌+◌, ◌*◌, ◌/◌, ◌<◌, ◌≤◌, ◌==◌, max, length, [], Some, None, if◌then◌else◌, IsOk, IfOk, OnOk, OnErr, MatchOption, vec_len};
+ghost use Rattle.std.specs.Prelude.{◌≡◌, ◌≢◌, ℕ, ◌+◌, ◌*◌, ◌/◌, ◌<◌, ◌≤◌, ◌==◌, max, length, [], Some, None, if◌then◌else◌, true, IsOk, IfOk, OnOk, OnErr, MatchOption, vec_len};
 ghost use Rattle.std.specs.Borrow.{sem};
-ghost use Rattle.std.specs.Option.{option_copied_mut};
+ghost use Rattle.std.specs.Option.{is_some, option_copied_mut};
 ghost use Rattle.hibitset_base.specs.declared.util.TheConstants.{MAX_EID};
 ghost use Rattle.hibitset_store.specs.PageLending.{LendsPlace};
 ghost use Rattle.hibitset_store.specs.Pages.{AreAsMany, AreLaidOut, HasPlace, place_count, place_of, places_in, start_in, value_at, value_in};
@@ -51,6 +51,20 @@ impl<V: Drop> Pages<V> {
         ensures { MatchOption result (value_at self.now id ≡ None) (λ value. value_at self.now id ≡ Some value.now) }
     {
         self.places.get(self.place(id))?.as_ref()
+    }
+
+    // The value of an index that has one. It asks neither whether the page is made nor whether the place has a value.
+    #[inline]
+    pub(crate) fn value(&self, id: Index) -> &V
+        requires laid_out { AreLaidOut self.now }
+        requires some { is_some (value_at self.now id) ≡ true }
+        ensures { value_at self.now id ≡ Some result.now }
+    {
+        let place = self.starts[id as usize / PAGE] as usize + id as usize % PAGE;
+        match &self.places[place] {
+            Some(value) => value,
+            None => unreachable!(),
+        }
     }
 
     // The value of an index, to be changed. It ends in a `match` and not in `as_mut`, so that only a place with a value is lent.

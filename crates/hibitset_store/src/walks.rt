@@ -1,68 +1,58 @@
 //! Iterators over what columns have.
-ghost use Rattle.std.specs.Prelude.{◌≡◌, [], ◌∷◌, MatchOption};
+ghost use Rattle.std.specs.Prelude.{◌≡◌, true, [], ◌∷◌};
 ghost use Rattle.std.specs.Iterator.{YieldsFirstBy, item_count};
 ghost use Rattle.hibitset.specs.BitSet.{has, word_of};
 ghost use Rattle.hibitset_base.specs.Walk.{items_left};
-ghost use Rattle.hibitset_store.specs.Columns.{entries, entry, entry_seen, value_of};
-ghost use Rattle.hibitset_store.specs.Joins.{pair, pairs, seen};
+ghost use Rattle.hibitset_store.specs.Columns.{AreKeys, entries, entry_seen, value_of};
+ghost use Rattle.hibitset_store.specs.Joins.{AreInBoth, in_both, pair, pairs, seen};
+ghost use Rattle.hibitset_store.specs.Masks.{in_masks, in_three};
 ghost use Rattle.hibitset_store.specs.Reads.{GoesOnReading};
 
 use crate::columns::Column;
 use hibitset::{BitIter, BitSet, BitSetAnd, BitSetLike, Index};
 
-// An index with its values in two columns, where it has both.
+// An index that two columns have, with its values in both.
 #[inline]
 fn pair_at<'a, V: Drop, W: Drop>(
     first: &'a Column<V>,
     second: &'a Column<W>,
     id: Index,
-) -> Option<(Index, &'a V, &'a W)>
-    ensures { MatchOption result (pair id (value_of first.now id) (value_of second.now id) ≡ []) (λ item. pair id (value_of first.now id) (value_of second.now id) ≡ seen item ∷ []) }
+) -> (Index, &'a V, &'a W)
+    requires { in_both (value_of first.now) (value_of second.now) id ≡ true }
+    ensures { pair id (value_of first.now id) (value_of second.now id) ≡ seen result ∷ [] }
 {
-    Some((id, first.get(id)?, second.get(id)?))
+    (id, first.value(id), second.value(id))
 }
 
-// The next index of a walk that both columns have, with its values. A walk over an intersection of their masks gives no other.
+// The next index of a walk that gives no other than both columns have, with its values.
 #[inline]
 fn next_pair<'a, S: BitSetLike, V: Drop, W: Drop>(
     walk: &mut BitIter<S>,
     first: &'a Column<V>,
     second: &'a Column<W>,
 ) -> Option<(Index, &'a V, &'a W)>
+    requires { AreInBoth (value_of first.now) (value_of second.now) (items_left S.holds walk.old) }
     ensures step { YieldsFirstBy seen (λ walk. pairs (value_of first.now) (value_of second.now) (items_left S.holds walk)) walk.old result walk.new }
     ensures reads { GoesOnReading S.word walk.old walk.new }
+    ensures keys { AreInBoth (value_of first.now) (value_of second.now) (items_left S.holds walk.new) }
 {
-    while let Some(id) = walk.next() {
-        if let Some(item) = pair_at(first, second, id) {
-            return Some(item);
-        }
-    }
-    None
+    let id = walk.next()?;
+    Some(pair_at(first, second, id))
 }
 
-// An index with its value in a column, where it has one.
-#[inline]
-fn entry_at<'a, V: Drop>(column: &'a Column<V>, id: Index) -> Option<(Index, &'a V)>
-    ensures { MatchOption result (entry id (value_of column.now id) ≡ []) (λ item. entry id (value_of column.now id) ≡ entry_seen item ∷ []) }
-{
-    Some((id, column.get(id)?))
-}
-
-// The next index of a walk that the column has, with its value. A walk over its mask gives no other.
+// The next index of a walk that gives no other than keys of a column, with its value.
 #[inline]
 fn next_entry<'a, V: Drop>(
     walk: &mut BitIter<&'a BitSet>,
     column: &'a Column<V>,
 ) -> Option<(Index, &'a V)>
+    requires { AreKeys (value_of column.now) (items_left (λ set. has set.now) walk.old) }
     ensures step { YieldsFirstBy entry_seen (λ walk. entries (value_of column.now) (items_left (λ set. has set.now) walk)) walk.old result walk.new }
     ensures reads { GoesOnReading (λ set. word_of set.now) walk.old walk.new }
+    ensures keys { AreKeys (value_of column.now) (items_left (λ set. has set.now) walk.new) }
 {
-    while let Some(id) = walk.next() {
-        if let Some(item) = entry_at(column, id) {
-            return Some(item);
-        }
-    }
-    None
+    let id = walk.next()?;
+    Some((id, column.value(id)))
 }
 
 /// The indices that two columns have in common, ascending, with both values.
@@ -71,6 +61,7 @@ pub struct Join<'a, V: Drop, W: Drop> {
     pub(crate) walk: BitIter<BitSetAnd<&'a BitSet, &'a BitSet>>,
     pub(crate) first: &'a Column<V>,
     pub(crate) second: &'a Column<W>,
+    ghost keyed: { AreInBoth (value_of first.now) (value_of second.now) (items_left in_masks walk) },
 }
 
 impl<'a, V: Drop, W: Drop> Iterator for Join<'a, V, W> {
@@ -94,6 +85,7 @@ pub struct JoinMasked<'a, V: Drop, W: Drop, M: BitSetLike> {
     pub(crate) walk: BitIter<BitSetAnd<BitSetAnd<&'a BitSet, &'a BitSet>, M>>,
     pub(crate) first: &'a Column<V>,
     pub(crate) second: &'a Column<W>,
+    ghost keyed: { AreInBoth (value_of first.now) (value_of second.now) (items_left (in_three M.holds) walk) },
 }
 
 impl<'a, V: Drop, W: Drop, M: BitSetLike> Iterator for JoinMasked<'a, V, W, M> {
@@ -116,6 +108,7 @@ impl<'a, V: Drop, W: Drop, M: BitSetLike> Iterator for JoinMasked<'a, V, W, M> {
 pub struct Iter<'a, V: Drop> {
     pub(crate) walk: BitIter<&'a BitSet>,
     pub(crate) column: &'a Column<V>,
+    ghost keyed: { AreKeys (value_of column.now) (items_left (λ set. has set.now) walk) },
 }
 
 impl<'a, V: Drop> Iterator for Iter<'a, V> {

@@ -1,11 +1,13 @@
-use Rattle.std.proofs.Common.{◌∙◌, length, ap, arith}
+use Rattle.std.specs.Option.{is_some}
+use Rattle.std.proofs.Common.{◌≡◌, true, ◌∙◌, length, ap, arith}
 use Rattle.std.proofs.iter.runs.Sources.{from_front}
 use Rattle.hibitset.specs.BitSet.{has, word_of}
 use Rattle.hibitset_base.specs.Walk.{items_left, words_ahead}
 use Rattle.hibitset_store.specs.Columns.{value_of}
-use Rattle.hibitset_store.specs.Joins.{pairs, seen}
-use Rattle.hibitset_store.specs.Walks.{JoinSteps, in_masks, masks_word, pairs_left}
-use Rattle.hibitset_store.proofs.Joining.{pairs-joined, pairs-length}
+use Rattle.hibitset_store.specs.Joins.{in_both, pairs, seen}
+use Rattle.hibitset_store.specs.Masks.{in_masks, masks_word}
+use Rattle.hibitset_store.specs.Walks.{JoinSteps, pairs_left}
+use Rattle.hibitset_store.proofs.Joining.{all-items, pairs-joined, pairs-length}
 use Rattle.hibitset_store.proofs.Bounding.{few_reads}
 use Rattle.hibitset_store.proofs.joins.join.Goals as goal
 
@@ -34,3 +36,13 @@ pub returns-clause-fits : goal.returns-clause-fits
 returns-clause-fits g c =
     let few = pairs-length (value_of c.args.a.now) (value_of c.args.b.now) (items_left in_masks c.iter.result) in
     omega (arith, few, c.iter.ensures.fits)
+
+pub invariant_of-result : goal.invariant_of-result
+invariant_of-result g c =
+    let p = value_of c.args.a.now in
+    let q = value_of c.args.b.now in
+    let masks = c.bitand.result in
+    record {
+      keyed = all-items (λ i. in_both p q i ≡ true) (in_masks masks) (items_left in_masks c.iter.result) c.iter.ensures.items
+          (λ i on. let first : has masks.0.now i ≡ is_some (p i) = rw c.bitand.ensures.0 (c.mask.ensures.keys i) in let second : has masks.1.now i ≡ is_some (q i) = rw c.bitand.ensures.1 (c.mask-2.ensures.keys i) in grind (arith, first, second, on));
+    }

@@ -1,11 +1,13 @@
-use Rattle.std.proofs.Common.{◌∙◌, length, ap, arith}
+use Rattle.std.specs.Option.{is_some}
+use Rattle.std.proofs.Common.{◌≡◌, true, ◌∙◌, length, ap, arith}
 use Rattle.std.proofs.iter.runs.Sources.{from_front}
 use Rattle.hibitset.specs.BitSet.{has, word_of}
 use Rattle.hibitset_base.specs.Walk.{items_left, words_ahead}
 use Rattle.hibitset_store.specs.Columns.{value_of}
-use Rattle.hibitset_store.specs.Joins.{pairs, seen}
-use Rattle.hibitset_store.specs.Walks.{MaskedSteps, in_three, three_word, masked_left}
-use Rattle.hibitset_store.proofs.Joining.{pairs-joined_within, pairs-length}
+use Rattle.hibitset_store.specs.Joins.{in_both, pairs, seen}
+use Rattle.hibitset_store.specs.Masks.{in_three, three_word}
+use Rattle.hibitset_store.specs.Walks.{MaskedSteps, masked_left}
+use Rattle.hibitset_store.proofs.Joining.{all-items, pairs-joined_within, pairs-length}
 use Rattle.hibitset_store.proofs.Bounding.{encloses-and, few_reads}
 use Rattle.hibitset_store.proofs.joins.join_masked.Goals as goal
 
@@ -38,3 +40,14 @@ pub returns-clause-fits : goal.returns-clause-fits
 returns-clause-fits g c =
     let few = pairs-length (value_of c.args.a.now) (value_of c.args.b.now) (items_left (in_three g.M.BitSetLike.holds) c.iter.result) in
     omega (arith, few, c.iter.ensures.fits)
+
+pub invariant_of-result : goal.invariant_of-result
+invariant_of-result g c =
+    let p = value_of c.args.a.now in
+    let q = value_of c.args.b.now in
+    let holds = g.M.BitSetLike.holds in
+    let sets = c.bitand-2.result in
+    record {
+      keyed = all-items (λ i. in_both p q i ≡ true) (in_three holds sets) (items_left (in_three holds) c.iter.result) c.iter.ensures.items
+          (λ i on. let first : has sets.0.0.now i ≡ is_some (p i) = rw (c.bitand-2.ensures.0, c.bitand.ensures.0) (c.mask.ensures.keys i) in let second : has sets.0.1.now i ≡ is_some (q i) = rw (c.bitand-2.ensures.0, c.bitand.ensures.1) (c.mask-2.ensures.keys i) in grind (arith, first, second, on));
+    }

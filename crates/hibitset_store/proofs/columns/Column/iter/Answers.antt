@@ -1,10 +1,11 @@
-use Rattle.std.proofs.Common.{length, ap, arith}
+use Rattle.std.specs.Option.{is_some}
+use Rattle.std.proofs.Common.{◌≡◌, true, sym, ◌∙◌, length, ap, arith}
 use Rattle.std.proofs.iter.runs.Sources.{from_front}
 use Rattle.hibitset.specs.BitSet.{has, word_of}
 use Rattle.hibitset_base.specs.Walk.{items_left, words_ahead}
 use Rattle.hibitset_store.specs.Columns.{entry_seen, value_of}
 use Rattle.hibitset_store.specs.Walks.{IterSteps, entries_left}
-use Rattle.hibitset_store.proofs.Joining.{entries-length}
+use Rattle.hibitset_store.proofs.Joining.{all-items, entries-length}
 use Rattle.hibitset_store.proofs.Bounding.{encloses-itself, few_reads_of}
 use Rattle.hibitset_store.proofs.columns.Column.iter.Goals as goal
 
@@ -23,3 +24,8 @@ pub returns-clause-fits : goal.returns-clause-fits
 returns-clause-fits g c =
     let few = entries-length (value_of c.args.self.now) (items_left (λ set. has set.now) c.iter.result) in
     omega (arith, few, c.iter.ensures.fits)
+
+pub invariant_of-result : goal.invariant_of-result
+invariant_of-result g c = record {
+  keyed = all-items (λ i. is_some (value_of c.args.self.now i) ≡ true) (has c.mask.result.now) (items_left (λ set. has set.now) c.iter.result) c.iter.ensures.items (λ i on. sym (c.mask.ensures.keys i) ∙ on);
+}
