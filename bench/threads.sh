@@ -39,11 +39,14 @@ rows() { # PROCESSORS: one line a call: what, set, members, nanoseconds of ours 
     "$ours" parallel "$repeats" >"$work/ours.txt"
     if [ -n "$theirs" ]; then "$theirs" parallel "$repeats" >"$work/theirs.txt"; else : >"$work/theirs.txt"; fi
     awk -F '\t' '
+        # How many members a set has: no index lies past 2^24, so that a thin set has no more than this.
+        function members(set, size) { most = set == "10 %" ? 1680000 : set == "1 %" ? 168000 : size; return size < most ? size : most }
         FILENAME ~ /theirs/ { theirs[$1 FS $2 FS $3 FS $4] = $5; next }
         $4 == "alone" { alone = $5; next }
+        shown[$1 FS $2 FS members($2, $3)]++ { next }
         {
             original = theirs[$1 FS $2 FS $3 FS $4]
-            printf "| %s, %s, %d | %.1f | %s | %s | %.1f | %.2f |\n", $1, $2, $3, $5 / 1000, original ? sprintf("%.1f", original / 1000) : "-",
+            printf "| %s, %s, %d | %.1f | %s | %s | %.1f | %.2f |\n", $1, $2, members($2, $3), $5 / 1000, original ? sprintf("%.1f", original / 1000) : "-",
                 original ? sprintf("%.2f", $5 / original) : "-", alone / 1000, $6 / 10000
         }
     ' "$work/theirs.txt" "$work/ours.txt"
