@@ -1,4 +1,4 @@
-use Rattle.std.proofs.Common.{◌≡◌, is_some, sym, ◌∙◌, ap, arith}
+use Rattle.std.proofs.Common.{is_some, sym, ◌∙◌, ap, arith}
 use Rattle.std.proofs.lemmas.Bool.{false≢true}
 use Rattle.hibitset_store.proofs.Paging.{page-of_some, place_of-some, start-of_some, value-of_some}
 use Rattle.hibitset_store.proofs.pages.Pages.value.Goals as goal
