@@ -53,7 +53,7 @@ impl<V: Drop> Pages<V> {
         self.places.get(self.place(id))?.as_ref()
     }
 
-    // The value of an index that has one. It asks neither whether the page is made nor whether the place has a value.
+    // The value of an index that has one. It does not ask whether the page is made, nor whether the place lies in the list.
     #[inline]
     pub(crate) fn value(&self, id: Index) -> &V
         requires laid_out { AreLaidOut self.now }
