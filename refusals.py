@@ -72,7 +72,7 @@ CALLS = {
         "BitSet::with_capacity": "sets::with_capacity sets::add_past_the_last_word",
     },
     "hibitset_store": {
-        "Column::insert": "columns::insert",
+        "Column::insert": "columns::insert columns::insert_in_order",
     },
     "uses": {
         "Ids::alloc": "callers::alloc",
@@ -107,7 +107,8 @@ OTHERS = "columns::collect callers::take"
 
 # The tests of calls that make no request.
 ROOM = """sets sets_with_room sets_with_room_of_adds sets_with_room_of_assignments virtual_sets atomic_sets
-settled_sets shared_sets last_shares new_worlds worlds parts columns identifiers pages tasks tags"""
+settled_sets shared_sets last_shares new_worlds worlds parts columns columns_in_order identifiers pages
+tasks tags"""
 
 # How many requests the call of each test makes where none is refused. A call that does its work twice is seen here alone.
 REQUESTS = {
@@ -144,6 +145,7 @@ REQUESTS = {
     "callers::widen": 1,
     "columns::collect": 1,
     "columns::insert": 3,
+    "columns::insert_in_order": 1,
     "copies::complement": 1,
     "copies::intersection": 2,
     "copies::symmetric_difference": 2,

@@ -13,6 +13,7 @@ registry=${REGISTRY:-/usr/share/cargo/registry}
 . "$here/library.sh"
 crate=$here/../crates/hibitset_bench_threads
 work=$here/out/threads
+cores=$(nproc)
 rm -rf "$work/hibitset"
 mkdir -p "$work/src" "$work/.cargo" "$work/hibitset/src" "$work/atom/src"
 
@@ -79,25 +80,32 @@ shared_rows() { # one line a row: what, which indices, how many threads, nanosec
     ' "$work/theirs.txt" "$work/ours.txt"
 }
 
-machine() {
-    printf '%s, %s cores of %s; %s; medians of %s %s, load average %s.\n' "$(date -u +%Y-%m-%d)" "$(nproc)" \
-        "$(sed -n 's/^model name[^:]*: *//p' /proc/cpuinfo | head -n 1)" "$(rt version)" "$repeats" "$1" "$(cut -d ' ' -f 1 /proc/loadavg)"
+stolen() { # how many hundredths of a second of processors the host has taken away since it started
+    awk '$1 == "cpu" { print $9 }' /proc/stat
 }
 
+machine() { # WHAT STOLEN SECONDS: the line above a table, once its rows are made; what was stolen when they began, and how long they took
+    printf '%s, %s cores of %s; %s; medians of %s %s, load average %s; the host took %s %% of the processors away.\n' "$(date -u +%Y-%m-%d)" "$cores" \
+        "$(sed -n 's/^model name[^:]*: *//p' /proc/cpuinfo | head -n 1)" "$(rt version)" "$repeats" "$1" "$(cut -d ' ' -f 1 /proc/loadavg)" \
+        "$(awk -v taken="$(($(stolen) - $2))" -v seconds="$3" -v cores="$cores" 'BEGIN { printf "%.1f", taken / (seconds * cores) }')"
+}
+
+began=$(date +%s) before=$(stolen)
 {
-    machine rounds
     printf '\n| nanoseconds an index | ours | original | ratio | aim |\n|---|---:|---:|---:|---:|\n'
     shared_rows
-} >"$work/shared.md"
+} >"$work/shared.rows"
+{ machine rounds "$before" "$(($(date +%s) - began))"; cat "$work/shared.rows"; } >"$work/shared.md"
+began=$(date +%s) before=$(stolen)
 {
-    machine calls
     for processors in all one; do
         printf '\n| on %s (microseconds a call) | ours | original | ratio | our own walk | ratio |\n|---|---:|---:|---:|---:|---:|\n' \
             "$([ $processors = all ] && echo "all processors" || echo "one processor")"
         if [ $processors = one ]; then taskset -p -c 0 $$ >/dev/null; fi
         rows
     done
-} >"$work/threads.md"
+} >"$work/threads.rows"
+{ machine calls "$before" "$(($(date +%s) - began))"; cat "$work/threads.rows"; } >"$work/threads.md"
 cat "$work/threads.md"
 echo
 cat "$work/shared.md"

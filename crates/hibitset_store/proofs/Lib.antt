@@ -1,5 +1,6 @@
 pub mod Paging
 pub mod Making
+mod Moving
 pub mod Sizing
 pub mod Filling
 pub mod Joining

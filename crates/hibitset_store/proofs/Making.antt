@@ -1,14 +1,15 @@
--- A page that is made: its places come after all others, and no value changes.
-use Rattle.std.proofs.Common.{◌≡◌, ℕ, zero, suc, ◌+◌, ◌/◌, ◌%◌, ◌*◌, ◌<◌, ◌≤◌, Bool, true, false, cond, List, [], ◌∷◌, ◌++◌, length, set, refl, sym, ◌∙◌, ap, inl, inr, arith}
+-- A page that is made, in order or after all others, and no value changes.
+use Rattle.std.proofs.Common.{◌≡◌, ℕ, zero, suc, ◌+◌, ◌-◌, ◌/◌, ◌%◌, ◌*◌, ◌<◌, ◌≤◌, Bool, true, false, cond, List, [], ◌∷◌, ◌++◌, drop, length, set, is_some, refl, sym, ◌∙◌, ap, inl, inr, arith, length-append}
 use Rattle.std.specs.List.{filter}
 use Rattle.std.specs.Prelude.{◌≢◌, if◌then◌else◌, replicate, take}
-use Rattle.std.proofs.lemmas.List.{get_or-set_other, get_or-set_same, length-set, take_all}
+use Rattle.std.proofs.lemmas.Bool.{cases_lt}
+use Rattle.std.proofs.lemmas.List.{drop-append-le, drop-set-add, drop-set-lt, get_or-drop, get_or-set_other, get_or-set_same, length-drop, length-set, take_all}
 use Rattle.hibitset_base.specs.Deciding.{same_or_not}
 use Rattle.hibitset_base.specs.declared.util.TheConstants.{MAX_EID}
 use Rattle.hibitset_store.specs.declared.pages.Pages.{Pages}
 use Rattle.hibitset_store.specs.declared.pages.TheConstants.{NO_PAGE, PAGE}
 use Rattle.hibitset_store.specs.Pages.{AreLaidOut, HasPlace, is_made, pages_made, place_count, place_of, places_in, start_in, value_at, value_in}
-use Rattle.hibitset_store.proofs.Paging.{few_made, few_places, is_made-below, placed, value_at-unmade, value_in-past}
+use Rattle.hibitset_store.proofs.Paging.{few_made, few_places, is_made-below, made_places, order-within, place_of-behind, place_of-ordered, place_of-same, place_of-some, placed, value_at-equal, value_at-unmade, value_in-past}
 
 -- the table with pages at its end that are not made
 pub start_in-more : (starts : List ℕ) (n p : ℕ) → start_in (starts ++ replicate n NO_PAGE) p ≡ start_in starts p
@@ -37,67 +38,180 @@ pages_made-set (first ∷ starts) (suc page) start within none made = by (is_mad
     by true more = ap suc more
     by false more = more
 
+-- the same of the pages behind the first n
+pub pages_made-drop_more : (starts : List ℕ) (n more : ℕ) → n ≤ length starts → pages_made (drop n (starts ++ replicate more NO_PAGE)) ≡ pages_made (drop n starts)
+pages_made-drop_more starts n more within = ap pages_made (drop-append-le n starts (replicate more NO_PAGE) within) ∙ pages_made-more (drop n starts) more
+
+pub pages_made-drop_set : (starts : List ℕ) (n page start : ℕ) → n ≤ page → page < length starts → start_in starts page ≡ NO_PAGE → is_made start ≡ true → pages_made (drop n (set starts page start)) ≡ suc (pages_made (drop n starts))
+pages_made-drop_set starts n page start behind within none made =
+    let k = page - n in
+    let at : page ≡ n + k = omega (arith, behind) in
+    let long = length-drop n starts in
+    ap (λ q. pages_made (drop n (set starts q start))) at
+    ∙ (ap pages_made (drop-set-add n starts k start)
+    ∙ pages_made-set (drop n starts) k start (omega (arith, long, within, at, behind)) (get_or-drop n starts k NO_PAGE ∙ (ap (start_in starts) (sym at) ∙ none)) made)
+
+-- one more than behind the first n + 1, where page n is made
+pub pages_made-drop : (starts : List ℕ) (n : ℕ) → n < length starts → is_made (start_in starts n) ≡ true → pages_made (drop n starts) ≡ suc (pages_made (drop (suc n) starts))
+pages_made-drop [] n within made = absurd (omega (arith, within))
+pages_made-drop (start ∷ starts) zero within made = rw made refl
+pages_made-drop (start ∷ starts) (suc n) within made = pages_made-drop starts n (omega (arith, within)) made
+
 module _ {V : Type 0} where
-  -- Pages with the same starts are laid out as they were.
-  pub AreLaidOut-kept : (old new : Pages V) → ((p : ℕ) → start_in new.starts.items p ≡ start_in old.starts.items p) → pages_made new.starts.items ≡ pages_made old.starts.items → place_count new ≡ place_count old
-      → length new.starts.items ≤ MAX_EID / PAGE → AreLaidOut old → AreLaidOut new
-  AreLaidOut-kept old new starts made count few laid = record {
+  -- Pages whose places are the same are laid out as they were, where their table and their order fit.
+  pub AreLaidOut-kept : (old new : Pages V) → ((i : ℕ) → place_of new i ≡ place_of old i) → place_count new ≡ place_count old
+      → length new.starts.items ≤ MAX_EID / PAGE → new.in_order ≡ PAGE * (new.in_order / PAGE) → new.in_order ≤ PAGE * length new.starts.items
+      → place_count new ≡ new.in_order + PAGE * pages_made (drop (new.in_order / PAGE) new.starts.items)
+      → ((i : ℕ) → places_in new (i / PAGE) ≡ PAGE → HasPlace old i)
+      → ((i : ℕ) → is_some (value_at new i) ≡ true → places_in new (i / PAGE) ≡ PAGE)
+      → AreLaidOut old → AreLaidOut new
+  AreLaidOut-kept old new places count few whole ordered counts there made laid = record {
     few = few;
-    counts = omega (arith, made, count, laid.counts);
-    there = λ i here. let place = places i in let there = laid.there i (ap (λ start. if is_made start then PAGE else 0) (sym (starts (i / PAGE))) ∙ here) in omega (arith, place, there, count);
+    whole = whole;
+    ordered = ordered;
+    counts = counts;
+    there = λ i here. let place = places i in let was = there i here in omega (arith, place, was, count);
     apart = λ i j here same. let one = places i in let two = places j in laid.apart i j (omega (arith, here, one, count)) (omega (arith, one, two, same));
+    made = made;
   }
+
+  -- as they are where nothing is new
+  pub AreLaidOut-equal : (old new : Pages V) → new.starts.items ≡ old.starts.items → new.places.items ≡ old.places.items → new.in_order ≡ old.in_order → AreLaidOut old → AreLaidOut new
+  AreLaidOut-equal old new starts places order laid = AreLaidOut-kept old new
+      (λ i. place_of-same old new i order (ap (λ starts. start_in starts (i / PAGE)) starts))
+      (ap length places) (rw starts laid.few) (rw order laid.whole) (rw (starts, order) laid.ordered)
+      (ap length places ∙ (laid.counts ∙ rw (order, starts) refl))
+      (λ i here. laid.there i (sym (same (i / PAGE)) ∙ here))
+      (λ i some. same (i / PAGE) ∙ laid.made i (ap is_some (sym (value_at-equal old new starts places order i)) ∙ some))
+      laid
     where
-      places : (i : ℕ) → place_of new i ≡ place_of old i
-      places i = ap (λ start. start + i % PAGE) (starts (i / PAGE))
+      same : (p : ℕ) → places_in new p ≡ places_in old p
+      same p = ap (λ starts. if is_made (start_in starts p) then PAGE else 0) starts
 
   -- as they are where the table goes farther
-  pub AreLaidOut-longer : (old new : Pages V) (n more : ℕ) → new.starts.items ≡ take n old.starts.items ++ replicate more NO_PAGE → new.places.items ≡ old.places.items → length old.starts.items ≤ n → length new.starts.items ≤ MAX_EID / PAGE
+  pub AreLaidOut-longer : (old new : Pages V) (n more : ℕ) → new.starts.items ≡ take n old.starts.items ++ replicate more NO_PAGE → new.places.items ≡ old.places.items → new.in_order ≡ old.in_order → length old.starts.items ≤ n → length new.starts.items ≤ MAX_EID / PAGE
       → AreLaidOut old → AreLaidOut new
-  AreLaidOut-longer old new n more starts places short few laid =
-      let is : new.starts.items ≡ old.starts.items ++ replicate more NO_PAGE = starts ∙ ap (λ list. list ++ replicate more NO_PAGE) (take_all n old.starts.items short) in
-      AreLaidOut-kept old new (λ p. rw is (start_in-more old.starts.items more p)) (rw is (pages_made-more old.starts.items more)) (ap length places) few laid
+  AreLaidOut-longer old new n more starts places order short few laid = AreLaidOut-kept old new places-new (ap length places) few (rw order laid.whole)
+      (let long = ap length is ∙ length-append old.starts.items (replicate more NO_PAGE) in let ordered = laid.ordered in omega (arith, order, long, ordered))
+      (ap length places ∙ (laid.counts ∙ sym (rw (order, is) (ap (λ made. old.in_order + PAGE * made) (pages_made-drop_more old.starts.items (old.in_order / PAGE) more (let ordered = laid.ordered in omega (arith, ordered)))))))
+      (λ i here. laid.there i (sym (in-new (i / PAGE)) ∙ here))
+      (λ i some. in-new (i / PAGE) ∙ laid.made i (ap is_some (sym (values i)) ∙ some))
+      laid
+    where
+      is : new.starts.items ≡ old.starts.items ++ replicate more NO_PAGE
+      is = starts ∙ ap (λ list. list ++ replicate more NO_PAGE) (take_all n old.starts.items short)
+
+      starts-new : (p : ℕ) → start_in new.starts.items p ≡ start_in old.starts.items p
+      starts-new p = rw is (start_in-more old.starts.items more p)
+
+      in-new : (p : ℕ) → places_in new p ≡ places_in old p
+      in-new p = ap (λ start. if is_made start then PAGE else 0) (starts-new p)
+
+      places-new : (i : ℕ) → place_of new i ≡ place_of old i
+      places-new i = place_of-same old new i order (starts-new (i / PAGE))
+
+      values : (i : ℕ) → value_at new i ≡ value_at old i
+      values i = ap (λ list. value_in list (place_of new i)) places ∙ ap (value_in old.places.items) (places-new i)
 
   -- where there is no page there is nothing to lay out
-  pub AreLaidOut-none : (pages : Pages V) → pages.starts.items ≡ [] → pages.places.items ≡ [] → AreLaidOut pages
-  AreLaidOut-none pages starts places = record {
+  pub AreLaidOut-none : (pages : Pages V) → pages.starts.items ≡ [] → pages.places.items ≡ [] → pages.in_order ≡ 0 → AreLaidOut pages
+  AreLaidOut-none pages starts places order = record {
     few = rw starts (omega arith);
-    counts = rw (starts, places) refl;
+    whole = rw order refl;
+    ordered = rw order (omega arith);
+    counts = ap length places ∙ sym (rw (order, starts) refl);
     there = λ i made. absurd (let none : 0 ≡ PAGE = rw starts at made in omega (arith, none));
-    apart = λ i j here same. absurd (let none : place_of pages i < 0 = rw places at here in omega (arith, none));
+    apart = λ i j here same. absurd (let none = ap length places in omega (arith, none, here));
+    made = λ i some. absurd (let none = ap length places in let here = place_of-some pages i some in omega (arith, none, here));
   }
 
-  -- A page was made.
-  module _ (old new : Pages V) (page start : ℕ) (begins : start ≡ place_count old) (laid : AreLaidOut old) (within : page < length old.starts.items) (none : start_in old.starts.items page ≡ NO_PAGE)
-      (starts : new.starts.items ≡ set old.starts.items page start) (places : (j : ℕ) → value_in new.places.items j ≡ value_in old.places.items j) (count-new : place_count new ≡ place_count old + PAGE) where
-    start-here : start_in new.starts.items page ≡ start
+  -- A page was made whose indices have places already, in order.
+  module _ (old new : Pages V) (page : ℕ) (laid : AreLaidOut old) (within : page < length old.starts.items) (ordered : page * PAGE < old.in_order)
+      (starts : new.starts.items ≡ set old.starts.items page (page * PAGE)) (places : new.places.items ≡ old.places.items) (order : new.in_order ≡ old.in_order) where
+    start-at : start_in new.starts.items page ≡ page * PAGE
+    start-at = rw starts (get_or-set_same old.starts.items page (page * PAGE) NO_PAGE within)
+
+    start-beside : (p : ℕ) → p ≢ page → start_in new.starts.items p ≡ start_in old.starts.items p
+    start-beside p other = rw starts (get_or-set_other old.starts.items page p (page * PAGE) NO_PAGE other)
+
+    pub places_in-ordered : places_in new page ≡ PAGE
+    places_in-ordered = let few = laid.few in let most = laid.ordered in made_places (start_in new.starts.items page) (λ none. absurd (omega (arith, start-at, none, few, within)))
+
+    pub places_in-beside : (p : ℕ) → p ≢ page → places_in new p ≡ places_in old p
+    places_in-beside p other = ap (λ start. if is_made start then PAGE else 0) (start-beside p other)
+
+    places-same : (i : ℕ) → place_of new i ≡ place_of old i
+    places-same i = elim (same_or_not (i / PAGE) page) [
+      | inl here ↦
+          let whole = laid.whole in
+          let below : i < old.in_order = omega (arith, here, whole, ordered) in
+          place_of-ordered new i (omega (arith, below, order)) ∙ sym (place_of-ordered old i below)
+      | inr other ↦ place_of-same old new i order (start-beside (i / PAGE) other)
+    ]
+
+    pub value_at-ordered : (i : ℕ) → value_at new i ≡ value_at old i
+    value_at-ordered i = ap (λ list. value_in list (place_of new i)) places ∙ ap (value_in old.places.items) (places-same i)
+
+    pub AreLaidOut-ordered : AreLaidOut new
+    AreLaidOut-ordered = AreLaidOut-kept old new places-same (ap length places) (rw (starts, length-set old.starts.items page (page * PAGE)) laid.few) (rw order laid.whole)
+        (rw (starts, length-set old.starts.items page (page * PAGE), order) laid.ordered)
+        (ap length places ∙ (laid.counts ∙ sym (rw (order, starts) (ap (λ list. old.in_order + PAGE * pages_made list) (drop-set-lt (old.in_order / PAGE) old.starts.items page (page * PAGE) (let whole = laid.whole in omega (arith, whole, ordered)))))))
+        (λ i made. elim (same_or_not (i / PAGE) page) [
+          | inl here ↦
+              let whole = laid.whole in
+              let below : i < old.in_order = omega (arith, here, whole, ordered) in
+              let place = place_of-ordered old i below in
+              let enough = order-within old laid in
+              omega (arith, place, enough, below)
+          | inr other ↦ laid.there i (sym (places_in-beside (i / PAGE) other) ∙ made)
+        ])
+        (λ i some. elim (same_or_not (i / PAGE) page) [
+          | inl here ↦ ap (places_in new) here ∙ places_in-ordered
+          | inr other ↦ places_in-beside (i / PAGE) other ∙ laid.made i (ap is_some (sym (value_at-ordered i)) ∙ some)
+        ])
+        laid
+
+  -- A page was made whose places come after all others.
+  module _ (old new : Pages V) (page start : ℕ) (begins : start ≡ place_count old) (laid : AreLaidOut old) (within : page < length old.starts.items) (behind : old.in_order ≤ page * PAGE) (none : start_in old.starts.items page ≡ NO_PAGE)
+      (starts : new.starts.items ≡ set old.starts.items page start) (order : new.in_order ≡ old.in_order) (places : (j : ℕ) → value_in new.places.items j ≡ value_in old.places.items j) (count-new : place_count new ≡ place_count old + PAGE) where
+    pub start-here : start_in new.starts.items page ≡ start
     start-here = rw starts (get_or-set_same old.starts.items page start NO_PAGE within)
 
     start-there : (p : ℕ) → p ≢ page → start_in new.starts.items p ≡ start_in old.starts.items p
     start-there p other = rw starts (get_or-set_other old.starts.items page p start NO_PAGE other)
 
-    made-start : is_made start ≡ true
+    pub made-start : is_made start ≡ true
     made-start = let few = few_places old laid in is_made-below start (omega (arith, few, begins))
-
-    made-new : pages_made new.starts.items ≡ suc (pages_made old.starts.items)
-    made-new = rw starts (pages_made-set old.starts.items page start within none made-start)
 
     few-new : length new.starts.items ≤ MAX_EID / PAGE
     few-new = rw (starts, length-set old.starts.items page start) laid.few
 
-    counts-new : place_count new ≡ PAGE * pages_made new.starts.items
-    counts-new = let before = laid.counts in omega (arith, count-new, made-new, before)
+    ordered-new : new.in_order ≤ PAGE * length new.starts.items
+    ordered-new = rw (starts, length-set old.starts.items page start, order) laid.ordered
+
+    counts-new : place_count new ≡ new.in_order + PAGE * pages_made (drop (new.in_order / PAGE) new.starts.items)
+    counts-new =
+        let before = laid.counts in
+        let one = pages_made-drop_set old.starts.items (old.in_order / PAGE) page start (omega (arith, behind)) within none made-start in
+        rw (order, starts) (omega (arith, count-new, before, one))
 
     limit : place_count new < NO_PAGE
-    limit = let few = few_made new.starts.items in omega (arith, few-new, few, counts-new)
+    limit =
+        let few = few_made (drop (new.in_order / PAGE) new.starts.items) in
+        let rest = length-drop (new.in_order / PAGE) new.starts.items in
+        let whole = laid.whole in
+        omega (arith, few-new, few, rest, counts-new, ordered-new, whole, order)
 
     place-here : (i : ℕ) → i / PAGE ≡ page → place_of new i ≡ place_count old + i % PAGE
-    place-here i here = ap (λ p. start_in new.starts.items p + i % PAGE) here ∙ ap (λ n. n + i % PAGE) (start-here ∙ begins)
+    place-here i here = place_of-behind new i (omega (arith, here, behind, order)) ∙ (ap (λ p. start_in new.starts.items p + i % PAGE) here ∙ ap (λ n. n + i % PAGE) (start-here ∙ begins))
 
     place-there : (i : ℕ) → i / PAGE ≢ page → place_of new i ≡ place_of old i
-    place-there i other = ap (λ n. n + i % PAGE) (start-there (i / PAGE) other)
+    place-there i other = place_of-same old new i order (start-there (i / PAGE) other)
 
-    made-there : (p : ℕ) → p ≢ page → places_in new p ≡ places_in old p
+    pub made-here : places_in new page ≡ PAGE
+    made-here = ap (λ start. if is_made start then PAGE else 0) start-here ∙ rw made-start refl
+
+    pub made-there : (p : ℕ) → p ≢ page → places_in new p ≡ places_in old p
     made-there p other = ap (λ start. if is_made start then PAGE else 0) (start-there p other)
 
     pub value_at-made : (i : ℕ) → value_at new i ≡ value_at old i
@@ -119,17 +233,91 @@ module _ {V : Type 0} where
       | inr other ↦ let place = place-there i other in let there = laid.there i (sym (made-there (i / PAGE) other) ∙ made) in omega (arith, place, there, count-new)
     ]
 
+    -- the place of an index of the new page is not that of one of another
+    not-there : (i j : ℕ) → i / PAGE ≡ page → j / PAGE ≢ page → HasPlace new i → place_of new i ≢ place_of new j
+    not-there i j here other has same =
+        let first = place-here i here in
+        let before = old_place j other (omega (arith, has, same)) in
+        let second = place-there j other in
+        omega (arith, first, second, same, before)
+
     apart-new : (i j : ℕ) → HasPlace new i → place_of new i ≡ place_of new j → i ≡ j
     apart-new i j here same = elim (same_or_not (i / PAGE) page) [
-      | inl one ↦ let first = place-here i one in elim (same_or_not (j / PAGE) page) [
-        | inl two ↦ let second = place-here j two in omega (arith, first, second, same, one, two)
-        | inr two ↦ let second = place-there j two in let before = old_place j two (omega (arith, here, same)) in absurd (omega (arith, first, second, same, before))
+      | inl one ↦ elim (same_or_not (j / PAGE) page) [
+        | inl two ↦ let first = place-here i one in let second = place-here j two in omega (arith, first, second, same, one, two)
+        | inr two ↦ absurd (not-there i j one two here same)
       ]
-      | inr one ↦ let first = place-there i one in let before = old_place i one here in elim (same_or_not (j / PAGE) page) [
-        | inl two ↦ let second = place-here j two in absurd (omega (arith, first, second, same, before))
-        | inr two ↦ let second = place-there j two in laid.apart i j before (omega (arith, first, second, same))
+      | inr one ↦ elim (same_or_not (j / PAGE) page) [
+        | inl two ↦ absurd (not-there j i two one (omega (arith, here, same)) (sym same))
+        | inr two ↦ let first = place-there i one in let second = place-there j two in laid.apart i j (old_place i one here) (omega (arith, first, second, same))
       ]
     ]
 
+    made-new : (i : ℕ) → is_some (value_at new i) ≡ true → places_in new (i / PAGE) ≡ PAGE
+    made-new i some = elim (same_or_not (i / PAGE) page) [
+      | inl here ↦ ap (places_in new) here ∙ made-here
+      | inr other ↦ made-there (i / PAGE) other ∙ laid.made i (ap is_some (sym (value_at-made i)) ∙ some)
+    ]
+
     pub AreLaidOut-made : AreLaidOut new
-    AreLaidOut-made = record { few = few-new; counts = counts-new; there = there-new; apart = apart-new }
+    AreLaidOut-made = record { few = few-new; whole = rw order laid.whole; ordered = ordered-new; counts = counts-new; there = there-new; apart = apart-new; made = made-new }
+
+  -- The part that lies in order takes in the next page, whose places follow it.
+  module _ (old new : Pages V) (page : ℕ) (laid : AreLaidOut old) (within : page < length old.starts.items) (next : page * PAGE ≡ old.in_order) (begins : start_in old.starts.items page ≡ page * PAGE)
+      (starts : new.starts.items ≡ old.starts.items) (places : new.places.items ≡ old.places.items) (order : new.in_order ≡ old.in_order + PAGE) where
+    places-next : (i : ℕ) → place_of new i ≡ place_of old i
+    places-next i = elim (cases_lt i old.in_order) [
+      | inl below ↦ place_of-ordered new i (omega (arith, below, order)) ∙ sym (place_of-ordered old i below)
+      | inr past ↦ elim (cases_lt i new.in_order) [
+        | inl below ↦
+            let here : i / PAGE ≡ page = omega (arith, past, below, order, next) in
+            let start = ap (start_in old.starts.items) here ∙ begins in
+            let place = place_of-behind old i past in
+            place_of-ordered new i below ∙ omega (arith, place, start, here)
+        | inr behind ↦ place_of-behind new i behind ∙ (ap (λ starts. start_in starts (i / PAGE) + i % PAGE) starts ∙ sym (place_of-behind old i past))
+      ]
+    ]
+
+    pub value_at-next : (i : ℕ) → value_at new i ≡ value_at old i
+    value_at-next i = ap (λ list. value_in list (place_of new i)) places ∙ ap (value_in old.places.items) (places-next i)
+
+    pub places_in-next : (p : ℕ) → places_in new p ≡ places_in old p
+    places_in-next p = ap (λ starts. if is_made (start_in starts p) then PAGE else 0) starts
+
+    pub AreLaidOut-next : AreLaidOut new
+    AreLaidOut-next =
+        let n = old.in_order / PAGE in
+        let at : n ≡ page = omega (arith, next) in
+        let after : new.in_order / PAGE ≡ suc n = omega (arith, order) in
+        let few = laid.few in
+        let made : is_made (start_in old.starts.items n) ≡ true = rw (at, begins) (is_made-below (page * PAGE) (omega (arith, few, within))) in
+        let less = pages_made-drop old.starts.items n (omega (arith, at, within)) made in
+        let counts = laid.counts in
+        AreLaidOut-kept old new places-next (ap length places) (rw starts laid.few) (let whole = laid.whole in omega (arith, order, whole))
+        (rw starts (omega (arith, order, next, within)))
+        (ap length places ∙ (counts ∙ rw (after, starts) (omega (arith, order, less))))
+        (λ i made. laid.there i (sym (places_in-next (i / PAGE)) ∙ made))
+        (λ i some. places_in-next (i / PAGE) ∙ laid.made i (ap is_some (sym (value_at-next i)) ∙ some))
+        laid
+
+  -- A page was made whose places come after all others, and the part that lies in order takes it in.
+  module _ (old new : Pages V) (page start : ℕ) (begins : start ≡ place_count old) (laid : AreLaidOut old) (within : page < length old.starts.items) (next : page * PAGE ≡ old.in_order) (at : start ≡ page * PAGE) (none : start_in old.starts.items page ≡ NO_PAGE)
+      (starts : new.starts.items ≡ set old.starts.items page start) (order : new.in_order ≡ old.in_order + PAGE) (places : (j : ℕ) → value_in new.places.items j ≡ value_in old.places.items j) (count-new : place_count new ≡ place_count old + PAGE) where
+    -- the pages before it does
+    abbrev between : Pages V
+    between = record { starts = new.starts; places = new.places; in_order = old.in_order }
+
+    laid-between : AreLaidOut between
+    laid-between = AreLaidOut-made old between page start begins laid within (omega (arith, next)) none starts refl places count-new
+
+    within-between : page < length between.starts.items
+    within-between = let same = ap length starts ∙ length-set old.starts.items page start in omega (arith, same, within)
+
+    begins-between : start_in between.starts.items page ≡ page * PAGE
+    begins-between = start-here old between page start begins laid within (omega (arith, next)) none starts refl places count-new ∙ at
+
+    pub value_at-made_next : (i : ℕ) → value_at new i ≡ value_at old i
+    value_at-made_next i = value_at-next between new page laid-between within-between next begins-between refl refl order i ∙ value_at-made old between page start begins laid within (omega (arith, next)) none starts refl places count-new i
+
+    pub AreLaidOut-made_next : AreLaidOut new
+    AreLaidOut-made_next = AreLaidOut-next between new page laid-between within-between next begins-between refl refl order

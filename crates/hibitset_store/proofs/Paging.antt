@@ -1,11 +1,11 @@
--- The value of an index, after a place has changed, and that its place stays its own.
-use Rattle.std.proofs.Common.{◌≡◌, ℕ, zero, suc, ◌+◌, ◌/◌, ◌%◌, ◌<◌, ◌≤◌, ◌==◌, Bool, true, false, cond, not, ap, slice_index_or, ◌&&◌, ◌||◌, List, [], ◌∷◌, length, Option, Some, None, is_some, refl, sym, ◌∙◌, inl, inr, arith}
+-- The value of an index, after a place has changed, and where its place is.
+use Rattle.std.proofs.Common.{◌≡◌, ℕ, zero, suc, ◌+◌, ◌*◌, ◌/◌, ◌%◌, ◌<◌, ◌≤◌, ◌==◌, Bool, true, false, cond, not, ap, slice_index_or, ◌&&◌, ◌||◌, List, [], ◌∷◌, drop, set, length, Option, Some, None, is_some, refl, sym, ◌∙◌, inl, inr, arith}
 use Rattle.std.specs.List.{filter}
 use Rattle.std.specs.Prelude.{◌≢◌, if◌then◌else◌, ◌⊎◌, option_and_then}
-use Rattle.std.proofs.lemmas.Bool.{cases_lt}
-use Rattle.std.proofs.lemmas.List.{get_or_default, get_or_past}
+use Rattle.std.proofs.lemmas.Bool.{cases_lt, false≢true, le-ltb, lt-ltb}
+use Rattle.std.proofs.lemmas.List.{get_or_default, get_or_past, length-drop}
 use Rattle.std.proofs.lemmas.Option.{slice_get_read}
-use Rattle.hibitset_base.specs.Deciding.{eq_other, same_or_not}
+use Rattle.hibitset_base.specs.Deciding.{eq_other, eq_same, same_or_not}
 use Rattle.hibitset_store.specs.declared.pages.Pages.{Pages}
 use Rattle.hibitset_store.specs.declared.pages.TheConstants.{NO_PAGE, PAGE}
 use Rattle.hibitset_store.specs.PageLending.{written_over}
@@ -38,6 +38,20 @@ is_some-over i id was new last put = rw put (by (i == id) was last)
     by true (Some value) last = refl
     by true None last = refl
     by false was last = refl
+
+-- nothing is written over where there is no value
+pub written_over-none : {V : Type 0} (i id : ℕ) (was : Option V) (last : V) → (i ≡ id → was ≡ None) → was ≡ (if i == id then written_over was last else was)
+written_over-none i id was last none = elim (same_or_not i id) [
+  | inl here ↦ rw (eq_same i id here, none here) refl
+  | inr other ↦ rw (eq_other i id other) refl
+]
+
+-- and where one value is put back, all are as they were
+pub put_back : {V : Type 0} (i id : ℕ) (values : ℕ → Option V) (value : Option V) → values id ≡ value → (if i == id then value else values i) ≡ values i
+put_back i id values value same = elim (same_or_not i id) [
+  | inl here ↦ rw (eq_same i id here) (sym same ∙ ap values (sym here))
+  | inr other ↦ rw (eq_other i id other) refl
+]
 
 -- an index that is not a key has no value
 pub no_value : {V : Type 0} (had : Bool) (value : Option V) → had ≡ is_some value → had ≡ false → value ≡ None
@@ -77,35 +91,95 @@ module _ {V : Type 0} where
   pub place_of-some : (pages : Pages V) (i : ℕ) → is_some (value_at pages i) ≡ true → HasPlace pages i
   place_of-some pages i some = within pages.places.items (place_of pages i) some
 
-  -- there are fewer places than would reach to those of a page that is not made
-  pub few_places : (pages : Pages V) → AreLaidOut pages → place_count pages < NO_PAGE
-  few_places pages laid = let few = few_made pages.starts.items in omega (arith, laid.few, laid.counts, few)
+  -- its value is what is read there
+  pub value-of_place : (pages : Pages V) (i place : ℕ) (value : Option V) → HasPlace pages i → place ≡ place_of pages i → value ≡ slice_index_or pages.places.items place value → value_at pages i ≡ value
+  value-of_place pages i place value there here read =
+      ap (value_in pages.places.items) (sym here)
+      ∙ ap (option_and_then (λ v. v)) (slice_get_read pages.places.items (place_count pages) place value refl (omega (arith, here, there)) read)
 
-  -- each index has a place, or its page is not made
-  pub placed : (pages : Pages V) (i : ℕ) → AreLaidOut pages → HasPlace pages i ⊎ (start_in pages.starts.items (i / PAGE) ≡ NO_PAGE)
-  placed pages i laid = elim (same_or_not (start_in pages.starts.items (i / PAGE)) NO_PAGE) [
-    | inl none ↦ inr none
-    | inr made ↦ inl (laid.there i (made_places (start_in pages.starts.items (i / PAGE)) made))
+  -- an index in the part that lies in order has the place of its own number
+  pub place_of-ordered : (pages : Pages V) (i : ℕ) → i < pages.in_order → place_of pages i ≡ i
+  place_of-ordered pages i below = rw (lt-ltb i pages.in_order below) refl
+
+  -- and one behind it that which the table tells
+  pub place_of-behind : (pages : Pages V) (i : ℕ) → pages.in_order ≤ i → place_of pages i ≡ start_in pages.starts.items (i / PAGE) + i % PAGE
+  place_of-behind pages i past = rw (le-ltb i pages.in_order past) refl
+
+  -- an index has the same place where as many lie in order and its page begins at the same place
+  pub place_of-same : (old new : Pages V) (i : ℕ) → new.in_order ≡ old.in_order → start_in new.starts.items (i / PAGE) ≡ start_in old.starts.items (i / PAGE) → place_of new i ≡ place_of old i
+  place_of-same old new i order start = rw (order, start) refl
+
+  -- what a place has after one is changed
+  value_in-set_same : (places : List (Option V)) (j : ℕ) (value : Option V) → j < length places → value_in (set places j value) j ≡ value
+  value_in-set_same [] j value within = absurd (omega (arith, within))
+  value_in-set_same (first ∷ places) zero value within = refl
+  value_in-set_same (first ∷ places) (suc j) value within = value_in-set_same places j value (omega (arith, within))
+
+  value_in-set_other : (places : List (Option V)) (j k : ℕ) (value : Option V) → k ≢ j → value_in (set places j value) k ≡ value_in places k
+  value_in-set_other [] j k value other = refl
+  value_in-set_other (first ∷ places) zero zero value other = absurd (other refl)
+  value_in-set_other (first ∷ places) zero (suc k) value other = refl
+  value_in-set_other (first ∷ places) (suc j) zero value other = refl
+  value_in-set_other (first ∷ places) (suc j) (suc k) value other = value_in-set_other places j k value (λ same. other (ap suc same))
+
+  -- the same starts and places are laid out in the same way
+  pub value_at-equal : (old new : Pages V) → new.starts.items ≡ old.starts.items → new.places.items ≡ old.places.items → new.in_order ≡ old.in_order → (i : ℕ) → value_at new i ≡ value_at old i
+  value_at-equal old new starts places order i = ap (value_in new.places.items) (place_of-same old new i order (ap (λ starts. start_in starts (i / PAGE)) starts)) ∙ ap (λ list. value_in list (place_of old i)) places
+
+  -- and each index, where the place is that of one
+  pub value_at-put : (old new : Pages V) (id : ℕ) (value : Option V) → AreLaidOut old → HasPlace old id → new.starts.items ≡ old.starts.items → new.in_order ≡ old.in_order → new.places.items ≡ set old.places.items (place_of old id) value
+      → (i : ℕ) → value_at new i ≡ (if i == id then value else value_at old i)
+  value_at-put old new id value laid there starts order places i =
+      ap (value_in new.places.items) (place_of-same old new i order (ap (λ starts. start_in starts (i / PAGE)) starts))
+      ∙ (ap (λ list. value_in list (place_of old i)) places
+      ∙ elim (same_or_not i id) [
+        | inl here ↦ ap (λ i. value_in (set old.places.items (place_of old id) value) (place_of old i)) here ∙ (value_in-set_same old.places.items (place_of old id) value there ∙ sym (rw (eq_same i id here) refl))
+        | inr other ↦ value_in-set_other old.places.items (place_of old id) (place_of old i) value (λ same. other (sym (laid.apart id i there (sym same)))) ∙ sym (rw (eq_other i id other) refl)
+      ])
+
+  -- no more places than the whole table would have
+  pub most_places : (pages : Pages V) → AreLaidOut pages → place_count pages ≤ PAGE * length pages.starts.items
+  most_places pages laid =
+      let n = pages.in_order / PAGE in
+      let few = few_made (drop n pages.starts.items) in
+      let rest = length-drop n pages.starts.items in
+      omega (arith, few, rest, laid.counts, laid.whole, laid.ordered)
+
+  -- so there are fewer than would reach to those of a page that is not made
+  pub few_places : (pages : Pages V) → AreLaidOut pages → place_count pages < NO_PAGE
+  few_places pages laid = let most = most_places pages laid in omega (arith, laid.few, most)
+
+  -- the part that lies in order has its places
+  pub order-within : (pages : Pages V) → AreLaidOut pages → pages.in_order ≤ place_count pages
+  order-within pages laid = omega (arith, laid.counts)
+
+  -- each index has a place, or none of those that there may be
+  pub placed : (pages : Pages V) (i : ℕ) → AreLaidOut pages → HasPlace pages i ⊎ (NO_PAGE ≤ place_of pages i)
+  placed pages i laid = elim (cases_lt i pages.in_order) [
+    | inl below ↦ inl (let place = place_of-ordered pages i below in let order = order-within pages laid in omega (arith, place, order, below))
+    | inr past ↦ elim (same_or_not (start_in pages.starts.items (i / PAGE)) NO_PAGE) [
+      | inl none ↦ inr (let place = place_of-behind pages i past in omega (arith, place, none))
+      | inr made ↦ inl (laid.there i (made_places (start_in pages.starts.items (i / PAGE)) made))
+    ]
   ]
 
-  -- an index has a place where its page is made, and only there
-  pub made-of_place : (pages : Pages V) (i : ℕ) → AreLaidOut pages → HasPlace pages i → places_in pages (i / PAGE) ≡ PAGE
-  made-of_place pages i laid place =
-      made_places (start_in pages.starts.items (i / PAGE)) (λ none. let few = few_places pages laid in absurd (omega (arith, few, place, none)))
+  -- a page has no places where it is not made
+  pub unmade_places : (pages : Pages V) (p : ℕ) → start_in pages.starts.items p ≡ NO_PAGE → places_in pages p ≡ 0
+  unmade_places pages p none = ap (λ start. if is_made start then PAGE else 0) none
 
   -- an index whose page is not made has no value
   pub value_at-unmade : (pages : Pages V) (i : ℕ) → AreLaidOut pages → start_in pages.starts.items (i / PAGE) ≡ NO_PAGE → value_at pages i ≡ None
-  value_at-unmade pages i laid none = let few = few_places pages laid in value_in-past pages.places.items (place_of pages i) (omega (arith, few, none))
+  value_at-unmade pages i laid none = by (value_at pages i) (laid.made i)
+    where
+      by : (value : Option V) → (is_some value ≡ true → places_in pages (i / PAGE) ≡ PAGE) → value ≡ None
+      by None made = refl
+      by (Some value) made = absurd (let here = made refl in let no = unmade_places pages (i / PAGE) none in omega (arith, here, no))
 
   -- the page of an index that has a value stands in the table
   pub page-of_some : (pages : Pages V) (i : ℕ) → AreLaidOut pages → is_some (value_at pages i) ≡ true → i / PAGE < length pages.starts.items
   page-of_some pages i laid some = elim (cases_lt (i / PAGE) (length pages.starts.items)) [
     | inl within ↦ within
-    | inr past ↦
-        let none : start_in pages.starts.items (i / PAGE) ≡ NO_PAGE = get_or_past pages.starts.items (i / PAGE) NO_PAGE past in
-        let few = few_places pages laid in
-        let place = place_of-some pages i some in
-        absurd (omega (arith, few, place, none))
+    | inr past ↦ absurd (false≢true (sym (ap is_some (value_at-unmade pages i laid (get_or_past pages.starts.items (i / PAGE) NO_PAGE past))) ∙ some))
   ]
 
   -- where its places begin, as the table is read
@@ -113,9 +187,5 @@ module _ {V : Type 0} where
   start-of_some pages i start laid some read = read ∙ get_or_default pages.starts.items (i / PAGE) start NO_PAGE (page-of_some pages i laid some)
 
   -- and its value, as its place is read
-  pub value-of_some : (pages : Pages V) (i start : ℕ) (value : Option V) → AreLaidOut pages → is_some (value_at pages i) ≡ true → start ≡ slice_index_or pages.starts.items (i / PAGE) start → value ≡ slice_index_or pages.places.items (start + i % PAGE) value → value_at pages i ≡ value
-  value-of_some pages i start value laid some begins read =
-      let here : start + i % PAGE ≡ place_of pages i = ap (λ s. s + i % PAGE) (start-of_some pages i start laid some begins) in
-      let place = place_of-some pages i some in
-      ap (value_in pages.places.items) (sym here)
-      ∙ ap (option_and_then (λ v. v)) (slice_get_read pages.places.items (place_count pages) (start + i % PAGE) value refl (omega (arith, here, place)) read)
+  pub value-of_some : (pages : Pages V) (i place : ℕ) (value : Option V) → is_some (value_at pages i) ≡ true → place ≡ place_of pages i → value ≡ slice_index_or pages.places.items place value → value_at pages i ≡ value
+  value-of_some pages i place value some here read = let there = place_of-some pages i some in value-of_place pages i place value there here read

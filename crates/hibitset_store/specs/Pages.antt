@@ -1,5 +1,5 @@
--- Values in pages. Page p has places for the indices from p * PAGE on, or none yet.
-use Rattle.std.specs.Prelude.{◌≡◌, ℕ, ◌+◌, ◌*◌, ◌/◌, ◌%◌, ◌<◌, ◌≤◌, ◌==◌, Bool, not, if◌then◌else◌, List, length, slice_index_or, Option, option_and_then, slice_get}
+-- Values in pages. Page p has places for the indices from p * PAGE on, or none yet. The first places lie by the number of their index.
+use Rattle.std.specs.Prelude.{◌≡◌, ℕ, ◌+◌, ◌*◌, ◌/◌, ◌%◌, ◌<◌, ◌≤◌, ◌==◌, ltb, Bool, true, not, if◌then◌else◌, List, length, drop, slice_index_or, Option, option_and_then, slice_get}
 use Rattle.std.specs.List.{filter}
 use Rattle.std.specs.Option.{is_some}
 use Rattle.hibitset.specs.BitSet.{has}
@@ -29,9 +29,9 @@ module _ {V : Type 0} where
   abbrev pub place_count : Pages V → ℕ
   place_count pages = length pages.places.items
 
-  -- the place of an index: past all places, where its page is not made
+  -- the place of an index: its own number in the part that lies in order, and past all places, where its page is not made and lies behind that
   abbrev pub place_of : Pages V → ℕ → ℕ
-  place_of pages i = start_in pages.starts.items (i / PAGE) + i % PAGE
+  place_of pages i = if ltb i pages.in_order then i else start_in pages.starts.items (i / PAGE) + i % PAGE
 
   -- the value of an index
   abbrev pub value_at : Pages V → ℕ → Option V
@@ -45,16 +45,20 @@ module _ {V : Type 0} where
   abbrev pub places_in : Pages V → ℕ → ℕ
   places_in pages p = if is_made (start_in pages.starts.items p) then PAGE else 0
 
-  -- Each page that is made has its places, and no two indices have the same one.
+  -- Each page that is made has its places, no two indices have the same one, and no index of another page has a value. The part that lies in order has the places of whole pages, made or not; each page behind it that is made has its places there.
   pub record AreLaidOut (pages : Pages V) : Type 0 where
     pub few : length pages.starts.items ≤ MAX_EID / PAGE
-    pub counts : place_count pages ≡ PAGE * pages_made pages.starts.items
+    pub whole : pages.in_order ≡ PAGE * (pages.in_order / PAGE)
+    pub ordered : pages.in_order ≤ PAGE * length pages.starts.items
+    pub counts : place_count pages ≡ pages.in_order + PAGE * pages_made (drop (pages.in_order / PAGE) pages.starts.items)
     pub there : (i : ℕ) → places_in pages (i / PAGE) ≡ PAGE → HasPlace pages i
     pub apart : (i j : ℕ) → HasPlace pages i → place_of pages i ≡ place_of pages j → i ≡ j
+    pub made : (i : ℕ) → is_some (value_at pages i) ≡ true → places_in pages (i / PAGE) ≡ PAGE
 
   -- the same pages, with as many places
   pub record AreAsMany (old new : Pages V) : Type 0 where
     pub starts : new.starts.items ≡ old.starts.items
+    pub order : new.in_order ≡ old.in_order
     pub count : place_count new ≡ place_count old
 
   -- the set has exactly the indices with a value

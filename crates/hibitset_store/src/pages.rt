@@ -1,5 +1,5 @@
 //! Values in pages, each made whole when one of its indices first gets a value.
-ghost use Rattle.std.specs.Prelude.{◌≡◌, ◌≢◌, ℕ, ◌+◌, ◌*◌, ◌/◌, ◌<◌, ◌≤◌, ◌==◌, max, length, [], Some, None, if◌then◌else◌, true, IsOk, IfOk, OnOk, OnErr, MatchOption, vec_len};
+ghost use Rattle.std.specs.Prelude.{◌≡◌, ◌≢◌, ◌⊎◌, ℕ, ◌+◌, ◌*◌, ◌/◌, ◌<◌, ◌≤◌, ◌==◌, max, length, [], Some, None, if◌then◌else◌, true, IsOk, IfOk, OnOk, OnErr, MatchOption, vec_len};
 ghost use Rattle.std.specs.Borrow.{sem};
 ghost use Rattle.std.specs.Option.{is_some, option_copied_mut};
 ghost use Rattle.hibitset_base.specs.declared.util.TheConstants.{MAX_EID};
@@ -17,11 +17,18 @@ pub const PAGE: usize = 256;
 /// Where the places of a page begin that is not made: past all places.
 pub const NO_PAGE: u32 = u32::MAX;
 
-// The values, in pages, with a place for each index of a page that is made. The pages lie one after the other, in the order in which they were made.
+/// How many pages a table has at most that is laid out in order. Beyond it to move all values took longer than it saved.
+const MOST_IN_ORDER: usize = 8_192;
+
+/// A table is laid out in order only where one page of so many lies behind the part that does already, so that at least as many are made.
+const BEHIND_OF: usize = 4;
+
+// The values, in pages, with a place for each index of a page that is made. Each index below `in_order` has the place of its own number, whether its page is made or not; the other pages lie behind, in the order in which they were made.
 #[derive(Drop)]
 pub(crate) struct Pages<V: Drop> {
     starts: Vec<u32>,
     places: Vec<Option<V>>,
+    in_order: usize,
 }
 
 impl<V: Drop> Pages<V> {
@@ -29,20 +36,33 @@ impl<V: Drop> Pages<V> {
     pub(crate) fn new(alloc: Global) -> Pages<V>
         ensures starts { result.starts.items ≡ [] }
         ensures places { result.places.items ≡ [] }
+        ensures order { result.in_order ≡ 0 }
     {
         Pages {
             starts: Vec::new(alloc),
             places: Vec::new(alloc),
+            in_order: 0,
         }
     }
 
-    // The place of an index: past all places, where its page is not made.
+    // Where the places of a page begin by the table: past all places, where it is not made.
+    #[inline]
+    fn start(&self, page: usize) -> u32
+        ensures { result ≡ start_in self.now.starts.items page }
+    {
+        self.starts.get(page).copied().unwrap_or(NO_PAGE)
+    }
+
+    // The place of an index: past all places, where it has none.
     #[inline]
     pub(crate) fn place(&self, id: Index) -> usize
         ensures { result ≡ place_of self.now id }
     {
-        let start = self.starts.get(id as usize / PAGE).copied();
-        start.unwrap_or(NO_PAGE) as usize + id as usize % PAGE
+        let id = id as usize;
+        if id < self.in_order {
+            return id;
+        }
+        self.start(id / PAGE) as usize + id % PAGE
     }
 
     // The value of an index.
@@ -53,6 +73,20 @@ impl<V: Drop> Pages<V> {
         self.places.get(self.place(id))?.as_ref()
     }
 
+    // The place of an index that has a value. It does not ask whether the page stands in the table.
+    #[inline]
+    fn place_of_some(&self, id: Index) -> usize
+        requires laid_out { AreLaidOut self.now }
+        requires some { is_some (value_at self.now id) ≡ true }
+        ensures { result ≡ place_of self.now id }
+    {
+        let id = id as usize;
+        if id < self.in_order {
+            return id;
+        }
+        self.starts[id / PAGE] as usize + id % PAGE
+    }
+
     // The value of an index that has one. It does not ask whether the page is made, nor whether the place lies in the list.
     #[inline]
     pub(crate) fn value(&self, id: Index) -> &V
@@ -60,8 +94,7 @@ impl<V: Drop> Pages<V> {
         requires some { is_some (value_at self.now id) ≡ true }
         ensures { value_at self.now id ≡ Some result.now }
     {
-        let place = self.starts[id as usize / PAGE] as usize + id as usize % PAGE;
-        match &self.places[place] {
+        match &self.places[self.place_of_some(id)] {
             Some(value) => value,
             None => unreachable!(),
         }
@@ -100,22 +133,21 @@ impl<V: Drop> Pages<V> {
         requires below { id < MAX_EID }
         ensures place { IfOk result (λ place. place ≡ place_of self.new id) }
         ensures there { OnOk result (HasPlace self.new id) }
+        ensures made { OnOk result (places_in self.new (id / PAGE) ≡ PAGE) }
         ensures same { (i : ℕ) → value_at self.new i ≡ value_at self.old i }
         ensures laid_out { AreLaidOut self.new }
         ensures stays { OnErr result ((p : ℕ) → places_in self.new p ≡ places_in self.old p) }
         ensures others { (p : ℕ) → p ≢ id / PAGE → places_in self.new p ≡ places_in self.old p }
-        ensures room { HasPlace self.old id → IsOk result }
-        ensures unused { HasPlace self.old id → AreAsMany self.old self.new }
+        ensures room { places_in self.old (id / PAGE) ≡ PAGE → IsOk result }
+        ensures unused { places_in self.old (id / PAGE) ≡ PAGE → AreAsMany self.old self.new }
         ensures keeps { vec_len self.old.starts ≤ vec_len self.new.starts }
         ensures most { vec_len self.new.starts ≤ max (vec_len self.old.starts) (id / PAGE + 1) }
     {
-        let place = self.place(id);
-        if place < self.places.len() {
-            return Ok(place);
-        }
         let page = id as usize / PAGE;
-        self.lengthen(page)?;
-        self.add_page(page)?;
+        if self.start(page) == NO_PAGE {
+            self.lengthen(page)?;
+            self.add_page(page)?;
+        }
         Ok(self.place(id))
     }
 
@@ -136,7 +168,7 @@ impl<V: Drop> Pages<V> {
         Ok(())
     }
 
-    // Makes a page, whose places come after all others. Refused, it changes nothing.
+    // Makes a page. Refused, it leaves each page as it was.
     fn add_page(&mut self, page: usize) -> Result<(), AllocError>
         requires laid_out { AreLaidOut self.old }
         requires within { page < length self.old.starts.items }
@@ -148,19 +180,95 @@ impl<V: Drop> Pages<V> {
         ensures others { (p : ℕ) → p ≢ page → places_in self.new p ≡ places_in self.old p }
         ensures table { vec_len self.new.starts ≡ vec_len self.old.starts }
     {
+        if self.is_worth_order() {
+            self.put_in_order()?;
+        }
+        if page * PAGE < self.in_order {
+            self.starts[page] = (page * PAGE) as u32;
+            return Ok(());
+        }
+        self.append_page(page)
+    }
+
+    // Makes a page behind the part that lies in order. Its places come after all others; where they have the numbers of its indices and all others lie in order, it does too. Refused, it changes nothing.
+    fn append_page(&mut self, page: usize) -> Result<(), AllocError>
+        requires laid_out { AreLaidOut self.old }
+        requires within { page < length self.old.starts.items }
+        requires behind { self.old.in_order ≤ page * PAGE }
+        requires none { start_in self.old.starts.items page ≡ NO_PAGE }
+        ensures same { (i : ℕ) → value_at self.new i ≡ value_at self.old i }
+        ensures laid_out { AreLaidOut self.new }
+        ensures made { OnOk result (places_in self.new page ≡ PAGE) }
+        ensures stays { OnErr result ((p : ℕ) → places_in self.new p ≡ places_in self.old p) }
+        ensures others { (p : ℕ) → p ≢ page → places_in self.new p ≡ places_in self.old p }
+        ensures table { vec_len self.new.starts ≡ vec_len self.old.starts }
+    {
         let start = self.places.len();
-        add_places(&mut self.places)?;
+        add_places(&mut self.places, PAGE)?;
         self.starts[page] = start as u32;
+        if start == page * PAGE && start == self.in_order {
+            self.in_order += PAGE;
+        }
         Ok(())
+    }
+
+    // Tells whether the pages are to be laid out in order: when there is no place for another one, where enough of the table lies behind and it is not too long.
+    fn is_worth_order(&self) -> bool
+        requires { AreLaidOut self.now }
+    {
+        let len = self.places.len();
+        let pages = self.starts.len();
+        len + PAGE > self.places.capacity()
+            && self.in_order < len
+            && pages <= MOST_IN_ORDER
+            && pages * PAGE <= BEHIND_OF * (len - self.in_order)
+    }
+
+    // Lays the places of all pages of the table out in order, with as much room as when the list of places doubles. Refused, it changes nothing.
+    fn put_in_order(&mut self) -> Result<(), AllocError>
+        requires laid_out { AreLaidOut self.old }
+        ensures same { (i : ℕ) → value_at self.new i ≡ value_at self.old i }
+        ensures laid_out { AreLaidOut self.new }
+        ensures starts { self.new.starts ≡ self.old.starts }
+    {
+        let end = self.starts.len() * PAGE;
+        let room = end.max(2 * self.places.len());
+        let mut places = Vec::with_capacity(*self.places.allocator(), room)?;
+        add_places(&mut places, end)?;
+        self.move_pages(&mut places);
+        self.places = places;
+        self.in_order = end;
+        Ok(())
+    }
+
+    // Moves all values to empty places, where each gets the place of its index's own number. What is left behind is not said.
+    fn move_pages(&mut self, places: &mut Vec<Option<V>>)
+        requires laid_out { AreLaidOut self.old }
+        requires long { length places.old.items ≡ PAGE * length self.old.starts.items }
+        requires empty { (j : ℕ) → value_in places.old.items j ≡ None }
+        ensures moved { (i : ℕ) → value_in places.new.items i ≡ value_at self.old i }
+        ensures long { length places.new.items ≡ length places.old.items }
+        ensures starts { self.new.starts ≡ self.old.starts }
+    {
+        let mut page = 0;
+        while page < self.starts.len() {
+            if self.start(page) != NO_PAGE {
+                let first = self.place((page * PAGE) as Index);
+                swap_pages(&mut self.places, first, places, page * PAGE);
+            }
+            page += 1;
+        }
     }
 
     // Takes all values out. It keeps the memory of the pages.
     pub(crate) fn clear(&mut self)
         ensures starts { self.new.starts.items ≡ [] }
         ensures places { self.new.places.items ≡ [] }
+        ensures order { self.new.in_order ≡ 0 }
     {
         self.starts.clear();
         self.places.clear();
+        self.in_order = 0;
     }
 }
 
@@ -191,20 +299,42 @@ impl<V: Drop> Iterator for EmptyPlaces<V> {
     }
 }
 
-// Adds the places of one page at the end. Refused, it adds none.
-fn add_places<V: Drop>(places: &mut Vec<Option<V>>) -> Result<(), AllocError>
+// Adds so many places without a value at the end. Refused, it adds none.
+fn add_places<V: Drop>(places: &mut Vec<Option<V>>, count: usize) -> Result<(), AllocError>
     ensures same { (j : ℕ) → value_in places.new.items j ≡ value_in places.old.items j }
-    ensures added { OnOk result (length places.new.items ≡ length places.old.items + PAGE) }
+    ensures added { OnOk result (length places.new.items ≡ length places.old.items + count) }
     ensures refused { OnErr result (places.new.items ≡ places.old.items) }
 {
     let before = places.len();
-    places.reserve(PAGE)?;
+    places.reserve(count)?;
     let poured = places.extend(EmptyPlaces {
-        left: PAGE,
+        left: count,
         of: PhantomData,
     });
     if poured.is_err() {
         places.truncate(before);
     }
     poured
+}
+
+// Exchanges what is in the places of a page, which begin at `first`, with what is in those of another list from `to` on.
+fn swap_pages<V: Drop>(
+    places: &mut Vec<Option<V>>,
+    first: usize,
+    others: &mut Vec<Option<V>>,
+    to: usize,
+)
+    requires first { first + PAGE ≤ length places.old.items }
+    requires to { to + PAGE ≤ length others.old.items }
+    ensures moved { (k : ℕ) → k < PAGE → value_in others.new.items (to + k) ≡ value_in places.old.items (first + k) }
+    ensures beside { (j : ℕ) → (j < to) ⊎ (to + PAGE ≤ j) → value_in others.new.items j ≡ value_in others.old.items j }
+    ensures kept { (j : ℕ) → (j < first) ⊎ (first + PAGE ≤ j) → value_in places.new.items j ≡ value_in places.old.items j }
+    ensures long { length others.new.items ≡ length others.old.items }
+    ensures many { length places.new.items ≡ length places.old.items }
+{
+    let mut at = 0;
+    while at < PAGE {
+        mem::swap(&mut places[first + at], &mut others[to + at]);
+        at += 1;
+    }
 }

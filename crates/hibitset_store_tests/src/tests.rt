@@ -78,6 +78,61 @@ fn a_column_is_a_map(rt: HostRuntime) -> Result<(), Fail> {
     Ok(())
 }
 
+// One value in each page from the last one down: they lie in order from the third on, and what comes after the last one lies behind.
+#[test]
+fn pages_in_order_keep_their_values(rt: HostRuntime) -> Result<(), Fail> {
+    let alloc = rt.alloc();
+    let mut column = column_of(alloc, &[(1_800, 70), (1_600, 60), (1_400, 50)])?;
+    assert!(rt; has_exactly(alloc, &column, &[(1_400, 50), (1_600, 60), (1_800, 70)])?);
+    assert!(rt; column.get(1_399).is_none() && column.get(300).is_none());
+    assert!(rt; column.get(2_047).is_none() && column.get(2_048).is_none());
+    assert_eq!(rt; column.insert(300, 10), Ok(None));
+    assert_eq!(rt; column.insert(300, 11), Ok(Some(10)));
+    assert_eq!(rt; column.insert(9_000, 90), Ok(None));
+    assert_eq!(rt; column.insert(4_000, 80), Ok(None));
+    assert_eq!(rt; column.remove(1_600), Some(60));
+    assert_eq!(rt; column.remove(1_601), None);
+    assert!(rt;
+        has_exactly(
+            alloc,
+            &column,
+            &[
+                (300, 11),
+                (1_400, 50),
+                (1_800, 70),
+                (4_000, 80),
+                (9_000, 90)
+            ]
+        )?
+    );
+    if let Some(value) = column.get_mut(1_400) {
+        *value = 51;
+    }
+    assert_eq!(rt; column.get(1_400).copied(), Some(51));
+    column.clear();
+    assert!(rt; column.get(300).is_none() && has_exactly(alloc, &column, &[])?);
+    assert_eq!(rt; column.insert(300, 12), Ok(None));
+    assert!(rt; has_exactly(alloc, &column, &[(300, 12)])?);
+    Ok(())
+}
+
+// Pages that are made one after the other lie in order from the first on.
+#[test]
+fn ascending_pages_lie_in_order(rt: HostRuntime) -> Result<(), Fail> {
+    let alloc = rt.alloc();
+    let mut column = column_of(alloc, &[(5, 1), (260, 2), (600, 3), (2_000, 4)])?;
+    assert_eq!(rt; column.insert(700, 5), Ok(None));
+    assert_eq!(rt; column.insert(1_000, 6), Ok(None));
+    assert!(rt;
+        has_exactly(
+            alloc,
+            &column,
+            &[(5, 1), (260, 2), (600, 3), (700, 5), (1_000, 6), (2_000, 4)]
+        )?
+    );
+    Ok(())
+}
+
 #[test]
 fn joins_go_over_what_both_have(rt: HostRuntime) -> Result<(), Fail> {
     let a = column_of(rt.alloc(), &[(1, 10), (2, 20), (3, 30), (70_000, 40)])?;

@@ -161,6 +161,17 @@ fn columns(rt: HostRuntime) -> Result<(), Fail> {
     ask(&rt)
 }
 
+// Once they lie in order, all pages of the table have their places.
+#[test]
+fn columns_in_order(rt: HostRuntime) -> Result<(), Fail> {
+    let mut column = column_of(rt.alloc(), &[(1_800, 7), (1_600, 6), (1_400, 5)])?;
+    ask(&rt)?;
+    assert!(rt; column.insert(900, 3) == Ok(None) && column.insert(1_200, 4) == Ok(None));
+    assert!(rt; column.insert(5, 0) == Ok(None) && column.insert(600, 2) == Ok(None));
+    assert!(rt; column.insert(300, 1) == Ok(None));
+    ask(&rt)
+}
+
 // Operators of {1, 2} and {2, 3}.
 fn assert_operators(rt: &impl Abort, a: &BitSet, b: &BitSet) {
     assert!(rt; has_exactly(&(a & b), &[2]));

@@ -8,6 +8,6 @@ use Rattle.hibitset_store.proofs.columns.Column.clear.Goals as goal
 pub invariant_of-self : goal.invariant_of-self
 invariant_of-self g c = record {
   covers = λ i. let none = c.clear.ensures.empty i in rw (none, c.clear-2.ensures.places) refl;
-  laid_out = AreLaidOut-none c.clear-2.new.self c.clear-2.ensures.starts c.clear-2.ensures.places;
+  laid_out = AreLaidOut-none c.clear-2.new.self c.clear-2.ensures.starts c.clear-2.ensures.places c.clear-2.ensures.order;
   counts = sym (ap length (members-nowhere (has c.clear.new.self) MAX_EID c.clear.ensures.empty));
 }

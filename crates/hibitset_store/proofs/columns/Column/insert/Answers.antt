@@ -8,8 +8,8 @@ use Rattle.hibitset_store.specs.Columns.{value_of}
 use Rattle.hibitset_store.specs.Room.{places, table_len, words_len}
 use Rattle.hibitset_store.specs.declared.pages.TheConstants.{PAGE}
 use Rattle.hibitset.proofs.Sizes.{count-with, members-few}
-use Rattle.hibitset_store.proofs.Paging.{is_some-with, made-of_place}
-use Rattle.hibitset_store.proofs.Sizing.{AreLaidOut-many, places_in-many, room-of_some, word-of_member}
+use Rattle.hibitset_store.proofs.Paging.{is_some-with}
+use Rattle.hibitset_store.proofs.Sizing.{AreLaidOut-put, places_in-many, room-of_some, word-of_member}
 use Rattle.hibitset_store.proofs.columns.Column.insert.Goals as goal
 
 pub returns-in_default-add-clause-room : goal.returns-in_default-add-clause-room
@@ -31,7 +31,7 @@ unfolding value_of places table_len words_len
 returns-then-had-clause-over g c = λ some.
     let column = c.args.self.now in
     let (page, word) = room-of_some column.mask column.pages column.covers column.laid_out c.args.id some in
-    let made = c.in-Ok.ensures.unused (column.laid_out.there c.args.id page) in
+    let made = c.in-Ok.ensures.unused page in
     let keeps = c.in-Ok-add.ensures.keeps in
     let most = c.in-Ok-add.ensures.most in
     record {
@@ -44,7 +44,7 @@ pub returns-then-had-clause-made : goal.returns-then-had-clause-made
 unfolding places words_len
 returns-then-had-clause-made g c =
     let there : has c.add.new.self c.args.id ≡ true = let put = c.in-Ok-add.ensures.added c.args.id in grind (arith, nat_tests, put) in
-    let page = made-of_place _ c.args.id c.in-Ok.ensures.laid_out c.in-Ok.ensures.there in
+    let page = c.in-Ok.ensures.made in
     (places_in-many _ _ c.put.ensures.many (c.args.id / PAGE) ∙ page, word-of_member c.add.new.self c.args.id there)
 
 pub overflow_add-self : goal.overflow_add-self
@@ -58,7 +58,7 @@ invariant_of-self-2 g c =
     let add = c.in-Ok-add.ensures in
     record {
       covers = λ i. add.added i ∙ is_some-with i c.args.id _ _ _ c.args.value (column.covers i ∙ ap is_some (sym (c.in-Ok.ensures.same i))) (c.put-2.ensures.put c.args.id c.in-Ok.ensures.place i);
-      laid_out = AreLaidOut-many _ _ c.in-Ok.ensures.laid_out c.put-2.ensures.many;
+      laid_out = AreLaidOut-put _ _ c.args.id _ c.in-Ok.ensures.laid_out c.put-2.ensures.many c.in-Ok.ensures.made (c.put-2.ensures.put c.args.id c.in-Ok.ensures.place);
       counts = count-with (has column.mask) (has c.add.new.self) c.args.id MAX_EID column.count 1 c.in-Ok-add.had add.added add.was (ap (λ had. from_bool (not had)) (sym c.if-had.false)) column.counts c.requires;
     }
 
@@ -66,5 +66,15 @@ pub returns-clause-made : goal.returns-clause-made
 unfolding places words_len
 returns-clause-made g c =
     let there : has c.add.new.self c.args.id ≡ true = let put = c.in-Ok-add.ensures.added c.args.id in grind (arith, nat_tests, put) in
-    let page = made-of_place _ c.args.id c.in-Ok.ensures.laid_out c.in-Ok.ensures.there in
+    let page = c.in-Ok.ensures.made in
     (places_in-many _ _ c.put-2.ensures.many (c.args.id / PAGE) ∙ page, word-of_member c.add.new.self c.args.id there)
+
+pub invariant_of-self-then-had-clause-laid_out : goal.invariant_of-self-then-had-clause-laid_out
+invariant_of-self-then-had-clause-laid_out g c = AreLaidOut-put _ _ c.args.id _ c.in-Ok.ensures.laid_out c.put.ensures.many c.in-Ok.ensures.made (c.put.ensures.put c.args.id c.in-Ok.ensures.place)
+
+pub invariant_of-self-then-had-clause-counts : goal.invariant_of-self-then-had-clause-counts
+invariant_of-self-then-had-clause-counts g c =
+    let column = c.args.self.now in
+    let add = c.in-Ok-add.ensures in
+    let same = count-with (has column.mask) (has c.add.new.self) c.args.id MAX_EID column.count 0 c.in-Ok-add.had add.added add.was (ap (λ had. from_bool (not had)) (sym c.if-had.true)) column.counts c.requires in
+    omega (arith, same)

@@ -8,6 +8,6 @@ use Rattle.hibitset_store.proofs.columns.Column.new.Goals as goal
 pub invariant_of-result : goal.invariant_of-result
 invariant_of-result g c = record {
   covers = λ i. let none = c.new.ensures.empty i in rw (none, c.new-2.ensures.places) refl;
-  laid_out = AreLaidOut-none c.new-2.result c.new-2.ensures.starts c.new-2.ensures.places;
+  laid_out = AreLaidOut-none c.new-2.result c.new-2.ensures.starts c.new-2.ensures.places c.new-2.ensures.order;
   counts = sym (ap length (members-nowhere (has c.new.result) MAX_EID c.new.ensures.empty));
 }

@@ -6,7 +6,7 @@ use Rattle.std.specs.Option.{is_some}
 use Rattle.hibitset_store.specs.Pages.{value_in}
 use Rattle.hibitset.proofs.Sizes.{members-without}
 use Rattle.hibitset_store.proofs.Paging.{is_some-without}
-use Rattle.hibitset_store.proofs.Sizing.{AreLaidOut-many, places_in-many, room-of_some}
+use Rattle.hibitset_store.proofs.Sizing.{AreLaidOut-put, places_in-many, room-of_some}
 use Rattle.hibitset_store.specs.Room.{places, words_len}
 use Rattle.hibitset_store.specs.declared.pages.TheConstants.{PAGE}
 use Rattle.hibitset_store.proofs.columns.Column.remove.Goals as goal
@@ -25,7 +25,7 @@ invariant_of-self-2 g c =
     let less = members-without (has mask) (has c.remove.new.self) c.args.id MAX_EID c.remove.ensures.removed there (has_within mask c.args.id there) in
     record {
       covers = λ i. c.remove.ensures.removed i ∙ is_some-without i c.args.id _ _ _ (c.args.self.now.covers i) (c.put.ensures.put c.args.id c.place-place.ensures i);
-      laid_out = AreLaidOut-many _ _ c.args.self.now.laid_out c.put.ensures.many;
+      laid_out = AreLaidOut-put _ _ c.args.id _ c.args.self.now.laid_out c.put.ensures.many (c.args.self.now.laid_out.made c.args.id (sym (c.args.self.now.covers c.args.id) ∙ there)) (c.put.ensures.put c.args.id c.place-place.ensures);
       counts = omega (arith, less, c.args.self.now.counts);
     }
 
