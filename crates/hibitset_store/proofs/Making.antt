@@ -7,7 +7,7 @@ use Rattle.std.proofs.lemmas.List.{drop-append-le, drop-set-add, drop-set-lt, ge
 use Rattle.hibitset_base.specs.Deciding.{same_or_not}
 use Rattle.hibitset_base.specs.declared.util.TheConstants.{MAX_EID}
 use Rattle.hibitset_store.specs.declared.pages.Pages.{Pages}
-use Rattle.hibitset_store.specs.declared.pages.TheConstants.{NO_PAGE, PAGE}
+use Rattle.hibitset_store.specs.declared.pages.TheConstants.{NO_PAGE, PAGE, SPARSEST}
 use Rattle.hibitset_store.specs.Pages.{AreLaidOut, HasPlace, is_made, pages_made, place_count, place_of, places_in, start_in, value_at, value_in}
 use Rattle.hibitset_store.proofs.Paging.{few_made, few_places, is_made-below, made_places, order-within, place_of-behind, place_of-ordered, place_of-same, place_of-some, placed, value_at-equal, value_at-unmade, value_in-past}
 
@@ -62,14 +62,16 @@ module _ {V : Type 0} where
   pub AreLaidOut-kept : (old new : Pages V) → ((i : ℕ) → place_of new i ≡ place_of old i) → place_count new ≡ place_count old
       → length new.starts.items ≤ MAX_EID / PAGE → new.in_order ≡ PAGE * (new.in_order / PAGE) → new.in_order ≤ PAGE * length new.starts.items
       → place_count new ≡ new.in_order + PAGE * pages_made (drop (new.in_order / PAGE) new.starts.items)
+      → pages_made old.starts.items ≤ pages_made new.starts.items
       → ((i : ℕ) → places_in new (i / PAGE) ≡ PAGE → HasPlace old i)
       → ((i : ℕ) → is_some (value_at new i) ≡ true → places_in new (i / PAGE) ≡ PAGE)
       → AreLaidOut old → AreLaidOut new
-  AreLaidOut-kept old new places count few whole ordered counts there made laid = record {
+  AreLaidOut-kept old new places count few whole ordered counts more there made laid = record {
     few = few;
     whole = whole;
     ordered = ordered;
     counts = counts;
+    bounded = let bounded = laid.bounded in omega (arith, bounded, count, more);
     there = λ i here. let place = places i in let was = there i here in omega (arith, place, was, count);
     apart = λ i j here same. let one = places i in let two = places j in laid.apart i j (omega (arith, here, one, count)) (omega (arith, one, two, same));
     made = made;
@@ -81,6 +83,7 @@ module _ {V : Type 0} where
       (λ i. place_of-same old new i order (ap (λ starts. start_in starts (i / PAGE)) starts))
       (ap length places) (rw starts laid.few) (rw order laid.whole) (rw (starts, order) laid.ordered)
       (ap length places ∙ (laid.counts ∙ rw (order, starts) refl))
+      (rw starts (omega arith))
       (λ i here. laid.there i (sym (same (i / PAGE)) ∙ here))
       (λ i some. same (i / PAGE) ∙ laid.made i (ap is_some (sym (value_at-equal old new starts places order i)) ∙ some))
       laid
@@ -94,6 +97,7 @@ module _ {V : Type 0} where
   AreLaidOut-longer old new n more starts places order short few laid = AreLaidOut-kept old new places-new (ap length places) few (rw order laid.whole)
       (let long = ap length is ∙ length-append old.starts.items (replicate more NO_PAGE) in let ordered = laid.ordered in omega (arith, order, long, ordered))
       (ap length places ∙ (laid.counts ∙ sym (rw (order, is) (ap (λ made. old.in_order + PAGE * made) (pages_made-drop_more old.starts.items (old.in_order / PAGE) more (let ordered = laid.ordered in omega (arith, ordered)))))))
+      (let same = ap pages_made is ∙ pages_made-more old.starts.items more in omega (arith, same))
       (λ i here. laid.there i (sym (in-new (i / PAGE)) ∙ here))
       (λ i some. in-new (i / PAGE) ∙ laid.made i (ap is_some (sym (values i)) ∙ some))
       laid
@@ -120,13 +124,14 @@ module _ {V : Type 0} where
     whole = rw order refl;
     ordered = rw order (omega arith);
     counts = ap length places ∙ sym (rw (order, starts) refl);
+    bounded = let none = ap length places in omega (arith, none);
     there = λ i made. absurd (let none : 0 ≡ PAGE = rw starts at made in omega (arith, none));
     apart = λ i j here same. absurd (let none = ap length places in omega (arith, none, here));
     made = λ i some. absurd (let none = ap length places in let here = place_of-some pages i some in omega (arith, none, here));
   }
 
   -- A page was made whose indices have places already, in order.
-  module _ (old new : Pages V) (page : ℕ) (laid : AreLaidOut old) (within : page < length old.starts.items) (ordered : page * PAGE < old.in_order)
+  module _ (old new : Pages V) (page : ℕ) (laid : AreLaidOut old) (within : page < length old.starts.items) (ordered : page * PAGE < old.in_order) (none : start_in old.starts.items page ≡ NO_PAGE)
       (starts : new.starts.items ≡ set old.starts.items page (page * PAGE)) (places : new.places.items ≡ old.places.items) (order : new.in_order ≡ old.in_order) where
     start-at : start_in new.starts.items page ≡ page * PAGE
     start-at = rw starts (get_or-set_same old.starts.items page (page * PAGE) NO_PAGE within)
@@ -156,6 +161,7 @@ module _ {V : Type 0} where
     AreLaidOut-ordered = AreLaidOut-kept old new places-same (ap length places) (rw (starts, length-set old.starts.items page (page * PAGE)) laid.few) (rw order laid.whole)
         (rw (starts, length-set old.starts.items page (page * PAGE), order) laid.ordered)
         (ap length places ∙ (laid.counts ∙ sym (rw (order, starts) (ap (λ list. old.in_order + PAGE * pages_made list) (drop-set-lt (old.in_order / PAGE) old.starts.items page (page * PAGE) (let whole = laid.whole in omega (arith, whole, ordered)))))))
+        (rw starts (let few = laid.few in let one = pages_made-set old.starts.items page (page * PAGE) within none (is_made-below (page * PAGE) (omega (arith, few, within))) in omega (arith, one)))
         (λ i made. elim (same_or_not (i / PAGE) page) [
           | inl here ↦
               let whole = laid.whole in
@@ -194,6 +200,12 @@ module _ {V : Type 0} where
         let before = laid.counts in
         let one = pages_made-drop_set old.starts.items (old.in_order / PAGE) page start (omega (arith, behind)) within none made-start in
         rw (order, starts) (omega (arith, count-new, before, one))
+
+    bounded-new : place_count new ≤ SPARSEST * (PAGE * pages_made new.starts.items)
+    bounded-new =
+        let bounded = laid.bounded in
+        let one = pages_made-set old.starts.items page start within none made-start in
+        rw starts (omega (arith, count-new, bounded, one))
 
     limit : place_count new < NO_PAGE
     limit =
@@ -260,7 +272,7 @@ module _ {V : Type 0} where
     ]
 
     pub AreLaidOut-made : AreLaidOut new
-    AreLaidOut-made = record { few = few-new; whole = rw order laid.whole; ordered = ordered-new; counts = counts-new; there = there-new; apart = apart-new; made = made-new }
+    AreLaidOut-made = record { few = few-new; whole = rw order laid.whole; ordered = ordered-new; counts = counts-new; bounded = bounded-new; there = there-new; apart = apart-new; made = made-new }
 
   -- The part that lies in order takes in the next page, whose places follow it.
   module _ (old new : Pages V) (page : ℕ) (laid : AreLaidOut old) (within : page < length old.starts.items) (next : page * PAGE ≡ old.in_order) (begins : start_in old.starts.items page ≡ page * PAGE)
@@ -296,6 +308,7 @@ module _ {V : Type 0} where
         AreLaidOut-kept old new places-next (ap length places) (rw starts laid.few) (let whole = laid.whole in omega (arith, order, whole))
         (rw starts (omega (arith, order, next, within)))
         (ap length places ∙ (counts ∙ rw (after, starts) (omega (arith, order, less))))
+        (rw starts (omega arith))
         (λ i made. laid.there i (sym (places_in-next (i / PAGE)) ∙ made))
         (λ i some. places_in-next (i / PAGE) ∙ laid.made i (ap is_some (sym (value_at-next i)) ∙ some))
         laid

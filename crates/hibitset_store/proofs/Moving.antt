@@ -1,14 +1,25 @@
 -- Pages that are laid out in order: each value comes to the place of its index's own number.
-use Rattle.std.proofs.Common.{◌≡◌, ℕ, ◌+◌, ◌-◌, ◌*◌, ◌/◌, ◌%◌, ◌<◌, ◌≤◌, List, drop, length, Option, None, is_some, refl, sym, ◌∙◌, ap, inl, inr, arith}
+use Rattle.std.proofs.Common.{◌≡◌, ℕ, ◌+◌, ◌-◌, ◌*◌, ◌/◌, ◌%◌, ◌<◌, ◌≤◌, zero, suc, Bool, true, false, cond, List, [], ◌∷◌, drop, length, Option, None, is_some, refl, sym, ◌∙◌, ap, inl, inr, arith}
+use Rattle.std.specs.List.{filter}
 use Rattle.std.specs.Prelude.{◌⊎◌, if◌then◌else◌}
 use Rattle.std.proofs.lemmas.Bool.{cases_lt}
 use Rattle.std.proofs.lemmas.List.{get_or_past}
 use Rattle.std.proofs.Math.Seq.{drop-length}
 use Rattle.hibitset_base.specs.Deciding.{same_or_not}
 use Rattle.hibitset_store.specs.declared.pages.Pages.{Pages}
-use Rattle.hibitset_store.specs.declared.pages.TheConstants.{NO_PAGE, PAGE}
+use Rattle.hibitset_store.specs.declared.pages.TheConstants.{NO_PAGE, PAGE, SPARSEST}
 use Rattle.hibitset_store.specs.Pages.{AreLaidOut, is_made, pages_made, place_count, place_of, places_in, start_in, value_at, value_in}
 use Rattle.hibitset_store.proofs.Paging.{place_of-behind, place_of-ordered, unmade_places, value_at-unmade, value_in-past}
+
+-- no more pages are made behind the first n than in all
+pages_made-drop_few : (n : ℕ) (starts : List ℕ) → pages_made (drop n starts) ≤ pages_made starts
+pages_made-drop_few zero starts = omega arith
+pages_made-drop_few (suc n) [] = omega arith
+pages_made-drop_few (suc n) (start ∷ starts) = by (is_made start) (pages_made-drop_few n starts)
+  where
+    by : (b : Bool) → pages_made (drop n starts) ≤ pages_made starts → pages_made (drop n starts) ≤ length (cond b (start ∷ filter is_made starts) (filter is_made starts))
+    by true few = omega (arith, few)
+    by false few = few
 
 module _ {V : Type 0} (old : Pages V) (laid : AreLaidOut old) where
   -- the places of a page lie in a row
@@ -89,7 +100,7 @@ module _ {V : Type 0} (old : Pages V) (laid : AreLaidOut old) where
   ]
 
   -- All pages were moved.
-  module _ (new : Pages V) (starts : new.starts.items ≡ old.starts.items) (order : new.in_order ≡ PAGE * length old.starts.items) (count : place_count new ≡ PAGE * length old.starts.items) (moved : (i : ℕ) → value_in new.places.items i ≡ value_at old i) where
+  module _ (new : Pages V) (starts : new.starts.items ≡ old.starts.items) (order : new.in_order ≡ PAGE * length old.starts.items) (count : place_count new ≡ PAGE * length old.starts.items) (worth : length old.starts.items * PAGE ≤ SPARSEST * (place_count old - old.in_order)) (moved : (i : ℕ) → value_in new.places.items i ≡ value_at old i) where
     -- an index past the table has no page
     past-table : (i : ℕ) → new.in_order ≤ i → start_in old.starts.items (i / PAGE) ≡ NO_PAGE
     past-table i past = get_or_past old.starts.items (i / PAGE) NO_PAGE (omega (arith, past, order))
@@ -125,6 +136,10 @@ module _ {V : Type 0} (old : Pages V) (laid : AreLaidOut old) where
           let all : new.in_order / PAGE ≡ length old.starts.items = omega (arith, order) in
           let none : pages_made (drop (new.in_order / PAGE) new.starts.items) ≡ 0 = rw (all, starts, drop-length old.starts.items) refl in
           omega (arith, count, order, none);
+      bounded =
+          let counts = laid.counts in
+          let few = pages_made-drop_few (old.in_order / PAGE) old.starts.items in
+          rw starts (omega (arith, count, worth, counts, few));
       there = λ i made. let below = in-table i made in let place = place_of-ordered new i below in omega (arith, place, below, order, count);
       apart = λ i j here same. elim (cases_lt i new.in_order) [
         | inl one ↦ elim (cases_lt j new.in_order) [

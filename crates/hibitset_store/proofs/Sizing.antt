@@ -1,5 +1,6 @@
 -- What room there is for an index that has a value.
-use Rattle.std.proofs.Common.{◌≡◌, ℕ, ◌/◌, ◌<◌, true, refl, sym, ◌∙◌, ap, inl, inr}
+use Rattle.std.proofs.Common.{◌≡◌, ℕ, suc, ◌+◌, ◌*◌, ◌/◌, ◌<◌, ◌≤◌, Bool, true, false, cond, List, [], ◌∷◌, length, refl, sym, ◌∙◌, ap, inl, inr, arith}
+use Rattle.std.specs.List.{filter}
 use Rattle.std.specs.Option.{is_some}
 use Rattle.std.specs.Prelude.{◌==◌, if◌then◌else◌, Option}
 use Rattle.std.proofs.lemmas.Bool.{cases_lt, false≢true}
@@ -7,9 +8,10 @@ use Rattle.hibitset.specs.BitSet.{has, slice_len}
 use Rattle.hibitset.specs.declared.set.BitSet.{BitSet}
 use Rattle.hibitset.proofs.CallerLemmas.{none_past_slice}
 use Rattle.hibitset_store.specs.declared.pages.Pages.{Pages}
-use Rattle.hibitset_store.specs.declared.pages.TheConstants.{PAGE}
+use Rattle.hibitset_store.specs.declared.pages.TheConstants.{PAGE, SPARSEST}
 use Rattle.hibitset_base.specs.Deciding.{eq_other, same_or_not}
-use Rattle.hibitset_store.specs.Pages.{AreAsMany, AreLaidOut, Covers, is_made, place_of, places_in, start_in, value_at}
+use Rattle.hibitset_base.specs.Members.{members, members_below}
+use Rattle.hibitset_store.specs.Pages.{AreAsMany, AreLaidOut, Covers, is_made, pages_made, place_count, place_of, places_in, start_in, value_at}
 use Rattle.hibitset_store.proofs.Making.{AreLaidOut-kept}
 use Rattle.hibitset_store.proofs.Paging.{place_of-same}
 
@@ -19,6 +21,16 @@ word-of_member mask i there = elim (cases_lt (i / 64) (slice_len mask 0)) [
   | inl within ↦ within
   | inr past ↦ absurd (false≢true (sym (none_past_slice mask i past) ∙ there))
 ]
+
+-- Pages are counted in the table or by their numbers.
+pages-counted : (starts : List ℕ) (holds : ℕ → Bool) (a : ℕ) → ((p : ℕ) → p < length starts → holds (a + p) ≡ is_made (start_in starts p)) → length (members holds a (length starts)) ≡ pages_made starts
+unfolding members
+pages-counted [] holds a same = refl
+pages-counted (start ∷ starts) holds a same = by (is_made start) (ap holds (omega arith) ∙ same 0 (omega arith)) (pages-counted starts holds (suc a) (λ p within. ap holds (omega arith) ∙ same (suc p) (omega (arith, within))))
+  where
+    by : (b : Bool) → holds a ≡ b → length (members holds (suc a) (length starts)) ≡ pages_made starts → length (cond (holds a) (a ∷ members holds (suc a) (length starts)) (members holds (suc a) (length starts))) ≡ length (cond b (start ∷ filter is_made starts) (filter is_made starts))
+    by true is rest = rw is (ap suc rest)
+    by false is rest = rw is rest
 
 module _ {V : Type 0} where
   -- there is room for each index that has a value
@@ -36,6 +48,7 @@ module _ {V : Type 0} where
       (rw many.order laid.whole)
       (rw (many.starts, many.order) laid.ordered)
       (many.count ∙ (laid.counts ∙ rw (many.order, many.starts) refl))
+      (rw many.starts (omega arith))
       (λ i here. laid.there i (sym (places_in-many old new many (i / PAGE)) ∙ here))
       (λ i some. places_in-many old new many (i / PAGE) ∙ made i some)
       laid
@@ -49,3 +62,14 @@ module _ {V : Type 0} where
     | inl here ↦ ap (λ i. places_in old (i / PAGE)) here ∙ page
     | inr other ↦ laid.made i (ap is_some (sym (put i ∙ rw (eq_other i id other) refl)) ∙ some)
   ])
+
+  -- and there are no more places than `SPARSEST` times those of the pages made
+  pub places-bounded : (pages : Pages V) → AreLaidOut pages → place_count pages ≤ SPARSEST * (PAGE * length (members_below (length pages.starts.items) (λ p. places_in pages p == PAGE)))
+  places-bounded pages laid =
+      let counted = pages-counted pages.starts.items (λ p. places_in pages p == PAGE) 0 (λ p within. ap (λ p. places_in pages p == PAGE) (omega arith) ∙ by (is_made (start_in pages.starts.items p))) in
+      let bounded = laid.bounded in
+      omega (arith, counted, bounded)
+    where
+      by : (b : Bool) → ((if b then PAGE else 0) == PAGE) ≡ b
+      by true = refl
+      by false = refl

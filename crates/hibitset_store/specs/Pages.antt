@@ -6,7 +6,7 @@ use Rattle.hibitset.specs.BitSet.{has}
 use Rattle.hibitset.specs.declared.set.BitSet.{BitSet}
 use Rattle.hibitset_base.specs.declared.util.TheConstants.{MAX_EID}
 use Rattle.hibitset_store.specs.declared.pages.Pages.{Pages}
-use Rattle.hibitset_store.specs.declared.pages.TheConstants.{NO_PAGE, PAGE}
+use Rattle.hibitset_store.specs.declared.pages.TheConstants.{NO_PAGE, PAGE, SPARSEST}
 
 -- tells whether the page is made whose places begin there
 abbrev pub is_made : ℕ → Bool
@@ -41,16 +41,17 @@ module _ {V : Type 0} where
   abbrev pub HasPlace : Pages V → ℕ → Type 0
   HasPlace pages i = place_of pages i < place_count pages
 
-  -- how many places a page has
+  -- how many places a page has, as far as it is made; one that is not may lie in the part that lies in order all the same
   abbrev pub places_in : Pages V → ℕ → ℕ
   places_in pages p = if is_made (start_in pages.starts.items p) then PAGE else 0
 
-  -- Each page that is made has its places, no two indices have the same one, and no index of another page has a value. The part that lies in order has the places of whole pages, made or not; each page behind it that is made has its places there.
+  -- Each page that is made has its places, no two indices have the same one, and no index of another page has a value. The part that lies in order has the places of whole pages, made or not; each page behind it that is made has its places there. All places are no more than `SPARSEST` times those of the pages made.
   pub record AreLaidOut (pages : Pages V) : Type 0 where
     pub few : length pages.starts.items ≤ MAX_EID / PAGE
     pub whole : pages.in_order ≡ PAGE * (pages.in_order / PAGE)
     pub ordered : pages.in_order ≤ PAGE * length pages.starts.items
     pub counts : place_count pages ≡ pages.in_order + PAGE * pages_made (drop (pages.in_order / PAGE) pages.starts.items)
+    pub bounded : place_count pages ≤ SPARSEST * (PAGE * pages_made pages.starts.items)
     pub there : (i : ℕ) → places_in pages (i / PAGE) ≡ PAGE → HasPlace pages i
     pub apart : (i j : ℕ) → HasPlace pages i → place_of pages i ≡ place_of pages j → i ≡ j
     pub made : (i : ℕ) → is_some (value_at pages i) ≡ true → places_in pages (i / PAGE) ≡ PAGE

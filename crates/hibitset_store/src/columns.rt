@@ -1,7 +1,7 @@
 //! Values by index, beside the set of the indices that have one.
-#![tactic(auto, unfolding(crate::specs::Columns::value_of, crate::specs::Room::places, crate::specs::Room::table_len, crate::specs::Room::words_len))]
+#![tactic(auto, unfolding(crate::specs::Columns::value_of, crate::specs::Room::places, crate::specs::Room::table_len, crate::specs::Room::list_len, crate::specs::Room::words_len))]
 
-ghost use Rattle.std.specs.Prelude.{◌≡◌, ℕ, ◌/◌, ◌<◌, ◌≤◌, true, Some, None, ◌↔◌, IsTrue, length, IfOk, IfErr, IsOk, IsSome, OnOk, OnErr, MatchOption};
+ghost use Rattle.std.specs.Prelude.{◌≡◌, ℕ, ◌*◌, ◌/◌, ◌<◌, ◌≤◌, true, Some, None, ◌↔◌, IsTrue, length, IfOk, IfErr, IsOk, IsSome, OnOk, OnErr, MatchOption};
 ghost use Rattle.std.specs.Borrow.{sem};
 ghost use Rattle.std.specs.Option.{is_some, option_copied_mut};
 ghost use Rattle.hibitset.specs.BitSet.{has, members_of, slice_len};
@@ -18,7 +18,7 @@ use std::alloc::Global;
 ///
 /// A page takes 2 KiB for values of four bytes, and the table four bytes for each 256 indices up to the highest key, beside the words of the set of keys. All pages lie in one list, which doubles when it is full, so up to twice as much may be taken, as of the table. A column costs little where keys lie near each other, and most where they lie far apart: 100,000 values at random indices below 2^30 take some 350 MB, those of the indices 0 to 99,999 about 1 MB.
 ///
-/// Pages that are made one after the other from index 0 on lie in the list as a flat one would have them, and a call on an index there looks at its place at once. Others lie behind, in the order in which they were made; but where the list is full, a quarter of the table's pages lie behind and it goes over no more than 2^21 indices, it is laid out anew, with places for all pages of the table. So up to eight times as much as the pages made may be taken.
+/// Pages that are made one after the other from index 0 on lie in the list as a flat one would have them, and a call on an index there looks at its place at once. Others lie behind, in the order in which they were made; but where the list is full, a quarter of the table's pages lie behind and it goes over no more than 2^21 indices, it is laid out anew, with places for all pages of the table. There are at most four times as many places as those of the pages made, and room for up to twice as many.
 #[derive(Drop)]
 pub struct Column<V: Drop> {
     mask: BitSet,
@@ -32,13 +32,15 @@ pub struct Column<V: Drop> {
 impl<V: Drop> Column<V> {
     ghost use Rattle.hibitset_store.specs.Columns.{IsWith, keys_of, value_of};
     ghost use Rattle.hibitset_store.specs.Lending.{LendsValue};
-    ghost use Rattle.hibitset_store.specs.Room.{HasRoom, KeepsRoom, MakesRoom, places, table_len, words_len};
+    ghost use Rattle.hibitset_store.specs.Room.{HasRoom, KeepsRoom, MakesRoom, list_len, made_pages, places, table_len, words_len};
+    ghost use Rattle.hibitset_store.specs.declared.pages.TheConstants.{PAGE, SPARSEST};
 
     /// The empty map, which takes no memory until the first `insert`.
     pub fn new(alloc: Global) -> Column<V>
         ensures empty { (i : ℕ) → value_of result i ≡ None }
         ensures pages { (p : ℕ) → places result p ≡ 0 }
         ensures table { table_len result ≡ 0 }
+        ensures list { list_len result ≡ 0 }
         ensures words { words_len result ≡ 0 }
     {
         Column {
@@ -116,6 +118,7 @@ impl<V: Drop> Column<V> {
         ensures over { IsSome (value_of self.old id) → KeepsRoom self.old self.new }
         ensures made { OnOk result (HasRoom self.new id) }
         ensures most { MakesRoom id self.old self.new }
+        ensures list { list_len self.new ≤ SPARSEST * (PAGE * made_pages self.new) }
         ensures stays { OnErr result (words_len self.new ≡ words_len self.old) }
     {
         let Ok(place) = self.pages.make_place(id) else {
@@ -153,6 +156,7 @@ impl<V: Drop> Column<V> {
         ensures empty { (i : ℕ) → value_of self.new i ≡ None }
         ensures pages { (p : ℕ) → places self.new p ≡ 0 }
         ensures table { table_len self.new ≡ 0 }
+        ensures list { list_len self.new ≡ 0 }
         ensures words { words_len self.new ≡ 0 }
     {
         self.mask.clear();

@@ -1,5 +1,5 @@
 //! Values in pages, each made whole when one of its indices first gets a value.
-ghost use Rattle.std.specs.Prelude.{◌≡◌, ◌≢◌, ◌⊎◌, ℕ, ◌+◌, ◌*◌, ◌/◌, ◌<◌, ◌≤◌, ◌==◌, max, length, [], Some, None, if◌then◌else◌, true, IsOk, IfOk, OnOk, OnErr, MatchOption, vec_len};
+ghost use Rattle.std.specs.Prelude.{◌≡◌, ◌≢◌, ◌⊎◌, ℕ, ◌+◌, ◌-◌, ◌*◌, ◌/◌, ◌<◌, ◌≤◌, ◌==◌, max, length, [], Some, None, if◌then◌else◌, true, IsOk, IfOk, OnOk, OnErr, MatchOption, vec_len};
 ghost use Rattle.std.specs.Borrow.{sem};
 ghost use Rattle.std.specs.Option.{is_some, option_copied_mut};
 ghost use Rattle.hibitset_base.specs.declared.util.TheConstants.{MAX_EID};
@@ -20,8 +20,8 @@ pub const NO_PAGE: u32 = u32::MAX;
 /// How many pages a table has at most that is laid out in order. Beyond it to move all values took longer than it saved.
 const MOST_IN_ORDER: usize = 8_192;
 
-/// A table is laid out in order only where one page of so many lies behind the part that does already, so that at least as many are made.
-const BEHIND_OF: usize = 4;
+/// How many times as many places there are at most as those of the pages that are made.
+pub const SPARSEST: usize = 4;
 
 // The values, in pages, with a place for each index of a page that is made. Each index below `in_order` has the place of its own number, whether its page is made or not; the other pages lie behind, in the order in which they were made.
 #[derive(Drop)]
@@ -212,21 +212,23 @@ impl<V: Drop> Pages<V> {
         Ok(())
     }
 
-    // Tells whether the pages are to be laid out in order: when there is no place for another one, where enough of the table lies behind and it is not too long.
+    // Tells whether the pages are to be laid out in order: when there is no place for another one, where so much of the table lies behind that there will not be too many places, and it is not too long.
     fn is_worth_order(&self) -> bool
         requires { AreLaidOut self.now }
+        ensures { result ≡ true → length self.now.starts.items * PAGE ≤ SPARSEST * (place_count self.now - self.now.in_order) }
     {
         let len = self.places.len();
         let pages = self.starts.len();
         len + PAGE > self.places.capacity()
             && self.in_order < len
             && pages <= MOST_IN_ORDER
-            && pages * PAGE <= BEHIND_OF * (len - self.in_order)
+            && pages * PAGE <= SPARSEST * (len - self.in_order)
     }
 
     // Lays the places of all pages of the table out in order, with as much room as when the list of places doubles. Refused, it changes nothing.
     fn put_in_order(&mut self) -> Result<(), AllocError>
         requires laid_out { AreLaidOut self.old }
+        requires worth { length self.old.starts.items * PAGE ≤ SPARSEST * (place_count self.old - self.old.in_order) }
         ensures same { (i : ℕ) → value_at self.new i ≡ value_at self.old i }
         ensures laid_out { AreLaidOut self.new }
         ensures starts { self.new.starts ≡ self.old.starts }

@@ -10,4 +10,4 @@ returns-clause-laid_out g c =
     let none = ap length c.in_ok-places.ensures.items in
     let long = c.move_pages.ensures.long in
     let added = c.in_ok-add_places.ensures.added in
-    AreLaidOut-in_order pages c.requires.laid_out _ (ap (λ starts. starts.items) c.move_pages.ensures.starts) end (omega (arith, long, added, none, end)) c.move_pages.ensures.moved
+    AreLaidOut-in_order pages c.requires.laid_out _ (ap (λ starts. starts.items) c.move_pages.ensures.starts) end (omega (arith, long, added, none, end)) c.requires.worth c.move_pages.ensures.moved
