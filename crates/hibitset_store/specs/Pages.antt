@@ -2,6 +2,7 @@
 use Rattle.std.specs.Prelude.{◌≡◌, ℕ, ◌+◌, ◌*◌, ◌/◌, ◌%◌, ◌<◌, ◌≤◌, ◌==◌, ltb, Bool, true, not, if◌then◌else◌, List, length, drop, slice_index_or, Option, option_and_then, slice_get}
 use Rattle.std.specs.List.{filter}
 use Rattle.std.specs.Option.{is_some}
+use Rattle.std.proofs.Props.{props}
 use Rattle.hibitset.specs.BitSet.{has}
 use Rattle.hibitset.specs.declared.set.BitSet.{BitSet}
 use Rattle.hibitset_base.specs.declared.util.TheConstants.{MAX_EID}
@@ -55,6 +56,15 @@ module _ {V : Type 0} where
     pub there : (i : ℕ) → places_in pages (i / PAGE) ≡ PAGE → HasPlace pages i
     pub apart : (i j : ℕ) → HasPlace pages i → place_of pages i ≡ place_of pages j → i ≡ j
     pub made : (i : ℕ) → is_some (value_at pages i) ≡ true → places_in pages (i / PAGE) ≡ PAGE
+
+  -- the same, shut: it stands in each column that a caller has, and no proof there needs to see into it
+  unfoldable pub IsLaidOut : Pages V → Type 0
+  IsLaidOut pages = AreLaidOut pages
+
+  -- it is a fact
+  pub IsLaidOut-prop : (pages : Pages V) → IsProp (IsLaidOut pages)
+  unfolding IsLaidOut
+  IsLaidOut-prop pages = Prim.hlevel props
 
   -- the same pages, with as many places
   pub record AreAsMany (old new : Pages V) : Type 0 where

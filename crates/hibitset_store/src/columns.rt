@@ -1,12 +1,12 @@
 //! Values by index, beside the set of the indices that have one.
-#![tactic(auto, unfolding(crate::specs::Columns::value_of, crate::specs::Room::places, crate::specs::Room::table_len, crate::specs::Room::list_len, crate::specs::Room::words_len))]
+#![tactic(auto, unfolding(crate::specs::Columns::value_of, crate::specs::Pages::IsLaidOut, crate::specs::Room::places, crate::specs::Room::table_len, crate::specs::Room::list_len, crate::specs::Room::words_len))]
 
 ghost use Rattle.std.specs.Prelude.{◌≡◌, ℕ, ◌*◌, ◌/◌, ◌<◌, ◌≤◌, true, Some, None, ◌↔◌, IsTrue, length, IfOk, IfErr, IsOk, IsSome, OnOk, OnErr, MatchOption};
 ghost use Rattle.std.specs.Borrow.{sem};
 ghost use Rattle.std.specs.Option.{is_some, option_copied_mut};
 ghost use Rattle.hibitset.specs.BitSet.{has, members_of, slice_len};
 ghost use Rattle.hibitset_base.specs.declared.util.TheConstants.{MAX_EID};
-ghost use Rattle.hibitset_store.specs.Pages.{AreLaidOut, Covers};
+ghost use Rattle.hibitset_store.specs.Pages.{Covers, IsLaidOut, IsLaidOut-prop};
 
 use crate::pages::Pages;
 use hibitset::{BitSet, BitSetLike, Index};
@@ -25,7 +25,7 @@ pub struct Column<V: Drop> {
     pages: Pages<V>,
     count: usize,
     ghost covers: { Covers mask pages },
-    ghost laid_out: { AreLaidOut pages },
+    ghost laid_out: { IsLaidOut pages } by { IsLaidOut-prop pages },
     ghost counts: { count ≡ length (members_of mask) },
 }
 

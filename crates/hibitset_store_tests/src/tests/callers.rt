@@ -4,9 +4,9 @@ ghost use Rattle.std.specs.Option.{is_some, option_map};
 ghost use Rattle.hibitset_base.specs.declared.util.TheConstants.{LAYERS};
 ghost use Rattle.hibitset_store.specs.Columns.{entries_of, entry_seen, keys_of, value_of};
 ghost use Rattle.hibitset_store.specs.Joins.{joined, joined_within, seen};
-ghost use Rattle.hibitset_store.specs.Room.{HasRoom};
+ghost use Rattle.hibitset_store.specs.Room.{HasRoom, list_len, made_pages};
 ghost use Rattle.hibitset_store.specs.Walks.{reads_of};
-ghost use Rattle.hibitset_store.specs.declared.pages.TheConstants.{PAGE};
+ghost use Rattle.hibitset_store.specs.declared.pages.TheConstants.{PAGE, SPARSEST};
 
 use super::*;
 use hibitset_store::Join;
@@ -191,6 +191,19 @@ fn fill(column: &mut Column<u32>, value: u32) -> bool
     true
 }
 
+// The column of these indices, each with itself as its value, as far as there is memory. However they lie, it has at most four times as many places as those of its pages.
+fn spread(alloc: Global, ids: &[Index]) -> Column<u32>
+    ensures { list_len result ≤ SPARSEST * (PAGE * made_pages result) }
+{
+    let mut column = Column::new(alloc);
+    for id in ids {
+        if (*id as usize) < MAX_EID && column.insert(*id, *id).is_err() {
+            return column;
+        }
+    }
+    column
+}
+
 #[test]
 fn joins_of_callers(rt: HostRuntime) -> Result<(), Fail> {
     let alloc = rt.alloc();
@@ -235,5 +248,13 @@ fn room_of_callers(rt: HostRuntime) -> Result<(), Fail> {
     assert!(rt; put_far(&mut column) && column.remove(5_000_000) == Some(9));
     assert!(rt; fill(&mut column, 4) && column.len() == 257);
     assert!(rt; column.get(7) == Some(&0) && column.get(255) == Some(&4));
+    let column = spread(rt.alloc(), &[1_800, 4_294_967_295, 1_600, 1_400, 5]);
+    assert!(rt;
+        has_exactly(
+            rt.alloc(),
+            &column,
+            &[(5, 5), (1_400, 1_400), (1_600, 1_600), (1_800, 1_800)]
+        )?
+    );
     Ok(())
 }

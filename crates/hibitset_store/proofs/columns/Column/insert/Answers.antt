@@ -5,6 +5,7 @@ use Rattle.std.proofs.lemmas.Bool.{false≢true}
 use Rattle.std.proofs.lemmas.Bool.Decides.{nat_tests}
 use Rattle.hibitset.specs.BitSet.{has}
 use Rattle.hibitset_base.specs.declared.util.TheConstants.{MAX_EID}
+use Rattle.hibitset_store.specs.Pages.{IsLaidOut}
 use Rattle.hibitset_store.specs.Columns.{value_of}
 use Rattle.hibitset_store.specs.Room.{list_len, places, table_len, words_len}
 use Rattle.hibitset_store.specs.declared.pages.TheConstants.{PAGE}
@@ -14,21 +15,21 @@ use Rattle.hibitset_store.proofs.Sizing.{AreLaidOut-put, places-bounded, places_
 use Rattle.hibitset_store.proofs.columns.Column.insert.Goals as goal
 
 pub returns-in_default-add-clause-room : goal.returns-in_default-add-clause-room
-unfolding value_of
+unfolding value_of IsLaidOut
 returns-in_default-add-clause-room g c = λ some.
     let column = c.args.self.now in
     let (page, word) = room-of_some column.mask column.pages column.covers column.laid_out c.args.id some in
     c.in_default-add.ensures.room word
 
 pub returns-in_default-add-clause-over : goal.returns-in_default-add-clause-over
-unfolding value_of
+unfolding value_of IsLaidOut
 returns-in_default-add-clause-over g c = λ some.
     let column = c.args.self.now in
     let (page, word) = room-of_some column.mask column.pages column.covers column.laid_out c.args.id some in
     absurd (false≢true (c.in_default-add.ensures.room word))
 
 pub returns-then-had-clause-over : goal.returns-then-had-clause-over
-unfolding value_of places table_len list_len words_len
+unfolding value_of places table_len list_len words_len IsLaidOut
 returns-then-had-clause-over g c = λ some.
     let column = c.args.self.now in
     let (page, word) = room-of_some column.mask column.pages column.covers column.laid_out c.args.id some in
@@ -55,6 +56,7 @@ overflow_add-self g c =
     omega (arith, few, c.args.self.now.counts)
 
 pub invariant_of-self-2 : goal.invariant_of-self-2
+unfolding IsLaidOut
 invariant_of-self-2 g c =
     let column = c.args.self.now in
     let add = c.in-Ok-add.ensures in
@@ -72,6 +74,7 @@ returns-clause-made g c =
     (places_in-many _ _ c.put-2.ensures.many (c.args.id / PAGE) ∙ page, word-of_member c.add.new.self c.args.id there)
 
 pub invariant_of-self-then-had-clause-laid_out : goal.invariant_of-self-then-had-clause-laid_out
+unfolding IsLaidOut
 invariant_of-self-then-had-clause-laid_out g c = AreLaidOut-put _ _ c.args.id _ c.in-Ok.ensures.laid_out c.put.ensures.many c.in-Ok.ensures.made (c.put.ensures.put c.args.id c.in-Ok.ensures.place)
 
 pub invariant_of-self-then-had-clause-counts : goal.invariant_of-self-then-had-clause-counts
@@ -82,22 +85,23 @@ invariant_of-self-then-had-clause-counts g c =
     omega (arith, same)
 
 pub returns-in_default-clause-list : goal.returns-in_default-clause-list
-unfolding places table_len list_len
+unfolding places table_len list_len IsLaidOut
 returns-in_default-clause-list g c = places-bounded _ c.in_default.ensures.laid_out
 
 pub returns-in_default-add-clause-list : goal.returns-in_default-add-clause-list
-unfolding places table_len list_len
+unfolding places table_len list_len IsLaidOut
 returns-in_default-add-clause-list g c = places-bounded _ c.in-Ok.ensures.laid_out
 
 pub returns-then-had-clause-list : goal.returns-then-had-clause-list
-unfolding places table_len list_len
+unfolding places table_len list_len IsLaidOut
 returns-then-had-clause-list g c = places-bounded _ (AreLaidOut-put _ _ c.args.id _ c.in-Ok.ensures.laid_out c.put.ensures.many c.in-Ok.ensures.made (c.put.ensures.put c.args.id c.in-Ok.ensures.place))
 
 pub returns-clause-list : goal.returns-clause-list
-unfolding places table_len list_len
+unfolding places table_len list_len IsLaidOut
 returns-clause-list g c = places-bounded _ (AreLaidOut-put _ _ c.args.id _ c.in-Ok.ensures.laid_out c.put-2.ensures.many c.in-Ok.ensures.made (c.put-2.ensures.put c.args.id c.in-Ok.ensures.place))
 
 pub invariant_of-self-in_default-add-clause-laid_out : goal.invariant_of-self-in_default-add-clause-laid_out
+unfolding IsLaidOut
 invariant_of-self-in_default-add-clause-laid_out g c = c.in-Ok.ensures.laid_out
 
 pub invariant_of-self-then-had-clause-covers : goal.invariant_of-self-then-had-clause-covers

@@ -3,7 +3,7 @@ use Rattle.hibitset.specs.BitSet.{has}
 use Rattle.hibitset.proofs.CallerLemmas.{has_within}
 use Rattle.hibitset_base.specs.declared.util.TheConstants.{MAX_EID}
 use Rattle.std.specs.Option.{is_some}
-use Rattle.hibitset_store.specs.Pages.{value_in}
+use Rattle.hibitset_store.specs.Pages.{IsLaidOut, value_in}
 use Rattle.hibitset.proofs.Sizes.{members-without}
 use Rattle.hibitset_store.proofs.Paging.{is_some-without}
 use Rattle.hibitset_store.proofs.Sizing.{AreLaidOut-put, places_in-many, room-of_some}
@@ -19,6 +19,7 @@ overflow_sub-self g c =
     omega (arith, less, c.args.self.now.counts)
 
 pub invariant_of-self-2 : goal.invariant_of-self-2
+unfolding IsLaidOut
 invariant_of-self-2 g c =
     let mask = c.args.self.now.mask in
     let there : has mask c.args.id ≡ true = sym c.remove.ensures.was ∙ c.if-not-remove.false in
@@ -30,7 +31,7 @@ invariant_of-self-2 g c =
     }
 
 pub returns-clause-room : goal.returns-clause-room
-unfolding places words_len
+unfolding places words_len IsLaidOut
 returns-clause-room g c = λ some.
     let column = c.args.self.now in
     let was = ap is_some (ap (value_in column.pages.places.items) (sym c.place-place.ensures) ∙ sym c.put.ensures.was) ∙ some in
