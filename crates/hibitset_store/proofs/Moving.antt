@@ -42,7 +42,7 @@ module _ {V : Type 0} (old : Pages V) (laid : AreLaidOut old) where
   -- and all of them are there, where it is made
   pub row-within : (p : ℕ) → places_in old p ≡ PAGE → place_of old (p * PAGE) + PAGE ≤ place_count old
   row-within p made =
-      let last = p * PAGE + 255 in
+      let last = p * PAGE + (PAGE - 1) in
       let page : last / PAGE ≡ p = omega arith in
       let there = laid.there last (ap (places_in old) page ∙ made) in
       let row = place_of-row last in

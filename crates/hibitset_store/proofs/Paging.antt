@@ -30,6 +30,13 @@ is_some-with i id had was new value covers put = rw put (by (i == id) had was va
     by false true was value covers = covers
     by false false was value covers = covers
 
+-- and after a key was given another value
+pub is_some-again : {V : Type 0} (i id : ℕ) (values : ℕ → Option V) (value : V) (new : Option V) → is_some (values id) ≡ true → new ≡ (if i == id then Some value else values i) → is_some (values i) ≡ is_some new
+is_some-again i id values value new key put = elim (same_or_not i id) [
+  | inl here ↦ rw (put, eq_same i id here) (ap (λ i. is_some (values i)) here ∙ key)
+  | inr other ↦ rw (put, eq_other i id other) refl
+]
+
 -- and after a value was written over
 pub is_some-over : {V : Type 0} (i id : ℕ) (was new : Option V) (last : V) → new ≡ (if i == id then written_over was last else was) → is_some was ≡ is_some new
 is_some-over i id was new last put = rw put (by (i == id) was last)

@@ -121,18 +121,48 @@ impl<V: Drop> Column<V> {
         ensures list { list_len self.new ≤ SPARSEST * (PAGE * made_pages self.new) }
         ensures stays { OnErr result (words_len self.new ≡ words_len self.old) }
     {
+        if self.mask.contains(id) {
+            return Ok(self.write_over(id, value));
+        }
+        self.insert_new(id, value)?;
+        Ok(None)
+    }
+
+    // Gives a key another value, and gives back the one that it had. The column keeps its room.
+    #[inline]
+    fn write_over(&mut self, id: Index, value: V) -> Option<V>
+        requires { is_some (value_of self.old id) ≡ true }
+        ensures was { result ≡ value_of self.old id }
+        ensures inserted { IsWith (value_of self.old) id (Some value) (value_of self.new) }
+        ensures keeps { KeepsRoom self.old self.new }
+    {
+        let place = self.pages.place_of_some(id);
+        self.pages.put(place, Some(value))
+    }
+
+    // Gives an index below `MAX_EID` its first value. Refused memory, it hands the value back, and no value has changed.
+    #[inline]
+    fn insert_new(&mut self, id: Index, value: V) -> Result<(), V>
+        requires below { id < MAX_EID }
+        requires none { value_of self.old id ≡ None }
+        ensures inserted { OnOk result (IsWith (value_of self.old) id (Some value) (value_of self.new)) }
+        ensures back { IfErr result (λ back. back ≡ value) }
+        ensures refused { OnErr result ((i : ℕ) → value_of self.new i ≡ value_of self.old i) }
+        ensures ready { HasRoom self.old id → IsOk result }
+        ensures unused { HasRoom self.old id → KeepsRoom self.old self.new }
+        ensures made { OnOk result (HasRoom self.new id) }
+        ensures most { MakesRoom id self.old self.new }
+        ensures stays { OnErr result (words_len self.new ≡ words_len self.old) }
+    {
         let Ok(place) = self.pages.make_place(id) else {
             return Err(value);
         };
-        let Ok(had) = self.mask.add(id) else {
+        let Ok(_) = self.mask.add(id) else {
             return Err(value);
         };
-        if had {
-            return Ok(self.pages.put(place, Some(value)));
-        }
         self.count += 1;
         self.pages.put(place, Some(value));
-        Ok(None)
+        Ok(())
     }
 
     /// Takes the value of an index out. The column keeps its room.

@@ -12,13 +12,13 @@ use std::marker::PhantomData;
 use std::mem;
 
 /// How many indices a page has places for.
-pub const PAGE: usize = 256;
+pub const PAGE: usize = 64;
 
 /// Where the places of a page begin that is not made: past all places.
 pub const NO_PAGE: u32 = u32::MAX;
 
 /// How many pages a table has at most that is laid out in order. With a table eight times as long, `insert` from empty took twice its time.
-const MOST_IN_ORDER: usize = 8_192;
+const MOST_IN_ORDER: usize = 32_768;
 
 /// How many times as many places there are at most as those of the pages that are made.
 pub const SPARSEST: usize = 4;
@@ -75,7 +75,7 @@ impl<V: Drop> Pages<V> {
 
     // The place of an index that has a value. It does not ask whether the page stands in the table.
     #[inline]
-    fn place_of_some(&self, id: Index) -> usize
+    pub(crate) fn place_of_some(&self, id: Index) -> usize
         requires laid_out { AreLaidOut self.now }
         requires some { is_some (value_at self.now id) ≡ true }
         ensures { result ≡ place_of self.now id }
@@ -256,7 +256,7 @@ impl<V: Drop> Pages<V> {
         while page < self.starts.len() {
             if self.start(page) != NO_PAGE {
                 let first = self.place((page * PAGE) as Index);
-                swap_pages(&mut self.places, first, places, page * PAGE);
+                move_page(&mut self.places, first, places, page * PAGE);
             }
             page += 1;
         }
@@ -319,8 +319,8 @@ fn add_places<V: Drop>(places: &mut Vec<Option<V>>, count: usize) -> Result<(), 
     poured
 }
 
-// Exchanges what is in the places of a page, which begin at `first`, with what is in those of another list from `to` on.
-fn swap_pages<V: Drop>(
+// Moves the values of a page, whose places begin at `first`, to the empty places of another list from `to` on.
+fn move_page<V: Drop>(
     places: &mut Vec<Option<V>>,
     first: usize,
     others: &mut Vec<Option<V>>,
@@ -328,6 +328,7 @@ fn swap_pages<V: Drop>(
 )
     requires first { first + PAGE ≤ length places.old.items }
     requires to { to + PAGE ≤ length others.old.items }
+    requires empty { (k : ℕ) → k < PAGE → value_in others.old.items (to + k) ≡ None }
     ensures moved { (k : ℕ) → k < PAGE → value_in others.new.items (to + k) ≡ value_in places.old.items (first + k) }
     ensures beside { (j : ℕ) → (j < to) ⊎ (to + PAGE ≤ j) → value_in others.new.items j ≡ value_in others.old.items j }
     ensures kept { (j : ℕ) → (j < first) ⊎ (first + PAGE ≤ j) → value_in places.new.items j ≡ value_in places.old.items j }
@@ -336,7 +337,9 @@ fn swap_pages<V: Drop>(
 {
     let mut at = 0;
     while at < PAGE {
-        mem::swap(&mut places[first + at], &mut others[to + at]);
+        if places[first + at].is_some() {
+            mem::swap(&mut places[first + at], &mut others[to + at]);
+        }
         at += 1;
     }
 }

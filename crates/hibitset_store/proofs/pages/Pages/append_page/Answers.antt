@@ -1,5 +1,6 @@
 use Rattle.std.proofs.Common.{◌+◌, refl, sym, ◌∙◌, arith}
 use Rattle.std.specs.Vec.{with_item}
+use Rattle.hibitset_store.specs.declared.pages.TheConstants.{PAGE}
 use Rattle.hibitset_store.proofs.Making.{AreLaidOut-equal, AreLaidOut-made, AreLaidOut-made_next, value_at-made, value_at-made_next}
 use Rattle.hibitset_store.proofs.Paging.{few_places, value_at-equal}
 use Rattle.hibitset_store.proofs.pages.Pages.append_page.Goals as goal
@@ -14,7 +15,7 @@ pub returns-in_err-add_places-clause-laid_out : goal.returns-in_err-add_places-c
 returns-in_err-add_places-clause-laid_out g c = AreLaidOut-equal c.args.self.now _ refl c.in_err-add_places.ensures.refused refl c.requires.laid_out
 
 pub returns-then-start-self-clause-same : goal.returns-then-start-self-clause-same
-returns-then-start-self-clause-same g c = value_at-made_next c.args.self.now (record { starts = with_item c.args.self.now.starts c.args.page c.len-start.result; places = c.add_places.new.places; in_order = c.args.self.now.in_order + 256 }) c.args.page c.len-start.result (c.len-start.ensures ∙ c.args.self.now.places.ok.0) c.requires.laid_out c.requires.within (sym c.if-start-page.true ∙ c.if-start-self.true) c.if-start-page.true c.requires.none refl refl c.add_places.ensures.same c.in_ok-add_places.ensures.added
+returns-then-start-self-clause-same g c = value_at-made_next c.args.self.now (record { starts = with_item c.args.self.now.starts c.args.page c.len-start.result; places = c.add_places.new.places; in_order = c.args.self.now.in_order + PAGE }) c.args.page c.len-start.result (c.len-start.ensures ∙ c.args.self.now.places.ok.0) c.requires.laid_out c.requires.within (sym c.if-start-page.true ∙ c.if-start-self.true) c.if-start-page.true c.requires.none refl refl c.add_places.ensures.same c.in_ok-add_places.ensures.added
 
 pub returns-then-start-self-clause-laid_out : goal.returns-then-start-self-clause-laid_out
 returns-then-start-self-clause-laid_out g c = AreLaidOut-made_next c.args.self.now _ c.args.page c.len-start.result (c.len-start.ensures ∙ c.args.self.now.places.ok.0) c.requires.laid_out c.requires.within (sym c.if-start-page.true ∙ c.if-start-self.true) c.if-start-page.true c.requires.none refl refl c.add_places.ensures.same c.in_ok-add_places.ensures.added

@@ -1,4 +1,4 @@
-use Rattle.std.proofs.Common.{◌≡◌, ◌*◌, ◌/◌, ◌∙◌, ap, sym, arith}
+use Rattle.std.proofs.Common.{◌≡◌, ◌+◌, ◌*◌, ◌/◌, ◌∙◌, ap, sym, arith}
 use Rattle.hibitset_store.specs.declared.pages.TheConstants.{PAGE}
 use Rattle.hibitset_store.specs.Pages.{start_in}
 use Rattle.hibitset_store.proofs.Moving.{ahead-then, left-then, moved-else, moved-then, row-within}
@@ -6,8 +6,8 @@ use Rattle.hibitset_store.proofs.Paging.{made_places, place_of-same}
 use Rattle.hibitset_store.proofs.pages.Pages.move_pages.Goals as goal
 use Rattle.hibitset_store.proofs.pages.Pages.move_pages.Goals.{then-start, else-start}
 
-pub swap_pages-requires-clause-first : goal.swap_pages-requires-clause-first
-swap_pages-requires-clause-first g c =
+pub move_page-requires-clause-first : goal.move_page-requires-clause-first
+move_page-requires-clause-first g c =
     let pages = c.args.self.now in
     let page = c.loop-page.page in
     let start : c.start.result ≡ start_in pages.starts.items page = c.start.ensures ∙ ap (λ starts. start_in starts.items page) c.loop-page.invariant.starts in
@@ -28,15 +28,15 @@ loop-page-preserved g c =
       | then-start w ↦
           let made = made_places (start_in pages.starts.items page) (λ none. w.if-start.true (start ∙ none)) in
           let first = w.place-first.ensures ∙ place_of-same pages c.loop-page.self (page * PAGE) inv.order (ap (λ starts. start_in starts.items (page * PAGE / PAGE)) inv.starts) in
-          let swap = w.swap_pages.ensures in
+          let swap = w.move_page.ensures in
           rw (w.self-is, w.places-is) (record {
             starts = inv.starts;
             order = inv.order;
             long = swap.long ∙ inv.long;
             many = swap.many ∙ inv.many;
-            moved = moved-then pages laid page made c.loop-page.self.places.items w.swap_pages.new.places.items c.loop-page.places.items w.swap_pages.new.others.items w.place-first.result first swap.moved swap.beside swap.kept inv.moved inv.ahead inv.left;
-            ahead = ahead-then pages laid page made c.loop-page.self.places.items w.swap_pages.new.places.items c.loop-page.places.items w.swap_pages.new.others.items w.place-first.result first swap.moved swap.beside swap.kept inv.moved inv.ahead inv.left;
-            left = left-then pages laid page made c.loop-page.self.places.items w.swap_pages.new.places.items c.loop-page.places.items w.swap_pages.new.others.items w.place-first.result first swap.moved swap.beside swap.kept inv.moved inv.ahead inv.left;
+            moved = moved-then pages laid page made c.loop-page.self.places.items w.move_page.new.places.items c.loop-page.places.items w.move_page.new.others.items w.place-first.result first swap.moved swap.beside swap.kept inv.moved inv.ahead inv.left;
+            ahead = ahead-then pages laid page made c.loop-page.self.places.items w.move_page.new.places.items c.loop-page.places.items w.move_page.new.others.items w.place-first.result first swap.moved swap.beside swap.kept inv.moved inv.ahead inv.left;
+            left = left-then pages laid page made c.loop-page.self.places.items w.move_page.new.places.items c.loop-page.places.items w.move_page.new.others.items w.place-first.result first swap.moved swap.beside swap.kept inv.moved inv.ahead inv.left;
           })
       | else-start w ↦ rw (w.self-is, w.places-is) (record {
         starts = inv.starts;
@@ -48,3 +48,6 @@ loop-page-preserved g c =
         left = λ i past. inv.left i (omega (arith, past));
       })
     ]
+
+pub move_page-requires-clause-empty : goal.move_page-requires-clause-empty
+move_page-requires-clause-empty g c = λ k small. c.loop-page.invariant.ahead (c.loop-page.page * PAGE + k) (omega (arith, small))

@@ -6,7 +6,7 @@ use Rattle.hibitset_store.proofs.pages.Pages.put_in_order.Goals as goal
 pub returns-clause-laid_out : goal.returns-clause-laid_out
 returns-clause-laid_out g c =
     let pages = c.args.self.now in
-    let end : c.len-end.result * 256 ≡ PAGE * length pages.starts.items = let is = c.len-end.ensures ∙ pages.starts.ok.0 in omega (arith, is) in
+    let end : c.len-end.result * PAGE ≡ PAGE * length pages.starts.items = let is = c.len-end.ensures ∙ pages.starts.ok.0 in omega (arith, is) in
     let none = ap length c.in_ok-places.ensures.items in
     let long = c.move_pages.ensures.long in
     let added = c.in_ok-add_places.ensures.added in
