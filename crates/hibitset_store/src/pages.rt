@@ -145,10 +145,27 @@ impl<V: Drop> Pages<V> {
     {
         let page = id as usize / PAGE;
         if self.start(page) == NO_PAGE {
-            self.lengthen(page)?;
-            self.add_page(page)?;
+            self.make_page(page)?;
         }
         Ok(self.place(id))
+    }
+
+    // Makes a page, and the table as long as it needs. Refused, it leaves each page as it was. It is a call of its own, so that its loops take no registers from those that insert.
+    #[inline(never)]
+    fn make_page(&mut self, page: usize) -> Result<(), AllocError>
+        requires laid_out { AreLaidOut self.old }
+        requires below { page < MAX_EID / PAGE }
+        requires none { start_in self.old.starts.items page ≡ NO_PAGE }
+        ensures same { (i : ℕ) → value_at self.new i ≡ value_at self.old i }
+        ensures laid_out { AreLaidOut self.new }
+        ensures made { OnOk result (places_in self.new page ≡ PAGE) }
+        ensures stays { OnErr result ((p : ℕ) → places_in self.new p ≡ places_in self.old p) }
+        ensures others { (p : ℕ) → p ≢ page → places_in self.new p ≡ places_in self.old p }
+        ensures keeps { vec_len self.old.starts ≤ vec_len self.new.starts }
+        ensures most { vec_len self.new.starts ≤ max (vec_len self.old.starts) (page + 1) }
+    {
+        self.lengthen(page)?;
+        self.add_page(page)
     }
 
     // Makes the table go as far as a page, and makes no page. Refused, it changes nothing.
@@ -338,7 +355,7 @@ fn move_page<V: Drop>(
     let mut at = 0;
     while at < PAGE {
         if places[first + at].is_some() {
-            mem::swap(&mut places[first + at], &mut others[to + at]);
+            others[to + at] = places[first + at].take();
         }
         at += 1;
     }
