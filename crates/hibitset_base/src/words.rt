@@ -539,6 +539,23 @@ pub(crate) fn fold_walk<T: BitSetLike, R, F: Fn(R, Index) -> R>(
     so_far
 }
 
+// The items of a walk, folded in order one by one.
+#[inline]
+pub(crate) fn fold_items<T: BitSetLike, R, F: Fn(R, Index) -> R>(
+    walk: BitIter<T>,
+    init: R,
+    step: &F,
+) -> R
+    requires { F.IsAlwaysCallable step.now }
+    ensures { FoldsTo (λ a x b. F.post step.now a x b) init (items_left T.holds walk) result }
+{
+    let mut so_far = init;
+    'items: for item in walk {
+        so_far = step(so_far, item);
+    }
+    so_far
+}
+
 // Calls `f` at each item of a walk.
 #[inline]
 pub(crate) fn visit_walk<T: BitSetLike, F: Fn(Index)>(walk: BitIter<T>, f: &F)

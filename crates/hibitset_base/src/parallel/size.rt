@@ -18,6 +18,16 @@ pub(super) struct Size {
     listing: usize,
 }
 
+// How many members a word has at least, all in all, where a fold gains by going over whole words.
+const DENSE: usize = 3;
+
+impl Size {
+    // Tells whether a fold gains nothing by going over whole words.
+    pub(super) fn is_sparse(self) -> bool {
+        self.full == 0 && self.members < self.words.saturating_mul(DENSE)
+    }
+}
+
 const NOTHING: Size = Size {
     full: 0,
     words: 0,
