@@ -1,15 +1,20 @@
--- Pages that are laid out in order: each value comes to the place of its index's own number.
-use Rattle.std.proofs.Common.{◌≡◌, ℕ, ◌+◌, ◌-◌, ◌*◌, ◌/◌, ◌%◌, ◌<◌, ◌≤◌, zero, suc, Bool, true, false, cond, List, [], ◌∷◌, drop, length, Option, None, is_some, refl, sym, ◌∙◌, ap, inl, inr, arith}
+-- Pages that are laid out in order: each value is moved to the place of its index's own number.
+use Rattle.std.proofs.Common.{◌≡◌, ℕ, ◌+◌, ◌-◌, ◌*◌, ◌/◌, ◌%◌, ◌<◌, ◌≤◌, zero, suc, Bool, true, false, cond, List, [], ◌∷◌, drop, length, set, Option, None, is_some, refl, sym, ◌∙◌, ap, inl, inr, arith}
 use Rattle.std.specs.List.{filter}
-use Rattle.std.specs.Prelude.{◌⊎◌, if◌then◌else◌}
-use Rattle.std.proofs.lemmas.Bool.{cases_lt}
+use Rattle.std.specs.Prelude.{◌==◌, ◌⊎◌, if◌then◌else◌}
+use Rattle.std.proofs.lemmas.Bool.{cases_lt, false≢true}
 use Rattle.std.proofs.lemmas.List.{get_or_past}
 use Rattle.std.proofs.Math.Seq.{drop-length}
-use Rattle.hibitset_base.specs.Deciding.{same_or_not}
+use Rattle.hibitset_base.specs.Deciding.{eq_other, eq_same, same_or_not}
+use Rattle.hibitset_base.specs.Members.{members_below}
+use Rattle.hibitset_base.specs.declared.util.TheConstants.{MAX_EID}
+use Rattle.hibitset_base.proofs.CallerLemmas.{after_first, none_at_all}
+use Rattle.hibitset_base.proofs.Firsts.{first_below}
 use Rattle.hibitset_store.specs.declared.pages.Pages.{Pages}
 use Rattle.hibitset_store.specs.declared.pages.TheConstants.{NO_PAGE, PAGE, SPARSEST}
-use Rattle.hibitset_store.specs.Pages.{AreLaidOut, is_made, pages_made, place_count, place_of, places_in, start_in, value_at, value_in}
-use Rattle.hibitset_store.proofs.Paging.{place_of-behind, place_of-ordered, unmade_places, value_at-unmade, value_in-past}
+use Rattle.hibitset_store.specs.Pages.{AreAsMany, AreLaidOut, is_made, pages_made, place_count, place_of, places_in, start_in, value_at, value_in}
+use Rattle.hibitset_store.proofs.Sizing.{AreLaidOut-put}
+use Rattle.hibitset_store.proofs.Paging.{is_some-without, no_value, place_of-behind, place_of-ordered, unmade_places, value_at-unmade, value_in-past, value_in-set_other, value_in-set_same}
 
 -- no more pages are made behind the first n than in all
 pages_made-drop_few : (n : ℕ) (starts : List ℕ) → pages_made (drop n starts) ≤ pages_made starts
@@ -22,84 +27,78 @@ pages_made-drop_few (suc n) (start ∷ starts) = by (is_made start) (pages_made-
     by false few = few
 
 module _ {V : Type 0} (old : Pages V) (laid : AreLaidOut old) where
-  -- the places of a page lie in a row
-  pub place_of-row : (i : ℕ) → place_of old i ≡ place_of old (i / PAGE * PAGE) + i % PAGE
-  place_of-row i =
-      let whole = laid.whole in
-      let first = i / PAGE * PAGE in
-      elim (cases_lt i old.in_order) [
-        | inl below ↦
-            let one = place_of-ordered old i below in
-            let two = place_of-ordered old first (omega (arith, below)) in
-            omega (arith, one, two)
-        | inr past ↦
-            let one = place_of-behind old i past in
-            let two = place_of-behind old first (omega (arith, past, whole)) in
-            let page : start_in old.starts.items (first / PAGE) ≡ start_in old.starts.items (i / PAGE) = ap (start_in old.starts.items) (omega arith) in
-            omega (arith, one, two, page)
-      ]
-
-  -- and all of them are there, where it is made
-  pub row-within : (p : ℕ) → places_in old p ≡ PAGE → place_of old (p * PAGE) + PAGE ≤ place_count old
-  row-within p made =
-      let last = p * PAGE + (PAGE - 1) in
-      let page : last / PAGE ≡ p = omega arith in
-      let there = laid.there last (ap (places_in old) page ∙ made) in
-      let row = place_of-row last in
-      let first : place_of old (last / PAGE * PAGE) ≡ place_of old (p * PAGE) = ap (λ p. place_of old (p * PAGE)) page in
-      omega (arith, there, row, first)
-
-  -- A page that is made changes its places with those of the same number in another list.
-  module _ (p : ℕ) (made : places_in old p ≡ PAGE) (from from-new to to-new : List (Option V)) (first : ℕ) (here : first ≡ place_of old (p * PAGE))
-      (swapped : (k : ℕ) → k < PAGE → value_in to-new (p * PAGE + k) ≡ value_in from (first + k))
-      (beside : (j : ℕ) → (j < p * PAGE) ⊎ (p * PAGE + PAGE ≤ j) → value_in to-new j ≡ value_in to j)
-      (kept : (j : ℕ) → (j < first) ⊎ (first + PAGE ≤ j) → value_in from-new j ≡ value_in from j)
-      (moved : (i : ℕ) → i / PAGE < p → value_in to i ≡ value_at old i)
-      (ahead : (i : ℕ) → p ≤ i / PAGE → value_in to i ≡ None)
-      (left : (i : ℕ) → p ≤ i / PAGE → places_in old (i / PAGE) ≡ PAGE → value_in from (place_of old i) ≡ value_at old i) where
-    -- the place of an index of this page
-    place-here : (i : ℕ) → i / PAGE ≡ p → place_of old i ≡ first + i % PAGE
-    place-here i page =
-        let row = place_of-row i in
-        let at : place_of old (i / PAGE * PAGE) ≡ place_of old (p * PAGE) = ap (λ p. place_of old (p * PAGE)) page in
-        omega (arith, row, at, here)
-
-    pub moved-then : (i : ℕ) → i / PAGE < p + 1 → value_in to-new i ≡ value_at old i
-    moved-then i below = elim (same_or_not (i / PAGE) p) [
-      | inl page ↦
-          let at : i ≡ p * PAGE + i % PAGE = omega (arith, page) in
-          ap (value_in to-new) at
-          ∙ (swapped (i % PAGE) (omega arith)
-          ∙ (ap (value_in from) (sym (place-here i page))
-          ∙ left i (omega (arith, page)) (ap (places_in old) page ∙ made)))
-      | inr other ↦ let less : i / PAGE < p = omega (arith, below, other) in beside i (inl (omega (arith, less))) ∙ moved i less
-    ]
-
-    pub ahead-then : (i : ℕ) → p + 1 ≤ i / PAGE → value_in to-new i ≡ None
-    ahead-then i past = beside i (inr (omega (arith, past))) ∙ ahead i (omega (arith, past))
-
-    pub left-then : (i : ℕ) → p + 1 ≤ i / PAGE → places_in old (i / PAGE) ≡ PAGE → value_in from-new (place_of old i) ≡ value_at old i
-    left-then i past page = elim (cases_lt (place_of old i) first) [
-      | inl before ↦ kept (place_of old i) (inl before) ∙ left i (omega (arith, past)) page
-      | inr from-first ↦ elim (cases_lt (place_of old i) (first + PAGE)) [
-        | inl inside ↦
-            let k = place_of old i - first in
-            let small : k < PAGE = omega (arith, from-first, inside) in
-            let place = place-here (p * PAGE + k) (omega (arith, small)) in
-            let same = laid.apart i (p * PAGE + k) (laid.there i page) (omega (arith, place, small, from-first)) in
-            absurd (omega (arith, same, small, past))
-        | inr after ↦ kept (place_of old i) (inr after) ∙ left i (omega (arith, past)) page
-      ]
-    ]
-
-  -- A page that is not made has nothing to move.
-  pub moved-else : (p : ℕ) (to : List (Option V)) → start_in old.starts.items p ≡ NO_PAGE → ((i : ℕ) → i / PAGE < p → value_in to i ≡ value_at old i) → ((i : ℕ) → p ≤ i / PAGE → value_in to i ≡ None) → (i : ℕ) → i / PAGE < p + 1 → value_in to i ≡ value_at old i
-  moved-else p to none moved ahead i below = elim (same_or_not (i / PAGE) p) [
-    | inl page ↦ ahead i (omega (arith, page)) ∙ sym (value_at-unmade old i laid (ap (start_in old.starts.items) page ∙ none))
-    | inr other ↦ moved i (omega (arith, below, other))
+  -- the table goes farther than each index with a value
+  pub within-table : (i : ℕ) → is_some (value_at old i) ≡ true → i < PAGE * length old.starts.items
+  within-table i some = elim (cases_lt (i / PAGE) (length old.starts.items)) [
+    | inl within ↦ omega (arith, within)
+    | inr past ↦ absurd (let made = laid.made i some in let none = unmade_places old (i / PAGE) (get_or_past old.starts.items (i / PAGE) NO_PAGE past) in omega (arith, made, none))
   ]
 
-  -- All pages were moved.
+  -- where no value is left that lies below the range, none is left at all
+  pub none-left : members_below MAX_EID (λ i. is_some (value_at old i)) ≡ [] → (i : ℕ) → value_at old i ≡ None
+  none-left ended i =
+      let none = none_at_all MAX_EID (λ i. is_some (value_at old i)) (λ i some. let within = within-table i some in let few = laid.few in omega (arith, within, few)) ended i in
+      no_value (is_some (value_at old i)) (value_at old i) refl none
+
+-- Values that are moved, one after another.
+module _ {V : Type 0} (first : Pages V) where
+  -- an index's value lies where it was, or in the place of the index's own number
+  abbrev pub LiesInOne : Pages V → List (Option V) → ℕ → Type 0
+  LiesInOne pages places i = ((value_at pages i ≡ value_at first i) × (value_in places i ≡ None)) ⊎ ((value_at pages i ≡ None) × (value_in places i ≡ value_at first i))
+
+  -- what is taken out was there at first
+  taken : (pages : Pages V) (places : List (Option V)) (id : ℕ) → is_some (value_at pages id) ≡ true → LiesInOne pages places id → value_at pages id ≡ value_at first id
+  taken pages places id some (inl (same, empty)) = same
+  taken pages places id some (inr (none, there)) = absurd (false≢true (sym (ap is_some none) ∙ some))
+
+  moved-one : (old new : Pages V) (places : List (Option V)) (id : ℕ) (value : Option V) → is_some (value_at old id) ≡ true → value ≡ value_at old id → id < length places
+      → ((i : ℕ) → value_at new i ≡ (if i == id then None else value_at old i)) → ((i : ℕ) → LiesInOne old places i) → (i : ℕ) → LiesInOne new (set places id value) i
+  moved-one old new places id value some was within without one i = elim (same_or_not i id) [
+    | inl here ↦ inr (
+      without i ∙ rw (eq_same i id here) refl,
+      ap (value_in (set places id value)) here ∙ (value_in-set_same places id value within ∙ (was ∙ (taken old places id some (one id) ∙ ap (value_at first) (sym here)))),
+    )
+    | inr other ↦
+        let same : value_at new i ≡ value_at old i = without i ∙ rw (eq_other i id other) refl in
+        let beside = value_in-set_other places id i value other in
+        elim (one i) [
+          | inl (stays, empty) ↦ inl (same ∙ stays, beside ∙ empty)
+          | inr (gone, there) ↦ inr (same ∙ gone, beside ∙ there)
+        ]
+  ]
+
+  -- those of `keys` are to be moved still
+  pub record AreMoving (keys : List ℕ) (pages : Pages V) (places : List (Option V)) : Type 0 where
+    pub laid_out : AreLaidOut pages
+    pub starts : pages.starts.items ≡ first.starts.items
+    pub left : keys ≡ members_below MAX_EID (λ i. is_some (value_at pages i))
+    pub one : (i : ℕ) → LiesInOne pages places i
+
+  -- the first of them has a value
+  pub first-left : (keys rest : List ℕ) (id : ℕ) (pages : Pages V) (places : List (Option V)) → AreMoving keys pages places → keys ≡ id ∷ rest → is_some (value_at pages id) ≡ true
+  first-left keys rest id pages places moving next = (first_below MAX_EID (λ i. is_some (value_at pages i)) id rest (sym moving.left ∙ next)).stands
+
+  -- and once it is moved, the others are left
+  pub AreMoving-next : (keys rest : List ℕ) (id : ℕ) (old new : Pages V) (places : List (Option V)) (value : Option V) → AreMoving keys old places → keys ≡ id ∷ rest → value ≡ value_at old id → id < length places → AreAsMany old new
+      → ((i : ℕ) → value_at new i ≡ (if i == id then None else value_at old i)) → AreMoving rest new (set places id value)
+  AreMoving-next keys rest id old new places value moving next was within many without =
+      let some = first-left keys rest id old places moving next in
+      record {
+        laid_out = AreLaidOut-put old new id None moving.laid_out many (moving.laid_out.made id some) without;
+        starts = many.starts ∙ moving.starts;
+        left = after_first MAX_EID (λ i. is_some (value_at old i)) (λ i. is_some (value_at new i)) id rest (sym moving.left ∙ next) (λ i. sym (is_some-without i id (is_some (value_at old i)) (value_at old i) (value_at new i) refl (without i)));
+        one = moved-one old new places id value some was within without moving.one;
+      }
+
+  -- where none is left, each lies in its new place
+  pub moved-all : (keys : List ℕ) (pages : Pages V) (places : List (Option V)) → AreMoving keys pages places → keys ≡ [] → (i : ℕ) → value_in places i ≡ value_at first i
+  moved-all keys pages places moving ended i = elim (moving.one i) [
+    | inl (stays, empty) ↦ empty ∙ (sym (none-left pages moving.laid_out (sym moving.left ∙ ended) i) ∙ stays)
+    | inr (gone, there) ↦ there
+  ]
+
+module _ {V : Type 0} (old : Pages V) (laid : AreLaidOut old) where
+  -- All values were moved.
   module _ (new : Pages V) (starts : new.starts.items ≡ old.starts.items) (order : new.in_order ≡ PAGE * length old.starts.items) (count : place_count new ≡ PAGE * length old.starts.items) (worth : length old.starts.items * PAGE ≤ SPARSEST * (place_count old - old.in_order)) (moved : (i : ℕ) → value_in new.places.items i ≡ value_at old i) where
     -- an index past the table has no page
     past-table : (i : ℕ) → new.in_order ≤ i → start_in old.starts.items (i / PAGE) ≡ NO_PAGE

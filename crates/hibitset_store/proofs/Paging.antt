@@ -117,12 +117,12 @@ module _ {V : Type 0} where
   place_of-same old new i order start = rw (order, start) refl
 
   -- what a place has after one is changed
-  value_in-set_same : (places : List (Option V)) (j : ℕ) (value : Option V) → j < length places → value_in (set places j value) j ≡ value
+  pub value_in-set_same : (places : List (Option V)) (j : ℕ) (value : Option V) → j < length places → value_in (set places j value) j ≡ value
   value_in-set_same [] j value within = absurd (omega (arith, within))
   value_in-set_same (first ∷ places) zero value within = refl
   value_in-set_same (first ∷ places) (suc j) value within = value_in-set_same places j value (omega (arith, within))
 
-  value_in-set_other : (places : List (Option V)) (j k : ℕ) (value : Option V) → k ≢ j → value_in (set places j value) k ≡ value_in places k
+  pub value_in-set_other : (places : List (Option V)) (j k : ℕ) (value : Option V) → k ≢ j → value_in (set places j value) k ≡ value_in places k
   value_in-set_other [] j k value other = refl
   value_in-set_other (first ∷ places) zero zero value other = absurd (other refl)
   value_in-set_other (first ∷ places) zero (suc k) value other = refl

@@ -154,7 +154,7 @@ impl<V: Drop> Column<V> {
         ensures most { MakesRoom id self.old self.new }
         ensures stays { OnErr result (words_len self.new ≡ words_len self.old) }
     {
-        let Ok(place) = self.pages.make_place(id) else {
+        let Ok(place) = self.pages.make_place(id, &self.mask) else {
             return Err(value);
         };
         let Ok(_) = self.mask.add(id) else {

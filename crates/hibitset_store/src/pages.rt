@@ -4,9 +4,9 @@ ghost use Rattle.std.specs.Borrow.{sem};
 ghost use Rattle.std.specs.Option.{is_some, option_copied_mut};
 ghost use Rattle.hibitset_base.specs.declared.util.TheConstants.{MAX_EID};
 ghost use Rattle.hibitset_store.specs.PageLending.{LendsPlace};
-ghost use Rattle.hibitset_store.specs.Pages.{AreAsMany, AreLaidOut, HasPlace, place_count, place_of, places_in, start_in, value_at, value_in};
+ghost use Rattle.hibitset_store.specs.Pages.{AreAsMany, AreLaidOut, Covers, HasPlace, place_count, place_of, places_in, start_in, value_at, value_in};
 
-use hibitset::Index;
+use hibitset::{BitSet, Index};
 use std::alloc::{AllocError, Global};
 use std::marker::PhantomData;
 use std::mem;
@@ -128,8 +128,9 @@ impl<V: Drop> Pages<V> {
 
     // The place of an index, whose page is made if it has to be. It changes no value. Refused, it leaves each page as it was.
     #[inline]
-    pub(crate) fn make_place(&mut self, id: Index) -> Result<usize, AllocError>
+    pub(crate) fn make_place(&mut self, id: Index, keys: &BitSet) -> Result<usize, AllocError>
         requires laid_out { AreLaidOut self.old }
+        requires keys { Covers keys.now self.old }
         requires below { id < MAX_EID }
         ensures place { IfOk result (λ place. place ≡ place_of self.new id) }
         ensures there { OnOk result (HasPlace self.new id) }
@@ -145,15 +146,16 @@ impl<V: Drop> Pages<V> {
     {
         let page = id as usize / PAGE;
         if self.start(page) == NO_PAGE {
-            self.make_page(page)?;
+            self.make_page(page, keys)?;
         }
         Ok(self.place(id))
     }
 
     // Makes a page, and the table as long as it needs. Refused, it leaves each page as it was. It is a call of its own, so that its loops take no registers from those that insert.
     #[inline(never)]
-    fn make_page(&mut self, page: usize) -> Result<(), AllocError>
+    fn make_page(&mut self, page: usize, keys: &BitSet) -> Result<(), AllocError>
         requires laid_out { AreLaidOut self.old }
+        requires keys { Covers keys.now self.old }
         requires below { page < MAX_EID / PAGE }
         requires none { start_in self.old.starts.items page ≡ NO_PAGE }
         ensures same { (i : ℕ) → value_at self.new i ≡ value_at self.old i }
@@ -165,7 +167,7 @@ impl<V: Drop> Pages<V> {
         ensures most { vec_len self.new.starts ≤ max (vec_len self.old.starts) (page + 1) }
     {
         self.lengthen(page)?;
-        self.add_page(page)
+        self.add_page(page, keys)
     }
 
     // Makes the table go as far as a page, and makes no page. Refused, it changes nothing.
@@ -186,8 +188,9 @@ impl<V: Drop> Pages<V> {
     }
 
     // Makes a page. Refused, it leaves each page as it was.
-    fn add_page(&mut self, page: usize) -> Result<(), AllocError>
+    fn add_page(&mut self, page: usize, keys: &BitSet) -> Result<(), AllocError>
         requires laid_out { AreLaidOut self.old }
+        requires keys { Covers keys.now self.old }
         requires within { page < length self.old.starts.items }
         requires none { start_in self.old.starts.items page ≡ NO_PAGE }
         ensures same { (i : ℕ) → value_at self.new i ≡ value_at self.old i }
@@ -198,7 +201,7 @@ impl<V: Drop> Pages<V> {
         ensures table { vec_len self.new.starts ≡ vec_len self.old.starts }
     {
         if self.is_worth_order() {
-            self.put_in_order()?;
+            self.put_in_order(keys)?;
         }
         if page * PAGE < self.in_order {
             self.starts[page] = (page * PAGE) as u32;
@@ -243,39 +246,37 @@ impl<V: Drop> Pages<V> {
     }
 
     // Lays the places of all pages of the table out in order, with as much room as when the list of places doubles. Refused, it changes nothing.
-    fn put_in_order(&mut self) -> Result<(), AllocError>
+    fn put_in_order(&mut self, keys: &BitSet) -> Result<(), AllocError>
         requires laid_out { AreLaidOut self.old }
+        requires keys { Covers keys.now self.old }
         requires worth { length self.old.starts.items * PAGE ≤ SPARSEST * (place_count self.old - self.old.in_order) }
         ensures same { (i : ℕ) → value_at self.new i ≡ value_at self.old i }
         ensures laid_out { AreLaidOut self.new }
-        ensures starts { self.new.starts ≡ self.old.starts }
+        ensures starts { self.new.starts.items ≡ self.old.starts.items }
     {
         let end = self.starts.len() * PAGE;
         let room = end.max(2 * self.places.len());
         let mut places = Vec::with_capacity(*self.places.allocator(), room)?;
         add_places(&mut places, end)?;
-        self.move_pages(&mut places);
+        self.move_values(keys, &mut places);
         self.places = places;
         self.in_order = end;
         Ok(())
     }
 
-    // Moves all values to empty places, where each gets the place of its index's own number. What is left behind is not said.
-    fn move_pages(&mut self, places: &mut Vec<Option<V>>)
+    // Moves the values of all keys to empty places, where each gets the place of its index's own number.
+    fn move_values(&mut self, keys: &BitSet, places: &mut Vec<Option<V>>)
         requires laid_out { AreLaidOut self.old }
+        requires keys { Covers keys.now self.old }
         requires long { length places.old.items ≡ PAGE * length self.old.starts.items }
         requires empty { (j : ℕ) → value_in places.old.items j ≡ None }
         ensures moved { (i : ℕ) → value_in places.new.items i ≡ value_at self.old i }
         ensures long { length places.new.items ≡ length places.old.items }
-        ensures starts { self.new.starts ≡ self.old.starts }
+        ensures starts { self.new.starts.items ≡ self.old.starts.items }
     {
-        let mut page = 0;
-        while page < self.starts.len() {
-            if self.start(page) != NO_PAGE {
-                let first = self.place((page * PAGE) as Index);
-                move_page(&mut self.places, first, places, page * PAGE);
-            }
-            page += 1;
+        'keys: for id in keys {
+            let place = self.place_of_some(id);
+            places[id as usize] = self.put(place, None);
         }
     }
 
@@ -334,29 +335,4 @@ fn add_places<V: Drop>(places: &mut Vec<Option<V>>, count: usize) -> Result<(), 
         places.truncate(before);
     }
     poured
-}
-
-// Moves the values of a page, whose places begin at `first`, to the empty places of another list from `to` on.
-fn move_page<V: Drop>(
-    places: &mut Vec<Option<V>>,
-    first: usize,
-    others: &mut Vec<Option<V>>,
-    to: usize,
-)
-    requires first { first + PAGE ≤ length places.old.items }
-    requires to { to + PAGE ≤ length others.old.items }
-    requires empty { (k : ℕ) → k < PAGE → value_in others.old.items (to + k) ≡ None }
-    ensures moved { (k : ℕ) → k < PAGE → value_in others.new.items (to + k) ≡ value_in places.old.items (first + k) }
-    ensures beside { (j : ℕ) → (j < to) ⊎ (to + PAGE ≤ j) → value_in others.new.items j ≡ value_in others.old.items j }
-    ensures kept { (j : ℕ) → (j < first) ⊎ (first + PAGE ≤ j) → value_in places.new.items j ≡ value_in places.old.items j }
-    ensures long { length others.new.items ≡ length others.old.items }
-    ensures many { length places.new.items ≡ length places.old.items }
-{
-    let mut at = 0;
-    while at < PAGE {
-        if places[first + at].is_some() {
-            others[to + at] = places[first + at].take();
-        }
-        at += 1;
-    }
 }

@@ -11,7 +11,7 @@ returns-then-page-self-clause-laid_out g c =
       | then-is_worth_order+in_ok-put_in_order w ↦ rw w.self-is w.put_in_order.ensures.laid_out
       | else-is_worth_order w ↦ rw w.self-is c.requires.laid_out
     ] in
-    let starts : pages.starts ≡ c.args.self.now.starts = elim c.if-is_worth_order.branch [
+    let starts : pages.starts.items ≡ c.args.self.now.starts.items = elim c.if-is_worth_order.branch [
       | then-is_worth_order+in_ok-put_in_order w ↦ rw w.self-is w.put_in_order.ensures.starts
       | else-is_worth_order w ↦ rw w.self-is refl
     ] in

@@ -8,6 +8,6 @@ returns-clause-laid_out g c =
     let pages = c.args.self.now in
     let end : c.len-end.result * PAGE ≡ PAGE * length pages.starts.items = let is = c.len-end.ensures ∙ pages.starts.ok.0 in omega (arith, is) in
     let none = ap length c.in_ok-places.ensures.items in
-    let long = c.move_pages.ensures.long in
+    let long = c.move_values.ensures.long in
     let added = c.in_ok-add_places.ensures.added in
-    AreLaidOut-in_order pages c.requires.laid_out _ (ap (λ starts. starts.items) c.move_pages.ensures.starts) end (omega (arith, long, added, none, end)) c.requires.worth c.move_pages.ensures.moved
+    AreLaidOut-in_order pages c.requires.laid_out _ c.move_values.ensures.starts end (omega (arith, long, added, none, end)) c.requires.worth c.move_values.ensures.moved
