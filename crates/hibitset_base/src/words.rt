@@ -539,18 +539,18 @@ pub(crate) fn fold_walk<T: BitSetLike, R, F: Fn(R, Index) -> R>(
     so_far
 }
 
-// The items of a walk, folded in order one by one.
-#[inline]
-pub(crate) fn fold_items<T: BitSetLike, R, F: Fn(R, Index) -> R>(
-    walk: BitIter<T>,
+// The members of a set, folded in order one by one. It is a call of its own and begins the walk, so that the loop has the registers to itself.
+#[inline(never)]
+pub(crate) fn fold_members<T: BitSetLike, R, F: Fn(R, Index) -> R>(
+    set: &T,
     init: R,
     step: &F,
 ) -> R
     requires { F.IsAlwaysCallable step.now }
-    ensures { FoldsTo (λ a x b. F.post step.now a x b) init (items_left T.holds walk) result }
+    ensures { FoldsTo (λ a x b. F.post step.now a x b) init (members_below MAX_EID (T.holds set.now)) result }
 {
     let mut so_far = init;
-    'items: for item in walk {
+    'items: for item in BitIter::from_top(set) {
         so_far = step(so_far, item);
     }
     so_far

@@ -14,9 +14,9 @@ use std::alloc::Global;
 
 /// A finite map from indices below `MAX_EID` to values, with the set of its keys.
 ///
-/// Values lie in pages of 256 places, and the page of an index is made whole when one of its indices first gets a value. Each call on one index looks at one entry of the table of pages at most and at one place.
+/// Values lie in pages of 64 places, and the page of an index is made whole when one of its indices first gets a value. Each call on one index looks at one word of the keys, at one entry of the table of pages and at one place, at most.
 ///
-/// A page takes 2 KiB for values of four bytes, and the table four bytes for each 256 indices up to the highest key, beside the words of the set of keys. All pages lie in one list, which doubles when it is full, so up to twice as much may be taken, as of the table. A column costs little where keys lie near each other, and most where they lie far apart: 100,000 values at random indices below 2^30 take some 350 MB, those of the indices 0 to 99,999 about 1 MB.
+/// A page takes 512 bytes for values of four bytes, and the table four bytes for each 64 indices up to the highest key, 67 MB at 2^30, beside the words of the set of keys, 136 MB there. All pages lie in one list, which doubles when it is full, so up to twice as much may be taken, as of the table. A column costs little where keys lie near each other, and most where they lie far apart: 100,000 values at random indices below 2^30 take some XXX MB, those of the indices 0 to 99,999 about 1 MB.
 ///
 /// Pages that are made one after the other from index 0 on lie in the list as a flat one would have them, and a call on an index there looks at its place at once. Others lie behind, in the order in which they were made; but where the list is full, a quarter of the table's pages lie behind and it goes over no more than 2^21 indices, it is laid out anew, with places for all pages of the table. There are at most four times as many places as those of the pages made, and room for up to twice as many.
 #[derive(Drop)]

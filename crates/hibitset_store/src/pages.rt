@@ -17,7 +17,7 @@ pub const PAGE: usize = 64;
 /// Where the places of a page begin that is not made: past all places.
 pub const NO_PAGE: u32 = u32::MAX;
 
-/// How many pages a table has at most that is laid out in order. With a table eight times as long, `insert` from empty took twice its time.
+/// How many pages a table has at most that is laid out in order: those of 2^21 indices. With a table eight times as long, `insert` from empty took twice its time.
 const MOST_IN_ORDER: usize = 32_768;
 
 /// How many times as many places there are at most as those of the pages that are made.

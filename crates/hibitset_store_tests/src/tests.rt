@@ -82,37 +82,37 @@ fn a_column_is_a_map(rt: HostRuntime) -> Result<(), Fail> {
 #[test]
 fn pages_in_order_keep_their_values(rt: HostRuntime) -> Result<(), Fail> {
     let alloc = rt.alloc();
-    let mut column = column_of(alloc, &[(1_800, 70), (1_600, 60), (1_400, 50)])?;
-    assert!(rt; has_exactly(alloc, &column, &[(1_400, 50), (1_600, 60), (1_800, 70)])?);
-    assert!(rt; column.get(1_399).is_none() && column.get(300).is_none());
-    assert!(rt; column.get(2_047).is_none() && column.get(2_048).is_none());
-    assert_eq!(rt; column.insert(300, 10), Ok(None));
-    assert_eq!(rt; column.insert(300, 11), Ok(Some(10)));
-    assert_eq!(rt; column.insert(9_000, 90), Ok(None));
-    assert_eq!(rt; column.insert(4_000, 80), Ok(None));
-    assert_eq!(rt; column.remove(1_600), Some(60));
-    assert_eq!(rt; column.remove(1_601), None);
+    let mut column = column_of(alloc, &[(450, 70), (400, 60), (350, 50)])?;
+    assert!(rt; has_exactly(alloc, &column, &[(350, 50), (400, 60), (450, 70)])?);
+    assert!(rt; column.get(349).is_none() && column.get(75).is_none());
+    assert!(rt; column.get(511).is_none() && column.get(512).is_none());
+    assert_eq!(rt; column.insert(75, 10), Ok(None));
+    assert_eq!(rt; column.insert(75, 11), Ok(Some(10)));
+    assert_eq!(rt; column.insert(2_250, 90), Ok(None));
+    assert_eq!(rt; column.insert(1_000, 80), Ok(None));
+    assert_eq!(rt; column.remove(400), Some(60));
+    assert_eq!(rt; column.remove(401), None);
     assert!(rt;
         has_exactly(
             alloc,
             &column,
             &[
-                (300, 11),
-                (1_400, 50),
-                (1_800, 70),
-                (4_000, 80),
-                (9_000, 90)
+                (75, 11),
+                (350, 50),
+                (450, 70),
+                (1_000, 80),
+                (2_250, 90)
             ]
         )?
     );
-    if let Some(value) = column.get_mut(1_400) {
+    if let Some(value) = column.get_mut(350) {
         *value = 51;
     }
-    assert_eq!(rt; column.get(1_400).copied(), Some(51));
+    assert_eq!(rt; column.get(350).copied(), Some(51));
     column.clear();
-    assert!(rt; column.get(300).is_none() && has_exactly(alloc, &column, &[])?);
-    assert_eq!(rt; column.insert(300, 12), Ok(None));
-    assert!(rt; has_exactly(alloc, &column, &[(300, 12)])?);
+    assert!(rt; column.get(75).is_none() && has_exactly(alloc, &column, &[])?);
+    assert_eq!(rt; column.insert(75, 12), Ok(None));
+    assert!(rt; has_exactly(alloc, &column, &[(75, 12)])?);
     Ok(())
 }
 
@@ -120,14 +120,14 @@ fn pages_in_order_keep_their_values(rt: HostRuntime) -> Result<(), Fail> {
 #[test]
 fn ascending_pages_lie_in_order(rt: HostRuntime) -> Result<(), Fail> {
     let alloc = rt.alloc();
-    let mut column = column_of(alloc, &[(5, 1), (260, 2), (600, 3), (2_000, 4)])?;
-    assert_eq!(rt; column.insert(700, 5), Ok(None));
-    assert_eq!(rt; column.insert(1_000, 6), Ok(None));
+    let mut column = column_of(alloc, &[(5, 1), (65, 2), (150, 3), (500, 4)])?;
+    assert_eq!(rt; column.insert(175, 5), Ok(None));
+    assert_eq!(rt; column.insert(250, 6), Ok(None));
     assert!(rt;
         has_exactly(
             alloc,
             &column,
-            &[(5, 1), (260, 2), (600, 3), (700, 5), (1_000, 6), (2_000, 4)]
+            &[(5, 1), (65, 2), (150, 3), (175, 5), (250, 6), (500, 4)]
         )?
     );
     Ok(())

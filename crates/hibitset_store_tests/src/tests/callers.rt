@@ -9,7 +9,7 @@ ghost use Rattle.hibitset_store.specs.Walks.{reads_of};
 ghost use Rattle.hibitset_store.specs.declared.pages.TheConstants.{PAGE, SPARSEST};
 
 use super::*;
-use hibitset_store::Join;
+use hibitset_store::{Join, PAGE};
 
 // The pairs, by a loop.
 fn looped<'a, V: Drop, W: Drop>(
@@ -161,8 +161,9 @@ fn exchange<V: Drop>(column: &mut Column<V>, id: Index, value: V) -> Option<Resu
 fn warm_up(column: &mut Column<u32>) -> Result<(), u32>
     ensures { OnOk result ((i : ℕ) → i < PAGE → HasRoom column.new i) }
 {
-    column.insert(255, 0)?;
-    column.remove(255);
+    let last = PAGE as Index - 1;
+    column.insert(last, 0)?;
+    column.remove(last);
     Ok(())
 }
 
@@ -180,7 +181,7 @@ fn fill(column: &mut Column<u32>, value: u32) -> bool
     ensures result { result ≡ true }
     ensures room { (i : ℕ) → i < PAGE → HasRoom column.new i }
 {
-    for id in 0..256 {
+    for id in 0..PAGE as Index {
         if column.insert(id, value).is_err() {
             return false;
         }
@@ -246,14 +247,14 @@ fn room_of_callers(rt: HostRuntime) -> Result<(), Fail> {
     assert!(rt; exchange(&mut column, 5, 3).is_none());
     assert_eq!(rt; warm_up(&mut column), Ok(()));
     assert!(rt; put_far(&mut column) && column.remove(5_000_000) == Some(9));
-    assert!(rt; fill(&mut column, 4) && column.len() == 257);
-    assert!(rt; column.get(7) == Some(&0) && column.get(255) == Some(&4));
-    let column = spread(rt.alloc(), &[1_800, 4_294_967_295, 1_600, 1_400, 5]);
+    assert!(rt; fill(&mut column, 4) && column.len() == PAGE + 1);
+    assert!(rt; column.get(7) == Some(&0) && column.get(63) == Some(&4));
+    let column = spread(rt.alloc(), &[450, 4_294_967_295, 400, 350, 5]);
     assert!(rt;
         has_exactly(
             rt.alloc(),
             &column,
-            &[(5, 5), (1_400, 1_400), (1_600, 1_600), (1_800, 1_800)]
+            &[(5, 5), (350, 350), (400, 400), (450, 450)]
         )?
     );
     Ok(())

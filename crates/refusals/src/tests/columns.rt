@@ -27,17 +27,17 @@ fn insert(rt: HostRuntime) -> Result<(), Fail> {
 // The third of eight pages finds the list of places full and enough of the table made, and all are laid out in order, for one request. Refused, the value comes back and the column is as it was.
 #[test]
 fn insert_in_order(rt: HostRuntime) -> Result<(), Fail> {
-    let mut column = column_of(rt.alloc(), &[(1_800, 77), (1_600, 7)])?;
+    let mut column = column_of(rt.alloc(), &[(450, 77), (400, 7)])?;
     ask(&rt)?;
-    let put = column.insert(1_400, 9);
+    let put = column.insert(350, 9);
     say(&rt, put.is_err())?;
     ask(&rt)?;
     if put.is_err() {
         assert!(rt; put == Err(9));
-        assert!(rt; column.get(1_400).is_none() && has_values(&column, &[(1_600, 7), (1_800, 77)]));
-        assert!(rt; column.insert(1_400, 9) == Ok(None));
+        assert!(rt; column.get(350).is_none() && has_values(&column, &[(400, 7), (450, 77)]));
+        assert!(rt; column.insert(350, 9) == Ok(None));
     }
-    assert!(rt; has_values(&column, &[(1_400, 9), (1_600, 7), (1_800, 77)]));
+    assert!(rt; has_values(&column, &[(350, 9), (400, 7), (450, 77)]));
     Ok(())
 }
 

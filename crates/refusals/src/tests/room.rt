@@ -164,11 +164,11 @@ fn columns(rt: HostRuntime) -> Result<(), Fail> {
 // Once they lie in order, all pages of the table have their places.
 #[test]
 fn columns_in_order(rt: HostRuntime) -> Result<(), Fail> {
-    let mut column = column_of(rt.alloc(), &[(1_800, 7), (1_600, 6), (1_400, 5)])?;
+    let mut column = column_of(rt.alloc(), &[(450, 7), (400, 6), (350, 5)])?;
     ask(&rt)?;
-    assert!(rt; column.insert(900, 3) == Ok(None) && column.insert(1_200, 4) == Ok(None));
-    assert!(rt; column.insert(5, 0) == Ok(None) && column.insert(600, 2) == Ok(None));
-    assert!(rt; column.insert(300, 1) == Ok(None));
+    assert!(rt; column.insert(225, 3) == Ok(None) && column.insert(300, 4) == Ok(None));
+    assert!(rt; column.insert(1, 0) == Ok(None) && column.insert(150, 2) == Ok(None));
+    assert!(rt; column.insert(75, 1) == Ok(None));
     ask(&rt)
 }
 

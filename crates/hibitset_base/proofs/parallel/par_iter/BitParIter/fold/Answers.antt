@@ -4,9 +4,7 @@ use Rattle.hibitset_base.proofs.Folding.{one-piece}
 use Rattle.hibitset_base.proofs.parallel.par_iter.BitParIter.fold.Goals as goal
 
 pub returns-then-is_sparse : goal.returns-then-is_sparse
-returns-then-is_sparse g c =
-    let P : List ℕ → Type 0 = λ xs. FoldsTo (λ a x b. goal.F-post g c.args.step a x b) c.init.result xs c.fold_items.result in
-    one-piece _ _ _ _ _ (c.init.result, c.init.ensures, subst P c.iter-then-is_sparse.ensures.items c.fold_items.ensures)
+returns-then-is_sparse g c = one-piece _ _ _ _ _ (c.init.result, c.init.ensures, c.fold_members.ensures)
 
 pub returns : goal.returns
 returns g c =
