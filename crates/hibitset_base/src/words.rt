@@ -541,11 +541,7 @@ pub(crate) fn fold_walk<T: BitSetLike, R, F: Fn(R, Index) -> R>(
 
 // The members of a set, folded in order one by one. It is a call of its own and begins the walk, so that the loop has the registers to itself.
 #[inline(never)]
-pub(crate) fn fold_members<T: BitSetLike, R, F: Fn(R, Index) -> R>(
-    set: &T,
-    init: R,
-    step: &F,
-) -> R
+pub(crate) fn fold_members<T: BitSetLike, R, F: Fn(R, Index) -> R>(set: &T, init: R, step: &F) -> R
     requires { F.IsAlwaysCallable step.now }
     ensures { FoldsTo (λ a x b. F.post step.now a x b) init (members_below MAX_EID (T.holds set.now)) result }
 {

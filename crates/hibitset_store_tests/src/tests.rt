@@ -96,13 +96,7 @@ fn pages_in_order_keep_their_values(rt: HostRuntime) -> Result<(), Fail> {
         has_exactly(
             alloc,
             &column,
-            &[
-                (75, 11),
-                (350, 50),
-                (450, 70),
-                (1_000, 80),
-                (2_250, 90)
-            ]
+            &[(75, 11), (350, 50), (450, 70), (1_000, 80), (2_250, 90)]
         )?
     );
     if let Some(value) = column.get_mut(350) {
