@@ -330,17 +330,19 @@ impl Layers {
         self.top
     }
 
-    /// The word of a layer below the top at a place, which is 0 past the layer's end.
+    /// The word of a layer below the top at a place, which is 0 past the layer's end. One of layer 1, which a sparse walk reads as often as one of layer 0, is taken from the layer's slice, whose beginning a loop knows: so the place needs no addition.
     #[inline]
     pub(crate) fn word(&self, layer: usize, place: usize) -> usize
         requires { layer < LAYERS - 1 }
         ensures { result ≡ word_in self.now layer place }
     {
-        if place < self.lens[layer] {
-            self.words[self.start(layer) + place]
-        } else {
-            0
+        if place >= self.lens[layer] {
+            return 0;
         }
+        if layer == 1 {
+            return self.slice(1)[place];
+        }
+        self.words[self.start(layer) + place]
     }
 
     /// Puts a word in the place of another, below the top.

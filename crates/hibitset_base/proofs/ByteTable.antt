@@ -8,7 +8,7 @@ use Rattle.std.proofs.Math.Seq.{take-append-add}
 use Rattle.std.proofs.lemmas.List.{append-nil, take_more, take_more_set, take-map, map-append, length-take-le, length-drop, get_or-drop, take-take}
 use Rattle.std.proofs.lemmas.Bool.{ltb-true}
 use Rattle.std.proofs.lemmas.Nat.{and_le_r}
-use Rattle.std.proofs.lemmas.Nat.Bits.{bit_at-lt, bit_at_above, bit_at_and, bit_at_ones}
+use Rattle.std.proofs.lemmas.Nat.Bits.{bit_at-lt, bit_at_above, bit_at_and, bit_at_lowest, bit_at_ones}
 use Rattle.std.proofs.lemmas.Slice.Eq.{bytes_eq-Decides}
 use Rattle.hibitset_base.specs.Members.{members}
 use Rattle.hibitset_base.specs.Places.{bits_from}
@@ -16,6 +16,7 @@ use Rattle.hibitset_base.specs.declared.bytes.TheConstants.{BITS_OF}
 use Rattle.hibitset_base.proofs.Counting.{bits-count}
 use Rattle.hibitset_base.proofs.Halving.{bit_past}
 use Rattle.hibitset_base.proofs.Members.{members-append, members-none, members-same, members-length}
+use Rattle.hibitset_base.proofs.Ones.{ones-from}
 use Rattle.hibitset_base.proofs.Testing.{below_holds, both}
 
 -- the first places of a byte's row, of any table, so that nothing computes over this one
@@ -96,6 +97,23 @@ some_moved table buffer old bits at s byte c inside few so_far are =
     ∙ (ap (λ n. take (n + c) (take at old ++ eight)) (sym long)
     ∙ (take-append-add (take at old) eight c
     ∙ ap (λ xs. take at old ++ xs) (take-map (λ k. s + k) c (places table byte 8) ∙ (ap (λ xs. map (λ k. s + k) xs) (take-take c 8 (drop (8 * byte) table) few) ∙ are)))))
+
+-- twice a number has as many bits
+twice_ones : (n : ℕ) → count_ones (2 * n) ≡ count_ones n
+twice_ones n =
+    let even : bit_at (2 * n) 0 ≡ 0 = bit_at_lowest (2 * n) ∙ omega arith in
+    let half : 2 * n / 2 ^ 1 ≡ n = omega arith in
+    let all : 2 * n / 2 ^ 0 ≡ 2 * n = omega arith in
+    let whole : count_ones (2 * n / 2 ^ 0) ≡ count_ones (2 * n) = ap count_ones all in
+    let rest : count_ones (2 * n / 2 ^ 1) ≡ count_ones n = ap count_ones half in
+    let step = ones-from (2 * n) 0 in
+    omega (arith, even, whole, rest, step)
+
+-- and so has the place where a byte's row begins
+pub row_ones : (byte : ℕ) → count_ones (8 * byte) ≡ count_ones byte
+row_ones byte =
+    let eight : 8 * byte ≡ 2 * (2 * (2 * byte)) = omega arith in
+    ap count_ones eight ∙ (twice_ones (2 * (2 * byte)) ∙ (twice_ones (2 * byte) ∙ twice_ones byte))
 
 pub few_in_byte : (byte : ℕ) → byte < 256 → count_ones byte ≤ 8
 few_in_byte byte small =

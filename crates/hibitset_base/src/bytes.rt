@@ -267,7 +267,7 @@ const BITS_OF: [Index; 2_048] = [
     0, 1, 2, 3, 4, 5, 6, 7,
 ];
 
-// Writes the indices of a byte's bits into a buffer, from a place on, where the first is at `start`, and answers the place after them. It writes eight, so it may write past that place: the loop has no test and goes by vectors.
+// Writes the indices of a byte's bits into a buffer, from a place on, where the first is at `start`, and answers the place after them. It writes eight, so it may write past that place: the loop has no test and goes by vectors. Where the row begins has as many bits as the byte, and is at hand.
 #[inline]
 pub(crate) fn write_byte(buffer: &mut [Index], at: usize, start: Index, byte: u8) -> usize
     requires room { at + 8 ≤ length buffer.old }
@@ -279,5 +279,5 @@ pub(crate) fn write_byte(buffer: &mut [Index], at: usize, start: Index, byte: u8
     'places: for place in 0..8usize {
         buffer[at + place] = start + BITS_OF[row + place];
     }
-    at + byte.count_ones() as usize
+    at + row.count_ones() as usize
 }

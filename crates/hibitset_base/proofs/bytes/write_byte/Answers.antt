@@ -1,6 +1,6 @@
 use Rattle.std.proofs.Common.{◌≡◌, ◌+◌, ◌*◌, arith, take}
 use Rattle.hibitset_base.specs.declared.bytes.TheConstants.{BITS_OF}
-use Rattle.hibitset_base.proofs.ByteTable.{place_small, wrote_place, wrote_byte}
+use Rattle.hibitset_base.proofs.ByteTable.{few_in_byte, place_small, row_ones, wrote_place, wrote_byte}
 use Rattle.hibitset_base.proofs.bytes.write_byte.Goals as goal
 
 pub overflow_add-buffer-in-places : goal.overflow_add-buffer-in-places
@@ -14,4 +14,7 @@ places-preserved c =
 pub returns-clause-written : goal.returns-clause-written
 returns-clause-written c =
     let end : c.places.place ≡ 8 = omega arith in
-    wrote_byte c.places.buffer c.args.buffer.now c.args.at c.args.start c.args.byte (omega arith) (omega arith) (rw end at c.places.invariant)
+    rw (row_ones c.args.byte) (wrote_byte c.places.buffer c.args.buffer.now c.args.at c.args.start c.args.byte (omega arith) (omega arith) (rw end at c.places.invariant))
+
+pub returns-clause-few : goal.returns-clause-few
+returns-clause-few c = let same = row_ones c.args.byte in let few = few_in_byte c.args.byte (omega arith) in omega (arith, same, few)
