@@ -1,5 +1,5 @@
 -- What lies under a word of layer 1, and how many items a walk can have left.
-use Rattle.std.proofs.Common.{◌≡◌, ℕ, zero, suc, ◌+◌, ◌-◌, ◌*◌, ◌^◌, ◌<◌, ◌≤◌, Bool, cond, ◌==◌, List, [], ◌∷◌, ◌++◌, length, refl, sym, ◌∙◌, ap, arith, length-append}
+use Rattle.std.proofs.Common.{◌≡◌, ℕ, zero, suc, ◌+◌, ◌-◌, ◌*◌, ◌^◌, ◌<◌, ◌≤◌, Bool, cond, ◌==◌, List, [], ◌∷◌, ◌++◌, length, refl, sym, ◌∙◌, ap, arith, append_assoc, length-append}
 use Rattle.std.specs.Int.{bit_at}
 use Rattle.std.specs.Int.RustNames.{count_ones}
 use Rattle.std.proofs.Math.Nat.{mul-le-mul_right, pow-le-pow_right, pow-succ'}
@@ -39,6 +39,14 @@ module _ (n : ℕ) (p : ℕ → Bool) (w : ℕ → ℕ → ℕ) (lawful : IsLawf
       ∙ (length-append (members p (s * 64) (64 * k)) (members p (s * 64 + 64 * k) 64)
       ∙ ap (λ m. length (members p (s * 64) (64 * k)) + m)
       (ap (λ a. length (members p a 64)) place ∙ (ap length (word_listed (s + k) within) ∙ bits-count ((s + k) * 64) (w 0 (s + k)) fits))))
+
+  -- and what they list
+  pub one_word_listed : (s k : ℕ) (done : List ℕ) → s + k < 64 ^ (n - 1) → (done ++ members p (s * 64) (64 * k)) ++ bits_from ((s + k) * 64) (w 0 (s + k)) ≡ done ++ members p (s * 64) (64 * (k + 1))
+  one_word_listed s k done within =
+      let more : 64 * (k + 1) ≡ 64 * k + 64 = omega arith in
+      let place : s * 64 + 64 * k ≡ (s + k) * 64 = omega arith in
+      append_assoc done (members p (s * 64) (64 * k)) (bits_from ((s + k) * 64) (w 0 (s + k)))
+      ∙ ap (λ xs. done ++ xs) (sym (rw more (members-append p (s * 64) (64 * k) 64 ∙ ap (λ xs. members p (s * 64) (64 * k) ++ xs) (ap (λ a. members p a 64) place ∙ word_listed (s + k) within))))
 
   -- what lies under the bits of a word of layer 1, where the first bit is taken
   pub under_first : (s m t r : ℕ) → TakesFirst m t r → s + t < 64 ^ (n - 1)

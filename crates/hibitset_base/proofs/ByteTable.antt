@@ -158,3 +158,21 @@ wrote_bytes front now s word n is =
     rw more (is
     ∙ (append_assoc front (bits_of_bytes s word n) (bits_from (s + 8 * n) (bit_and (word / 2 ^ (8 * n)) 255))
     ∙ ap (λ xs. front ++ xs) (ap (λ xs. bits_of_bytes s word n ++ xs) (bits_of_byte s word n) ∙ sym (members-append (λ q. bit_at word (q - s) == 1) s (8 * n) 8))))
+
+-- the step of the loop that pushes a row
+pub pushed_place : (table items front : List ℕ) (s byte n : ℕ) → 8 * byte + n < length table → items ≡ front ++ moved table s byte n → items ++ ((s + get_or table (8 * byte + n) 0) ∷ []) ≡ front ++ moved table s byte (n + 1)
+pushed_place table items front s byte n inside so_far =
+    let v : ℕ = s + get_or table (8 * byte + n) 0 in
+    ap (λ xs. xs ++ (v ∷ [])) so_far
+    ∙ (append_assoc front (moved table s byte n) (v ∷ [])
+    ∙ ap (λ xs. front ++ xs) (sym (one_moved table s byte n inside)))
+
+-- of the eight that were pushed as many are kept as the byte has bits
+pub pushed_byte : (items old : List ℕ) (s byte : ℕ) → byte < 256 → items ≡ old ++ moved BITS_OF s byte 8 → take (length old + count_ones byte) items ≡ old ++ bits_from s byte
+pushed_byte items old s byte small pushed =
+    let few : count_ones byte ≤ 8 = few_in_byte byte small in
+    let row : List ℕ = places BITS_OF byte 8 in
+    ap (λ xs. take (length old + count_ones byte) xs) pushed
+    ∙ (take-append-add old (moved BITS_OF s byte 8) (count_ones byte)
+    ∙ ap (λ xs. old ++ xs) (take-map (λ k. s + k) (count_ones byte) row
+    ∙ (ap (λ xs. map (λ k. s + k) xs) (take-take (count_ones byte) 8 (drop (8 * byte) BITS_OF) few) ∙ moved_bits s byte small)))

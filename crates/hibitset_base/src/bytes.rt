@@ -2,6 +2,7 @@
 #![tactic(auto)]
 
 ghost use Rattle.std.specs.Prelude.{◌≡◌, ℕ, ◌+◌, ◌^◌, ◌≤◌, ◌++◌, length, take};
+ghost use Rattle.std.specs.Vec.{vec_capacity};
 ghost use Rattle.hibitset_base.specs.Places.{bits_from};
 
 use crate::util::Index;
@@ -280,4 +281,23 @@ pub(crate) fn write_byte(buffer: &mut [Index], at: usize, start: Index, byte: u8
         buffer[at + place] = start + BITS_OF[row + place];
     }
     at + row.count_ones() as usize
+}
+
+// Puts the indices of a byte's bits, where the first is at `start`, at the end of a list with room for eight more. It writes eight and cuts what is too much, so the loop has no test and goes by vectors. The list is handed over and back, so that a loop has the place where it ends in a register.
+#[inline]
+pub(crate) fn push_byte(list: Vec<Index>, start: Index, byte: u8) -> Vec<Index>
+    requires room { length list.items + 8 ≤ vec_capacity list }
+    requires within { start + 8 ≤ 2 ^ 32 }
+    ensures pushed { result.items ≡ list.items ++ bits_from start byte }
+    ensures few { length result.items ≤ length list.items + 8 }
+    ensures room { vec_capacity result ≡ vec_capacity list }
+{
+    let row = 8 * byte as usize;
+    let end = list.len() + row.count_ones() as usize;
+    let mut list = list;
+    'places: for place in 0..8usize {
+        list.push_reserved(start + BITS_OF[row + place]);
+    }
+    list.truncate(end);
+    list
 }

@@ -4,6 +4,7 @@
 ghost use Rattle.std.specs.Prelude.{◌≡◌, ℕ, Bool, List, ◌+◌, ◌-◌, ◌*◌, ◌%◌, ◌^◌, ◌<◌, ◌≤◌, ◌++◌, ◌∷◌, [], length, take, MatchOption, IfSome, IfOk, None};
 ghost use Rattle.std.specs.Int.RustNames.{count_ones};
 ghost use Rattle.std.specs.List.{FoldsTo};
+ghost use Rattle.std.specs.Vec.{vec_capacity};
 ghost use Rattle.hibitset_base.specs.Members.{members, members_below};
 ghost use Rattle.hibitset_base.specs.Sets.{IsExact};
 ghost use Rattle.hibitset_base.specs.First.{IsFirst, HasNone};
@@ -13,14 +14,16 @@ ghost use Rattle.hibitset_base.specs.Cursor.{left, IsEmptyBelow};
 ghost use Rattle.hibitset_base.specs.Reading.{GoesOn};
 ghost use Rattle.hibitset_base.specs.Walk.{items_left};
 ghost use Rattle.hibitset_base.specs.declared.util.TheConstants.{LAYERS, MAX_EID};
+ghost use Rattle.hibitset_base.specs.declared.words.TheConstants.{BLOCK};
 
-use crate::bytes::write_byte;
+use crate::bytes::{push_byte, write_byte};
 use crate::cursor::Cursor;
 use crate::iter::{BitIter, descend, refill, refill_above1, start, step};
 use crate::like::BitSetLike;
 use crate::reads::Reads;
 use crate::util::{BITS, Index, LAYERS};
 use std::alloc::{AllocError, Global};
+use std::mem;
 
 // All places of the first word of layer 0 that has any left: the position of the word's first bit, and the word. They are taken.
 #[inline]
@@ -279,6 +282,111 @@ fn write_bits(buffer: &mut [Index], at: usize, start: Index, word: usize) -> usi
     at + count
 }
 
+// Puts the indices of a word's first `count` bits at the end of a list, or what does not matter where it has fewer, and answers the list and the word without them. The list is handed over and back, as each function here does that adds to one without a test, so that a loop has the place where it ends in a register.
+#[inline]
+fn push_first(list: Vec<Index>, start: Index, word: usize, count: usize) -> (Vec<Index>, usize)
+    requires room { length list.items + count ≤ vec_capacity list }
+    requires aligned { start % 64 ≡ 0 }
+    ensures written { (at total : ℕ) (done : List ℕ) → IsWritten list.items at (length list.items) total start word done → IsWritten result.0.items at (length result.0.items) total start result.1 done }
+    ensures longer { length result.0.items ≡ length list.items + count }
+    ensures room { vec_capacity result.0 ≡ vec_capacity list }
+{
+    let mut list = list;
+    let mut rest = word;
+    'bits: for _bit in 0..count {
+        list.push_reserved(start | rest.trailing_zeros());
+        rest &= rest.wrapping_sub(1);
+    }
+    (list, rest)
+}
+
+// Puts the indices of a word's bits, of which it has `count`, at most twelve, at the end of a list. It goes by four and then by eight, and cuts what is too much. Most words of a sparse set have no more than four.
+#[inline]
+fn push_few(list: Vec<Index>, start: Index, word: usize, count: usize) -> Vec<Index>
+    requires room { length list.items + 12 ≤ vec_capacity list }
+    requires aligned { start % 64 ≡ 0 }
+    requires count { count ≡ count_ones word }
+    requires few { count ≤ 12 }
+    ensures pushed { result.items ≡ list.items ++ bits_from start word }
+    ensures room { vec_capacity result ≡ vec_capacity list }
+{
+    let end = list.len() + count;
+    let (mut list, rest) = push_first(list, start, word, 4);
+    if count > 4 {
+        (list, _) = push_first(list, start, rest, 8);
+    }
+    list.truncate(end);
+    list
+}
+
+// Puts the indices of a word of which all bits stand at the end of a list. The loop goes by vectors.
+#[inline]
+fn push_all(list: Vec<Index>, start: Index) -> Vec<Index>
+    requires room { length list.items + 64 ≤ vec_capacity list }
+    requires within { start + 64 ≤ 2 ^ 32 }
+    ensures pushed { result.items ≡ list.items ++ bits_from start (2 ^ 64 - 1) }
+    ensures room { vec_capacity result ≡ vec_capacity list }
+{
+    let mut list = list;
+    'bits: for bit in 0..64u32 {
+        list.push_reserved(start + bit);
+    }
+    list
+}
+
+// Puts the indices of a word's bits at the end of a list, byte by byte.
+#[inline]
+fn push_by_bytes(list: Vec<Index>, start: Index, word: usize) -> Vec<Index>
+    requires room { length list.items + 64 ≤ vec_capacity list }
+    requires within { start + 64 ≤ 2 ^ 32 }
+    ensures pushed { result.items ≡ list.items ++ bits_from start word }
+    ensures room { vec_capacity result ≡ vec_capacity list }
+{
+    let mut list = list;
+    'bytes: for place in 0..8u32 {
+        list = push_byte(list, start + 8 * place, (word >> (8 * place) & 255) as u8);
+    }
+    list
+}
+
+// Puts the indices of a word's bits at the end of a list that has room for a whole word.
+#[inline]
+fn push_word(list: Vec<Index>, start: Index, word: usize) -> Vec<Index>
+    requires room { length list.items + 64 ≤ vec_capacity list }
+    requires aligned { start % 64 ≡ 0 }
+    requires within { start < MAX_EID }
+    ensures pushed { result.items ≡ list.items ++ bits_from start word }
+    ensures room { vec_capacity result ≡ vec_capacity list }
+{
+    if word == usize::MAX {
+        return push_all(list, start);
+    }
+    let count = word.count_ones() as usize;
+    if count > MOST_BY_EIGHTS {
+        return push_by_bytes(list, start, word);
+    }
+    push_few(list, start, word, count)
+}
+
+// How many members the words under a word of layer 1 have at most.
+const BLOCK: usize = 64 * 64;
+
+// Puts the members in the 64 words of layer 0 from a position on at the end of a list that has room for as many as there can be. So they are written where they stay, without a test. It is a call of its own, and takes the list out of its place meanwhile, so that the loop has the registers to itself.
+#[inline(never)]
+fn push_block<T: BitSetLike>(set: &T, start: u32, list: &mut Vec<Index>)
+    requires within { start + 64 ≤ 64 ^ (LAYERS - 1) }
+    requires room { length list.old.items + BLOCK ≤ vec_capacity list.old }
+    ensures { list.new.items ≡ list.old.items ++ members (T.holds set.now) (start * 64) BLOCK }
+{
+    let empty = Vec::new(*list.allocator());
+    let mut taken = mem::replace(list, empty);
+    'words: for word in 0..64u32 {
+        let position = start + word;
+        taken = push_word(taken, position << BITS, set.layer0(position as usize));
+    }
+    *list = taken;
+}
+
 // Empties a buffer into a list, where a word's bits might not fit behind those it has, and answers how many it has then.
 #[inline]
 fn make_room(buffer: &[Index], end: usize, list: &mut Vec<Index>) -> Result<usize, AllocError>
@@ -294,7 +402,7 @@ fn make_room(buffer: &[Index], end: usize, list: &mut Vec<Index>) -> Result<usiz
     Ok(end)
 }
 
-// Puts the members in the words of layer 0 under the bits of a word of layer 1, whose first bit is at `start`, behind the first `end` items of a buffer, which is emptied into a list where it is full, and answers how many it has then.
+// Puts the members in the words of layer 0 under the bits of a word of layer 1, whose first bit is at `start`, behind the first `end` items of a buffer, which is emptied into a list where it is full, and answers how many it has then. Where all bits of the word stand and the list has room for what is under them, they go by way of no buffer.
 #[inline]
 fn list_under<T: BitSetLike>(
     set: &T,
@@ -311,6 +419,11 @@ fn list_under<T: BitSetLike>(
     ensures listed { IfOk result (λ n. list.new.items ++ take n buffer.new ≡ list.old.items ++ (take end buffer.old ++ items_of (T.holds set.now) (places_in 1 (bits_from start word)))) }
     ensures within { IfOk result (λ n. n ≤ length buffer.new) }
 {
+    if word == usize::MAX && list.capacity() - list.len() >= end + BLOCK {
+        list.extend_from_slice(&buffer[..end])?;
+        push_block(set, start, list);
+        return Ok(0);
+    }
     let mut end = end;
     let mut rest = word;
     'bits: while rest != 0 {

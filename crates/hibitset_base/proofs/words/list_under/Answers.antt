@@ -1,9 +1,17 @@
-use Rattle.std.proofs.Common.{◌≡◌, ◌++◌, [], take, sym, ◌∙◌, ap, arith}
+use Rattle.std.proofs.Common.{◌≡◌, ◌*◌, ◌++◌, [], take, sym, ◌∙◌, ap, arith}
 use Rattle.std.proofs.lemmas.List.{append-nil}
 use Rattle.hibitset_base.specs.Places.{places_in, items_of, bits_from}
+use Rattle.hibitset_base.specs.Members.{members}
+use Rattle.hibitset_base.proofs.Blocks.{under_all}
 use Rattle.hibitset_base.proofs.Left.{bits-none}
-use Rattle.hibitset_base.proofs.Writing.{listed_on}
+use Rattle.hibitset_base.proofs.Writing.{listed_block, listed_on}
 use Rattle.hibitset_base.proofs.words.list_under.Goals as goal
+
+pub returns-then-capacity-len-clause-listed : goal.returns-then-capacity-len-clause-listed
+returns-then-capacity-len-clause-listed g c =
+    let holds = g.T.BitSetLike.holds c.args.set.now in
+    rw c.if-word-eq18446744073709551615.true (listed_block c.args.list.now.items c.extend_from_slice.new.self.items c.push_block.new.list.items (take c.args.end c.args.buffer.now) (members holds (c.args.start * 64) (64 * 64)) _
+    c.in_ok-extend_from_slice.ensures.items c.push_block.ensures (under_all holds c.args.start))
 
 pub bits-preserved : goal.bits-preserved
 bits-preserved g c =
