@@ -434,7 +434,7 @@ fn list_under<T: BitSetLike>(
     Ok(end)
 }
 
-// Puts the items that are left at the end of a list, by way of a buffer.
+// Puts the items that are left at the end of a list, by way of a buffer but for whole blocks.
 #[inline]
 fn list_left<T: BitSetLike>(
     set: &T,
@@ -508,8 +508,8 @@ fn list_items<T: BitSetLike>(
     Ok(list)
 }
 
-// The items that a walk has left, by whole words, with so much room taken for them.
-#[inline]
+// The items that a walk has left, by whole words, with so much room taken for them. It is a call of its own: in line, it would take registers from the loop over single items.
+#[inline(never)]
 fn list_words<T: BitSetLike>(
     walk: BitIter<T>,
     alloc: Global,
