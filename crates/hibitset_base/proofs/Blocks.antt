@@ -30,23 +30,20 @@ module _ (n : ℕ) (p : ℕ → Bool) (w : ℕ → ℕ → ℕ) (lawful : IsLawf
       ∙ (items_in_word p (bits_from (64 * q) (w 0 q)) []
       ∙ (append-nil (bits_from (64 * q) (w 0 q)) ∙ ap (λ s. bits_from s (w 0 q)) (omega arith))))
 
-  -- words one after the other, and one more
-  pub one_word_more : (s k : ℕ) → s + k < 64 ^ (n - 1) → w 0 (s + k) < 2 ^ 64 → length (members p (s * 64) (64 * (k + 1))) ≡ length (members p (s * 64) (64 * k)) + count_ones (w 0 (s + k))
-  one_word_more s k within fits =
-      let more : 64 * (k + 1) ≡ 64 * k + 64 = omega arith in
-      let place : s * 64 + 64 * k ≡ (s + k) * 64 = omega arith in
-      rw more (ap length (members-append p (s * 64) (64 * k) 64)
-      ∙ (length-append (members p (s * 64) (64 * k)) (members p (s * 64 + 64 * k) 64)
-      ∙ ap (λ m. length (members p (s * 64) (64 * k)) + m)
-      (ap (λ a. length (members p a 64)) place ∙ (ap length (word_listed (s + k) within) ∙ bits-count ((s + k) * 64) (w 0 (s + k)) fits))))
-
-  -- and what they list
+  -- words one after the other, and one more: what they list
   pub one_word_listed : (s k : ℕ) (done : List ℕ) → s + k < 64 ^ (n - 1) → (done ++ members p (s * 64) (64 * k)) ++ bits_from ((s + k) * 64) (w 0 (s + k)) ≡ done ++ members p (s * 64) (64 * (k + 1))
   one_word_listed s k done within =
       let more : 64 * (k + 1) ≡ 64 * k + 64 = omega arith in
       let place : s * 64 + 64 * k ≡ (s + k) * 64 = omega arith in
       append_assoc done (members p (s * 64) (64 * k)) (bits_from ((s + k) * 64) (w 0 (s + k)))
       ∙ ap (λ xs. done ++ xs) (sym (rw more (members-append p (s * 64) (64 * k) 64 ∙ ap (λ xs. members p (s * 64) (64 * k) ++ xs) (ap (λ a. members p a 64) place ∙ word_listed (s + k) within))))
+
+  -- and how many that are
+  pub one_word_more : (s k : ℕ) → s + k < 64 ^ (n - 1) → w 0 (s + k) < 2 ^ 64 → length (members p (s * 64) (64 * (k + 1))) ≡ length (members p (s * 64) (64 * k)) + count_ones (w 0 (s + k))
+  one_word_more s k within fits =
+      sym (ap length (one_word_listed s k [] within))
+      ∙ (length-append (members p (s * 64) (64 * k)) (bits_from ((s + k) * 64) (w 0 (s + k)))
+      ∙ ap (λ m. length (members p (s * 64) (64 * k)) + m) (bits-count ((s + k) * 64) (w 0 (s + k)) fits))
 
   -- what lies under the bits of a word of layer 1, where the first bit is taken
   pub under_first : (s m t r : ℕ) → TakesFirst m t r → s + t < 64 ^ (n - 1)

@@ -77,26 +77,18 @@ one_moved table s byte n inside =
     ∙ (map-append (λ k. s + k) (take n rest) (get_or rest n 0 ∷ [])
     ∙ ap (λ v. map (λ k. s + k) (take n rest) ++ ((s + v) ∷ [])) (get_or-drop (8 * byte) table n 0))
 
--- the step of the loop that writes a row
+-- the step of the loop that pushes a row
+pub pushed_place : (table items front : List ℕ) (s byte n : ℕ) → 8 * byte + n < length table → items ≡ front ++ moved table s byte n → items ++ ((s + get_or table (8 * byte + n) 0) ∷ []) ≡ front ++ moved table s byte (n + 1)
+pushed_place table items front s byte n inside so_far =
+    let v : ℕ = s + get_or table (8 * byte + n) 0 in
+    ap (λ xs. xs ++ (v ∷ [])) so_far
+    ∙ (append_assoc front (moved table s byte n) (v ∷ [])
+    ∙ ap (λ xs. front ++ xs) (sym (one_moved table s byte n inside)))
+
+-- and of the one that writes it
 pub wrote_place : (table buffer front : List ℕ) (s byte end n : ℕ) → 8 * byte + n < length table → end < length buffer → take end buffer ≡ front ++ moved table s byte n
     → take (end + 1) (set buffer end (s + get_or table (8 * byte + n) 0)) ≡ front ++ moved table s byte (n + 1)
-wrote_place table buffer front s byte end n inside here so_far =
-    let v : ℕ = s + get_or table (8 * byte + n) 0 in
-    take_more_set buffer end v here
-    ∙ (ap (λ xs. xs ++ (v ∷ [])) so_far
-    ∙ (append_assoc front (moved table s byte n) (v ∷ [])
-    ∙ ap (λ xs. front ++ xs) (sym (one_moved table s byte n inside))))
-
--- of the eight places of a byte as many as it has bits
-some_moved : (table buffer old bits : List ℕ) (at s byte c : ℕ) → at ≤ length old → c ≤ 8 → take (at + 8) buffer ≡ take at old ++ moved table s byte 8 → moved table s byte c ≡ bits → take (at + c) buffer ≡ take at old ++ bits
-some_moved table buffer old bits at s byte c inside few so_far are =
-    let eight : List ℕ = moved table s byte 8 in
-    let long : length (take at old) ≡ at = length-take-le at old inside in
-    sym (take-take (at + c) (at + 8) buffer (omega arith))
-    ∙ (ap (λ xs. take (at + c) xs) so_far
-    ∙ (ap (λ n. take (n + c) (take at old ++ eight)) (sym long)
-    ∙ (take-append-add (take at old) eight c
-    ∙ ap (λ xs. take at old ++ xs) (take-map (λ k. s + k) c (places table byte 8) ∙ (ap (λ xs. map (λ k. s + k) xs) (take-take c 8 (drop (8 * byte) table) few) ∙ are)))))
+wrote_place table buffer front s byte end n inside here so_far = take_more_set buffer end (s + get_or table (8 * byte + n) 0) here ∙ pushed_place table (take end buffer) front s byte n inside so_far
 
 -- twice a number has as many bits
 twice_ones : (n : ℕ) → count_ones (2 * n) ≡ count_ones n
@@ -130,8 +122,23 @@ moved_bits s byte small =
     ∙ (members-moved (λ q. bit_at byte q == 1) s 0 8
     ∙ (ap (λ a. members (λ q. bit_at byte (q - s) == 1) a 8) from ∙ sym (bits-in_byte s byte small)))
 
+-- of the eight that were pushed as many are kept as the byte has bits
+pub pushed_byte : (items old : List ℕ) (s byte : ℕ) → byte < 256 → items ≡ old ++ moved BITS_OF s byte 8 → take (length old + count_ones byte) items ≡ old ++ bits_from s byte
+pushed_byte items old s byte small pushed =
+    let few : count_ones byte ≤ 8 = few_in_byte byte small in
+    let row : List ℕ = places BITS_OF byte 8 in
+    ap (λ xs. take (length old + count_ones byte) xs) pushed
+    ∙ (take-append-add old (moved BITS_OF s byte 8) (count_ones byte)
+    ∙ ap (λ xs. old ++ xs) (take-map (λ k. s + k) (count_ones byte) row
+    ∙ (ap (λ xs. map (λ k. s + k) xs) (take-take (count_ones byte) 8 (drop (8 * byte) BITS_OF) few) ∙ moved_bits s byte small)))
+
+-- and where they were written, as many count
 pub wrote_byte : (buffer old : List ℕ) (at s byte : ℕ) → at ≤ length old → byte < 256 → take (at + 8) buffer ≡ take at old ++ moved BITS_OF s byte 8 → take (at + count_ones byte) buffer ≡ take at old ++ bits_from s byte
-wrote_byte buffer old at s byte inside small so_far = some_moved BITS_OF buffer old (bits_from s byte) at s byte (count_ones byte) inside (few_in_byte byte small) so_far (moved_bits s byte small)
+wrote_byte buffer old at s byte inside small so_far =
+    let few : count_ones byte ≤ 8 = few_in_byte byte small in
+    let long : length (take at old) ≡ at = length-take-le at old inside in
+    sym (take-take (at + count_ones byte) (at + 8) buffer (omega arith))
+    ∙ (ap (λ n. take (n + count_ones byte) (take (at + 8) buffer)) (sym long) ∙ pushed_byte (take (at + 8) buffer) (take at old) s byte small so_far)
 
 -- the first bits of a word, so many bytes of it
 abbrev pub bits_of_bytes : ℕ → ℕ → ℕ → List ℕ
@@ -158,21 +165,3 @@ wrote_bytes front now s word n is =
     rw more (is
     ∙ (append_assoc front (bits_of_bytes s word n) (bits_from (s + 8 * n) (bit_and (word / 2 ^ (8 * n)) 255))
     ∙ ap (λ xs. front ++ xs) (ap (λ xs. bits_of_bytes s word n ++ xs) (bits_of_byte s word n) ∙ sym (members-append (λ q. bit_at word (q - s) == 1) s (8 * n) 8))))
-
--- the step of the loop that pushes a row
-pub pushed_place : (table items front : List ℕ) (s byte n : ℕ) → 8 * byte + n < length table → items ≡ front ++ moved table s byte n → items ++ ((s + get_or table (8 * byte + n) 0) ∷ []) ≡ front ++ moved table s byte (n + 1)
-pushed_place table items front s byte n inside so_far =
-    let v : ℕ = s + get_or table (8 * byte + n) 0 in
-    ap (λ xs. xs ++ (v ∷ [])) so_far
-    ∙ (append_assoc front (moved table s byte n) (v ∷ [])
-    ∙ ap (λ xs. front ++ xs) (sym (one_moved table s byte n inside)))
-
--- of the eight that were pushed as many are kept as the byte has bits
-pub pushed_byte : (items old : List ℕ) (s byte : ℕ) → byte < 256 → items ≡ old ++ moved BITS_OF s byte 8 → take (length old + count_ones byte) items ≡ old ++ bits_from s byte
-pushed_byte items old s byte small pushed =
-    let few : count_ones byte ≤ 8 = few_in_byte byte small in
-    let row : List ℕ = places BITS_OF byte 8 in
-    ap (λ xs. take (length old + count_ones byte) xs) pushed
-    ∙ (take-append-add old (moved BITS_OF s byte 8) (count_ones byte)
-    ∙ ap (λ xs. old ++ xs) (take-map (λ k. s + k) (count_ones byte) row
-    ∙ (ap (λ xs. map (λ k. s + k) xs) (take-take (count_ones byte) 8 (drop (8 * byte) BITS_OF) few) ∙ moved_bits s byte small)))
