@@ -94,10 +94,7 @@ impl<V: Drop> Pages<V> {
         requires some { is_some (value_at self.now id) ≡ true }
         ensures { value_at self.now id ≡ Some result.now }
     {
-        match &self.places[self.place_of_some(id)] {
-            Some(value) => value,
-            None => unreachable!(),
-        }
+        value_of_some(&self.places[self.place_of_some(id)])
     }
 
     // The value of an index, to be changed. It ends in a `match` and not in `as_mut`, so that only a place with a value is lent.
@@ -289,6 +286,19 @@ impl<V: Drop> Pages<V> {
         self.starts.clear();
         self.places.clear();
         self.in_order = 0;
+    }
+}
+
+// The value of a place that has one. An empty place would be answered by an item of an array that has none, which no program reads, so the compiler makes no test of the place. Of `unreachable!` it would make a trap, and a test before it.
+#[inline]
+fn value_of_some<V>(place: &Option<V>) -> &V
+    requires { is_some place.now ≡ true }
+    ensures { place.now ≡ Some result.now }
+{
+    let none: [&V; 0] = [];
+    match place {
+        Some(value) => value,
+        None => none[0],
     }
 }
 

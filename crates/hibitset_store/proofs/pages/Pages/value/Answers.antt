@@ -1,5 +1,4 @@
 use Rattle.std.proofs.Common.{is_some, sym, ◌∙◌, ap, arith}
-use Rattle.std.proofs.lemmas.Bool.{false≢true}
 use Rattle.hibitset_store.proofs.Paging.{place_of-some, value-of_some}
 use Rattle.hibitset_store.proofs.pages.Pages.value.Goals as goal
 
@@ -9,10 +8,10 @@ index-requires g c =
     let there = place_of-some c.args.self.now c.args.id c.requires.some in
     omega (arith, place, there)
 
-pub unreachable-requires : goal.unreachable-requires
-unreachable-requires g c =
+pub value_of_some-requires : goal.value_of_some-requires
+value_of_some-requires g c =
     let value = value-of_some c.args.self.now c.args.id c.place_of_some.result c.index.result.now c.requires.some c.place_of_some.ensures c.index.ensures in
-    false≢true (sym (ap is_some (value ∙ c.in-None.is)) ∙ c.requires.some)
+    sym (ap is_some value) ∙ c.requires.some
 
 pub returns : goal.returns
-returns g c = value-of_some c.args.self.now c.args.id c.place_of_some.result c.index.result.now c.requires.some c.place_of_some.ensures c.index.ensures ∙ c.in-Some.is
+returns g c = value-of_some c.args.self.now c.args.id c.place_of_some.result c.index.result.now c.requires.some c.place_of_some.ensures c.index.ensures ∙ c.value_of_some.ensures
