@@ -5,22 +5,8 @@ set -eu
 here=$(cd "$(dirname "$0")" && pwd)
 . "$here/library.sh"
 work=$here/out/inlined
-crate=$here/../crates/hibitset_bench
 rm -rf "$work"
-mkdir -p "$work"
-wrapped "$work/kit" "#!/bin/sh
-for word in \"\$@\"; do
-    case \$word in
-        *.bc) cp \"\$word\" '$work/module.bc' ;;
-        -o | *.o) ;;
-        *) printf '%s\\n' \"\$word\" ;;
-    esac
-done >'$work/words'
-exec '$kit/toolchain/bin/clang' \"\$@\""
-
-rm -f "$crate/out/libhibitset_bench.a"
-(cd "$crate" && "$work/kit/bin/rt" lib) >"$work/lib.log" 2>&1 || { tail -n 30 "$work/lib.log" >&2; exit 1; }
-# The words have no blanks.
+module "$work"
 # shellcheck disable=SC2046
 "$kit/toolchain/bin/clang" $(cat "$work/words") -Rpass-missed=inline "$work/module.bc" -o "$work/remarks.o" 2>"$work/remarks"
 grep 'too costly to inline' "$work/remarks" | awk -F "'" -v word="${1:-}" '

@@ -57,3 +57,21 @@ for word in \"\$@\"; do
 done
 exec '$kit/toolchain/bin/clang' \"\$@\""
 }
+
+# module FOLDER: builds the library of the benches, and leaves LLVM's module of it in FOLDER/module.bc, and in FOLDER/words, which have no blanks, how it was compiled.
+module() {
+    folder=$1
+    crate=$here/../crates/hibitset_bench
+    mkdir -p "$folder"
+    wrapped "$folder/kit" "#!/bin/sh
+for word in \"\$@\"; do
+    case \$word in
+        *.bc) cp \"\$word\" '$folder/module.bc' ;;
+        -o | *.o) ;;
+        *) printf '%s\\n' \"\$word\" ;;
+    esac
+done >'$folder/words'
+exec '$kit/toolchain/bin/clang' \"\$@\""
+    rm -f "$crate/out/libhibitset_bench.a"
+    (cd "$crate" && "$folder/kit/bin/rt" lib) >"$folder/lib.log" 2>&1 || { tail -n 30 "$folder/lib.log" >&2; exit 1; }
+}

@@ -87,7 +87,7 @@ impl<V: Drop> Pages<V> {
         self.starts[id / PAGE] as usize + id % PAGE
     }
 
-    // The value of an index that has one. It does not ask whether the page is made, nor whether the place lies in the list.
+    // The value of an index that has one. It does not ask whether the page is made, nor whether the place lies in the list and has a value.
     #[inline]
     pub(crate) fn value(&self, id: Index) -> &V
         requires laid_out { AreLaidOut self.now }
