@@ -1,7 +1,8 @@
 #!/bin/sh
 # beside.sh OTHER [REPEATS [MILLISECONDS [WORDS]]]: the rows of run.sh over the library as it is and over another of it, in one process: the
 # column `original` is then the other's. OTHER: a checkout of another commit, whose library is built alike, or a static library that was. A row
-# whose kernel it lacks has ours twice; peers are left out. NOW: the same for this one. REPEATS, MILLISECONDS and WORDS: as of run.sh.
+# whose kernel it lacks has ours twice; peers are left out. NOW: the same for this one. REPEATS, MILLISECONDS and WORDS: as of run.sh. PLACE: by
+# how many times 64 bytes all code is moved on, since where a loop lies can decide its row: a form is better if it is so at several places.
 set -eu
 here=$(cd "$(dirname "$0")" && pwd)
 [ $# -ge 1 ] || { echo "usage: beside.sh OTHER [REPEATS [MILLISECONDS [WORDS]]]" >&2; exit 64; }
@@ -32,8 +33,10 @@ awk -v symbols="$work/symbols" '
     { print }
     END { printf "%spub use self::column_join as column_join_by_one_mask;\n", lacking }
 ' "$here/driver/ours.rs" >"$work/original.rs"
+text=
+[ -z "${PLACE:-}" ] || text="-C link-arg=-Wl,-Ttext=$(printf '0x%x' $((0x100000 + 64 * PLACE)))"
 # The flags are words.
 # shellcheck disable=SC2086
-rustc $flags --edition 2021 --crate-name bench --cfg beside -A unexpected_cfgs -A unused_mut -A dead_code -A unused_imports -L "$work" \
+rustc $flags $text --edition 2021 --crate-name bench --cfg beside -A unexpected_cfgs -A unused_mut -A dead_code -A unused_imports -L "$work" \
     -l static=hibitset_bench -l static=before_bench -L "native=$work" -l static=libc_c -L "native=$kit/c" -o "$work/bench" "$work/main.rs"
 MALLOC_MMAP_THRESHOLD_=1000000000 MALLOC_TRIM_THRESHOLD_=10000000000 "$work/bench" "$@"
