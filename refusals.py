@@ -107,7 +107,7 @@ OTHERS = "columns::collect callers::take"
 
 # The tests of calls that make no request.
 ROOM = """sets sets_with_room sets_with_room_of_adds sets_with_room_of_assignments virtual_sets atomic_sets
-settled_sets shared_sets last_shares new_worlds worlds parts columns columns_in_order identifiers pages
+settled_sets shared_sets last_shares new_worlds worlds parts parts_in_one_thread columns columns_in_order identifiers pages
 tasks tags"""
 
 # How many requests the call of each test makes where none is refused. A call that does its work twice is seen here alone.

@@ -368,6 +368,22 @@ fn parts(rt: HostRuntime) -> Result<(), Fail> {
     ask(&rt)
 }
 
+// Walks that are to take no threads, since they have fewer members than are asked for.
+#[test]
+fn parts_in_one_thread(rt: HostRuntime) -> Result<(), Fail> {
+    let words = vec![in rt.alloc(); usize::MAX; 1_000]?;
+    let set = BitSet::from_words(rt.alloc(), words.as_slice())?;
+    let add = |sum: u64, index: Index| sum.wrapping_add(u64::from(index));
+    let both = |sum: u64, other: u64| sum.wrapping_add(other);
+    ask(&rt)?;
+    let walk = (&set).par_iter().with_min_len(100_000).layers_split(2);
+    walk.for_each(&rt, rt.alloc(), |_index: Index| {})?;
+    let walk = (&set).par_iter().layers_split(2).with_min_len(100_000);
+    let sum = walk.fold(&rt, rt.alloc(), || 0u64, add, both)?;
+    assert!(rt; sum == 2_047_968_000);
+    ask(&rt)
+}
+
 fn assert_frees(rt: &impl Abort, ids: &mut Ids) {
     assert!(rt; ids.is_used(64) && !ids.is_used(65) && !ids.free(65) && ids.free(3));
     assert!(rt; ids.alloc() == Ok(Some(3)) && ids.alloc() == Ok(Some(65)));
