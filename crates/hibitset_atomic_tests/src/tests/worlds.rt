@@ -71,7 +71,7 @@ fn settled(rt: &impl Abort, world: World) -> AtomicBitSet {
 
 #[test]
 fn a_small_world(rt: HostRuntime) -> Result<(), AllocError> {
-    let mut world = World::new(AtomicBitSet::new(rt.alloc())?);
+    let mut world = World::new(rt.alloc(), AtomicBitSet::new(rt.alloc())?);
     assert_begins(&rt, &mut world, 1, 5);
     assert_begins(&rt, &mut world, 2, 5);
     assert_first(&rt, &mut world, 1, false);
@@ -100,7 +100,7 @@ fn a_small_world(rt: HostRuntime) -> Result<(), AllocError> {
 fn a_walk_meets_a_call(rt: HostRuntime) -> Result<(), AllocError> {
     let mut old = AtomicBitSet::new(rt.alloc())?;
     old.add(0)?;
-    let mut world = World::new(old);
+    let mut world = World::new(rt.alloc(), old);
     assert_opens(&rt, &mut world, 1);
     assert_reads(&rt, &mut world, 1, &[(1, false)]);
     assert_begins(&rt, &mut world, 1, 63);
@@ -115,7 +115,7 @@ fn a_walk_meets_a_call(rt: HostRuntime) -> Result<(), AllocError> {
 
 // A world in which call 1 has added 63, and then walk 1 has read all.
 fn world_of_63(rt: &(impl Abort + AllocGlobal)) -> Result<World, AllocError> {
-    let mut world = World::new(AtomicBitSet::new(rt.alloc())?);
+    let mut world = World::new(rt.alloc(), AtomicBitSet::new(rt.alloc())?);
     assert_begins(rt, &mut world, 1, 63);
     assert_first(rt, &mut world, 1, false);
     assert_path(rt, &mut world, 1);
@@ -159,7 +159,7 @@ fn refused_events(rt: HostRuntime) -> Result<(), AllocError> {
 
 #[test]
 fn a_path_that_stands(rt: HostRuntime) -> Result<(), AllocError> {
-    let mut world = World::new(AtomicBitSet::new(rt.alloc())?);
+    let mut world = World::new(rt.alloc(), AtomicBitSet::new(rt.alloc())?);
     assert_begins(&rt, &mut world, 1, 5);
     assert_first(&rt, &mut world, 1, false);
     assert!(rt; !world.stands(5));

@@ -305,7 +305,7 @@ fn assert_new(rt: &impl Abort, world: &World) {
 fn new_worlds(rt: HostRuntime) -> Result<(), Fail> {
     let set = atomic_of(rt.alloc(), &[7])?;
     ask(&rt)?;
-    let world = World::new(set);
+    let world = World::new(rt.alloc(), set);
     assert_new(&rt, &world);
     assert!(rt; path(7)[3] == (3, 0, 1) && path(16_777_215)[3] == (3, 0, 1 << 63));
     ask(&rt)
@@ -313,7 +313,7 @@ fn new_worlds(rt: HostRuntime) -> Result<(), Fail> {
 
 // A world in which a call has ended, and a walk that has given all.
 fn world_at_rest(alloc: Global) -> Result<World, AllocError> {
-    let mut world = World::new(atomic_of(alloc, &[7])?);
+    let mut world = World::new(alloc, atomic_of(alloc, &[7])?);
     let (step, read) = (Event::Step { call: 1 }, Event::Read { walk: 1 });
     let begin = Event::Begin { call: 1, id: 8 };
     let open = Event::Open { walk: 1 };
