@@ -118,6 +118,7 @@ fn a_seat_that_is_dropped(rt: HostRuntime) -> Result<(), AllocError> {
     assert!(rt;
         set.contains(&mut b, 5) && set.contains(&mut b, 7) && !set.contains(&mut a, 16777216)
     );
+    drop(b);
     assert!(rt; a.weight() == 32768 && !a.is_whole());
     assert_members(&rt, &settled(&rt, set, a), &[5, 7, 9])
 }

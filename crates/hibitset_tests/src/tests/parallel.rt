@@ -94,20 +94,25 @@ fn no_members_in_parts(rt: HostRuntime) -> Result<(), AllocError> {
     Ok(())
 }
 
-#[test]
-fn border_indices_in_parts(rt: HostRuntime) -> Result<(), AllocError> {
-    let ids = [
-        0, 63, 64, 4095, 4096, 262_143, 262_144, 16_777_215, 16_777_216,
-    ];
-    let set = set_of(rt.alloc(), ids.as_slice())?;
+// Sees that `collect` lists these indices, which ascend, by each number of layers.
+fn assert_listed_in_parts(
+    rt: &(impl Abort + Threads + Sync),
+    alloc: Global,
+    ids: &[Index],
+) -> Result<(), AllocError> {
+    let set = set_of(alloc, ids)?;
     for layers in 1..5u8 {
-        let all = (&set)
-            .par_iter()
-            .layers_split(layers)
-            .collect(&rt, rt.alloc())?;
-        assert_indices(&rt, all.as_slice(), &ids);
+        let all = (&set).par_iter().layers_split(layers).collect(rt, alloc)?;
+        assert_indices(rt, all.as_slice(), ids);
     }
     Ok(())
+}
+
+#[test]
+fn border_indices_in_parts(rt: HostRuntime) -> Result<(), AllocError> {
+    let eight = [0, 63, 64, 4095, 4096, 262_143, 262_144, 16_777_215];
+    assert_listed_in_parts(&rt, rt.alloc(), &eight)?;
+    assert_listed_in_parts(&rt, rt.alloc(), &[0, 16_777_215, 16_777_216])
 }
 
 #[test]
