@@ -191,6 +191,7 @@ impl BitSet {
     #[inline]
     pub fn layer1_as_slice(&self) -> &[usize]
         ensures length { length result.now ≡ slice_len self.now 1 }
+        ensures short { length result.now ≤ 64 ^ (LAYERS - 2) }
         ensures words { (p : ℕ) → slice_index_or result.now p 0 ≡ word_of self.now 1 p }
     {
         self.layers.slice(1)
@@ -200,6 +201,7 @@ impl BitSet {
     #[inline]
     pub fn layer2_as_slice(&self) -> &[usize]
         ensures length { length result.now ≡ slice_len self.now 2 }
+        ensures short { length result.now ≤ 64 ^ (LAYERS - 3) }
         ensures words { (p : ℕ) → slice_index_or result.now p 0 ≡ word_of self.now 2 p }
     {
         self.layers.slice(2)
@@ -209,6 +211,7 @@ impl BitSet {
     #[inline]
     pub fn layer3_as_slice(&self) -> &[usize]
         ensures length { length result.now ≡ slice_len self.now 3 }
+        ensures short { length result.now ≤ 64 ^ (LAYERS - 4) }
         ensures words { (p : ℕ) → slice_index_or result.now p 0 ≡ word_of self.now 3 p }
     {
         self.layers.slice(3)

@@ -10,7 +10,7 @@ ghost use Rattle.hibitset.specs.Merging.{NoWordsFrom};
 use crate::tests::{assert_count, assert_index, assert_indices, assert_words, set_of};
 use hibitset::laws::{laws, list_laws};
 use hibitset::{BitIter, BitSet, BitSetLike, DrainableBitSet, Index};
-use hibitset_base::util::MAX_EID;
+use hibitset_base::util::{MAX_EID, SHIFT2};
 use std::alloc::{AllocError, Global};
 
 // The members, by a loop.
@@ -147,6 +147,18 @@ fn read_again(alloc: Global, set: &BitSet) -> Result<BitSet, AllocError>
     BitSet::from_words(alloc, set.layer0_as_slice())
 }
 
+// The first index of each block of 4,096 that has a member: layer 1 has a word for each block.
+fn blocks_of(alloc: Global, set: &BitSet) -> Result<BitSet, AllocError> {
+    let words = set.layer1_as_slice();
+    let mut blocks = BitSet::new(alloc);
+    for position in 0..words.len() {
+        if words[position] != 0 {
+            blocks.add((position << SHIFT2) as Index)?;
+        }
+    }
+    Ok(blocks)
+}
+
 // The members that the list begins and ends with, if there is one.
 fn ends(set: &BitSet) -> Option<(Index, Index)>
     ensures head { IfSome result (λ r. members_below MAX_EID (has set.now) ≡ r.0 ∷ drop 1 (members_below MAX_EID (has set.now))) }
@@ -180,6 +192,14 @@ fn unions_of_callers(rt: HostRuntime) -> Result<(), AllocError> {
     let mut wide = alone(rt.alloc(), 6)?;
     widen_within(&mut wide, &set, 64)?;
     assert_words(&rt, wide.layer0_as_slice(), &[96]);
+    Ok(())
+}
+
+#[test]
+fn blocks_of_callers(rt: HostRuntime) -> Result<(), AllocError> {
+    let set = set_of(rt.alloc(), &[3, 70, 4_095, 5_000, 1_000_000])?;
+    let blocks = blocks_of(rt.alloc(), &set)?;
+    assert_indices(&rt, looped(rt.alloc(), &blocks)?.as_slice(), &[0, 4_096, 999_424]);
     Ok(())
 }
 

@@ -1,0 +1,6 @@
+use Rattle.std.proofs.Common.{arith, lit<}
+use Rattle.hibitset.proofs.Layered.{shaped}
+use Rattle.hibitset.proofs.set.BitSet.layer3_as_slice.Goals as goal
+
+pub returns-clause-short : goal.returns-clause-short
+returns-clause-short c = let h = (shaped c.args.self.now.layers).short 3 (lit< tt) in let e = c.slice.ensures.length in omega (arith, h, e)
