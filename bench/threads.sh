@@ -1,14 +1,20 @@
 #!/bin/sh
-# threads.sh ORIGINAL [REPEATS]: times the calls that start threads, beside the original with its own rayon, on all processors and on one; then the shared set, beside the original's AtomicBitSet.
-# ORIGINAL: the folder of the original crate's sources. REPEATS: how many times each call is made, of which the median counts (15).
+# threads.sh ORIGINAL [REPEATS [TABLE..]]: times the calls that start threads, beside the original with its own rayon, on all processors and on one; the same with a step that takes time, on all processors; and the shared set, beside the original's AtomicBitSet.
+# ORIGINAL: the folder of the original crate's sources. REPEATS: how many times each call is made, of which the median counts (15). TABLE: threads, steps or shared; all three if left out.
 # Both programs are compiled so that each function begins at a multiple of 64 bytes and no jump lies at a border of 32, or the luck of where a loop falls is measured too. `rt run` links ours with a clang that is told so.
 # It needs rt, cargo and taskset, and of Debian's packages librust-rayon-dev under REGISTRY; without that the original is left out.
 # README=1: also puts what it prints into README.md, each table in the place of its last results.
 set -eu
 here=$(cd "$(dirname "$0")" && pwd)
-[ $# -ge 1 ] || { echo "usage: threads.sh ORIGINAL [REPEATS]" >&2; exit 64; }
+[ $# -ge 1 ] || { echo "usage: threads.sh ORIGINAL [REPEATS [TABLE..]]" >&2; exit 64; }
 original=$(cd "$1" && pwd)
 repeats=${2:-15}
+if [ $# -gt 2 ]; then
+    shift 2
+    tables=$*
+else
+    tables="threads steps shared"
+fi
 registry=${REGISTRY:-/usr/share/cargo/registry}
 . "$here/library.sh"
 crate=$here/../crates/hibitset_bench_threads
@@ -36,9 +42,11 @@ if ls -d "$registry"/rayon-1* >/dev/null 2>&1; then
     theirs=$work/target/release/threads
 fi
 
-rows() { # PROCESSORS: one line a call: what, set, members, nanoseconds of ours in parts, of theirs in parts and of ours alone; the second ratio is the median of each turn's own
-    "$ours" parallel "$repeats" >"$work/ours.txt"
-    if [ -n "$theirs" ]; then "$theirs" parallel "$repeats" >"$work/theirs.txt"; else : >"$work/theirs.txt"; fi
+rows() { # WHICH [WORD..]: of the walks parallel or steps, run by these words; one line a call: what, set, members, nanoseconds of ours in parts, of theirs in parts and of ours alone; the second ratio is the median of each turn's own
+    which=$1
+    shift
+    "$@" "$ours" "$which" "$repeats" >"$work/ours.txt"
+    if [ -n "$theirs" ]; then "$@" "$theirs" "$which" "$repeats" >"$work/theirs.txt"; else : >"$work/theirs.txt"; fi
     awk -F '\t' '
         # How many members a set has: no index lies past 2^24, so that a thin set has no more than this.
         function members(set, size) { most = set == "10 %" ? 1680000 : set == "1 %" ? 168000 : size; return size < most ? size : most }
@@ -90,27 +98,35 @@ machine() { # WHAT STOLEN SECONDS: the line above a table, once its rows are mad
         "$(awk -v taken="$(($(stolen) - $2))" -v seconds="$3" -v cores="$cores" 'BEGIN { printf "%.1f", taken / (seconds * cores) }')"
 }
 
-began=$(date +%s) before=$(stolen)
-{
+walks() { # WHERE WHICH [WORD..]: a table of walks
+    printf '\n| on %s (microseconds a call) | ours | original | ratio | our own walk | ratio |\n|---|---:|---:|---:|---:|---:|\n' "$1"
+    shift
+    rows "$@"
+}
+
+threads_table() {
+    walks "all processors" parallel
+    walks "one processor" parallel taskset -c 0
+}
+
+steps_table() {
+    walks "all processors" steps
+}
+
+shared_table() {
     printf '\n| nanoseconds an index | ours | original | ratio | aim |\n|---|---:|---:|---:|---:|\n'
     shared_rows
-} >"$work/shared.rows"
-{ machine rounds "$before" "$(($(date +%s) - began))"; cat "$work/shared.rows"; } >"$work/shared.md"
-began=$(date +%s) before=$(stolen)
-{
-    for processors in all one; do
-        printf '\n| on %s (microseconds a call) | ours | original | ratio | our own walk | ratio |\n|---|---:|---:|---:|---:|---:|\n' \
-            "$([ $processors = all ] && echo "all processors" || echo "one processor")"
-        if [ $processors = one ]; then taskset -p -c 0 $$ >/dev/null; fi
-        rows
-    done
-} >"$work/threads.rows"
-{ machine calls "$before" "$(($(date +%s) - began))"; cat "$work/threads.rows"; } >"$work/threads.md"
-cat "$work/threads.md"
-echo
-cat "$work/shared.md"
+}
+
+for table in $tables; do
+    began=$(date +%s) before=$(stolen)
+    "${table}_table" >"$work/$table.rows"
+    { machine "$([ "$table" = shared ] && echo rounds || echo calls)" "$before" "$(($(date +%s) - began))"; cat "$work/$table.rows"; } >"$work/$table.md"
+    cat "$work/$table.md"
+    echo
+done
 if [ -n "${README:-}" ]; then
-    for table in threads shared; do
+    for table in $tables; do
         awk -v results="$work/$table.md" -v table="$table" '
             $0 == "<!-- " table " -->" { print; print ""; while ((getline line < results) > 0) print line; print ""; held = 1 }
             $0 == "<!-- end of " table " -->" { held = 0 }

@@ -1,10 +1,11 @@
-//! threads parallel REPEATS, threads shared REPEATS: the rows of crates/hibitset_bench_threads over the original crate, with its own rayon, and with std's scope.
+//! threads parallel REPEATS, threads steps REPEATS, threads shared REPEATS: the rows of crates/hibitset_bench_threads over the original crate, with its own rayon, and with std's scope.
 extern crate hibitset;
 extern crate rayon;
 
 use hibitset::{AtomicBitSet, BitSet, BitSetLike};
 use rayon::iter::ParallelIterator;
 use std::hint::black_box;
+use std::sync::atomic::{AtomicU64, Ordering};
 use std::time::Instant;
 
 const END: u32 = 1 << 24;
@@ -90,6 +91,50 @@ fn parallel(repeats: usize) {
     }
 }
 
+// A step that takes time, as in ours.
+#[inline]
+fn hash(index: u32, turns: u32) -> u64 {
+    let mut state = u64::from(index) | 1;
+    for _ in 0..turns {
+        state = (state ^ (state >> 29)).wrapping_mul(0x9E37_79B9_7F4A_7C15);
+    }
+    state
+}
+
+fn step_in_parts(set: &BitSet, work: &str, turns: u32) -> u64 {
+    if work == "fold" {
+        return set.par_iter().fold(|| 0u64, |sum, index| sum.wrapping_add(hash(index, turns))).reduce(|| 0, |a, b| a.wrapping_add(b));
+    }
+    let zeros = AtomicU64::new(0);
+    set.par_iter().for_each(|index| {
+        if hash(index, turns) == 0 {
+            zeros.fetch_add(1, Ordering::SeqCst);
+        }
+    });
+    zeros.into_inner()
+}
+
+fn steps(repeats: usize) {
+    for (step, turns) in [("0 ns", 0), ("100 ns", 60), ("1 us", 540)] {
+        for (shape_name, shape) in [("dense", Shape::Dense), ("10 %", Shape::OneIn(10))] {
+            for size in [1_000, 10_000, 100_000, 1_000_000] {
+                let set = set_of(shape, size);
+                for work in ["for_each", "fold"] {
+                    let mut times: Vec<u128> = (0..repeats)
+                        .map(|_| {
+                            let start = Instant::now();
+                            black_box(step_in_parts(&set, work, black_box(turns)));
+                            start.elapsed().as_nanos()
+                        })
+                        .collect();
+                    times.sort();
+                    println!("{work} of {step}\t{shape_name}\t{size}\tin parts\t{}", times[times.len() / 2]);
+                }
+            }
+        }
+    }
+}
+
 fn by_chance() -> Vec<u32> {
     let mut drawn = BitSet::new();
     let mut list = Vec::new();
@@ -161,7 +206,8 @@ fn main() {
     let repeats: usize = words.get(2).and_then(|word| word.parse().ok()).expect("REPEATS");
     match words[1].as_str() {
         "parallel" => parallel(repeats),
+        "steps" => steps(repeats),
         "shared" => shared(repeats),
-        _ => panic!("parallel or shared"),
+        _ => panic!("parallel, steps or shared"),
     }
 }

@@ -1,12 +1,13 @@
 //! Times the calls of `hibitset` that start threads, beside the same work in one thread, and those of the shared set; and adds to shared sets from all processors for as long as asked. With no argument it prints nothing.
 //!
-//! Its first argument says what it does, and its second how much of it: `parallel REPEATS` and `shared REPEATS` print a line a row, what was done, over what, and how many nanoseconds one call took, the median of so many, and of a walk in parts how many ten-thousandths it took of the one alone beside it; `stress SECONDS` prints how many rounds it made and how many adds, or the first difference.
+//! Its first argument says what it does, and its second how much of it: `parallel REPEATS`, `steps REPEATS` and `shared REPEATS` print a line a row, what was done, over what, and how many nanoseconds one call took, the median of so many, and of a walk in parts how many ten-thousandths it took of the one alone beside it; `stress SECONDS` prints how many rounds it made and how many adds, or the first difference.
 #![tactic(auto)]
 
 mod clock;
 mod parallel;
 mod sets;
 mod shared;
+mod steps;
 mod stress;
 
 use anyhow::bail;
@@ -29,9 +30,10 @@ fn run<R: Alloc + Clock + Env + Print + Threads + Sync>(
     };
     match what.as_str() {
         "parallel" => parallel::print_all(rt, alloc, much.parse()?),
+        "steps" => steps::print_all(rt, alloc, much.parse()?),
         "shared" => shared::print_all(rt, alloc, much.parse()?),
         "stress" => stress::run(rt, alloc, much.parse()?),
-        _ => bail!("{what}: not parallel, shared or stress"),
+        _ => bail!("{what}: not parallel, steps, shared or stress"),
     }
 }
 

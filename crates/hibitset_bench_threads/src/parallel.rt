@@ -1,5 +1,5 @@
 //! The walks in parts: what is timed, and over which sets.
-use crate::clock::{median, nanoseconds};
+use crate::clock::{Times, Turns, nanoseconds};
 use crate::sets::{Shape, set_of};
 use hibitset::{BitSet, BitSetLike, Index};
 use std::alloc::{AllocError, Global};
@@ -125,20 +125,7 @@ fn time_of<R: Clock + Threads + Sync>(
     Ok(if sum == u64::MAX { 0 } else { time })
 }
 
-// What is told of a row: how long a call takes alone and how long in parts, and how many ten-thousandths the one in parts takes of the one beside it.
-#[derive(Drop)]
-struct Times {
-    alone: u64,
-    in_parts: u64,
-    ratio: u64,
-}
-
-// How many ten-thousandths one time is of another.
-fn ratio_of(time: u64, other: u64) -> u64 {
-    time.saturating_mul(10_000) / other.max(1)
-}
-
-// The medians of so many calls of each. They take turns, and the ratio is that of each turn, so that a machine that changes its pace changes both.
+// The medians of so many calls of each.
 fn times_of<R: Clock + Threads + Sync>(
     rt: &R,
     alloc: Global,
@@ -146,21 +133,13 @@ fn times_of<R: Clock + Threads + Sync>(
     work: Work,
     repeats: usize,
 ) -> anyhow::Result<Times> {
-    let mut alone = Vec::new(alloc);
-    let mut in_parts = Vec::new(alloc);
-    let mut ratios = Vec::new(alloc);
+    let mut turns = Turns::new(alloc);
     for _ in 0..repeats {
-        let other = time_of(rt, alloc, set, work, false)?;
-        let time = time_of(rt, alloc, set, work, true)?;
-        alone.push(other)?;
-        in_parts.push(time)?;
-        ratios.push(ratio_of(time, other))?;
+        let alone = time_of(rt, alloc, set, work, false)?;
+        let in_parts = time_of(rt, alloc, set, work, true)?;
+        turns.push(alone, in_parts)?;
     }
-    Ok(Times {
-        alone: median(&mut alone)?,
-        in_parts: median(&mut in_parts)?,
-        ratio: median(&mut ratios)?,
-    })
+    turns.times()
 }
 
 // Prints all rows, each the median of so many calls.
