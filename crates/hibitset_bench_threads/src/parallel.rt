@@ -74,7 +74,7 @@ fn fold_in_parts(
     alloc: Global,
     set: &BitSet,
 ) -> Result<u64, AllocError> {
-    set.par_iter().fold(
+    set.par_iter().with_min_len(500_000).fold(
         rt,
         alloc,
         || 0u64,
