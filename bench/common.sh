@@ -1,4 +1,4 @@
-# library.sh: read by the other scripts here, which set `here` first. It sets `flags`, how rustc compiles, `padding`, what both compilers are told of jumps, and `kit`, the folder of the toolchain.
+# common.sh: read by the other scripts here, which set `here` first. It sets `flags`, how rustc compiles, `padding`, what both compilers are told of jumps, and `kit`, the folder of the toolchain.
 # No jump lies at a border of 32 bytes: many processors of Intel are slow there, and where a loop falls would decide the row. What it takes is prefixes before other instructions, and not instructions of its own.
 padding='-x86-branches-within-32B-boundaries -x86-pad-max-prefix-size=5'
 flags=${FLAGS:--C opt-level=3 -C target-cpu=x86-64-v2 -C llvm-args=-align-all-functions=6$(printf ' -C llvm-args=%s' $padding)}

@@ -1,9 +1,9 @@
 #!/bin/sh
-# inlined.sh [WORD]: the calls that LLVM did not put in line in the library of the benches, each with what it counted for the function and how much it lets pass; how often, and the last place. WORD: the functions whose names have it, alone.
+# inline_report.sh [WORD]: the calls that LLVM did not put in line in the library of the benches, each with what it counted for the function and how much it lets pass; how often, and the last place. WORD: the functions whose names have it, alone.
 # It needs rt, whose kit it links with a clang of its own that keeps the module.
 set -eu
 here=$(cd "$(dirname "$0")" && pwd)
-. "$here/library.sh"
+. "$here/common.sh"
 work=$here/out/inlined
 rm -rf "$work"
 module "$work"

@@ -12,7 +12,7 @@ here=$(cd "$(dirname "$0")" && pwd)
 original=$(cd "$1" && pwd)
 shift
 registry=${REGISTRY:-/usr/share/cargo/registry}
-. "$here/library.sh"
+. "$here/common.sh"
 work=$here/out
 mkdir -p "$work/original"
 

@@ -16,7 +16,7 @@ else
     tables="threads steps shared"
 fi
 registry=${REGISTRY:-/usr/share/cargo/registry}
-. "$here/library.sh"
+. "$here/common.sh"
 crate=$here/../crates/hibitset_bench_threads
 work=$here/out/threads
 cores=$(nproc)

@@ -19,7 +19,7 @@ from concurrent.futures import ThreadPoolExecutor
 from itertools import islice
 from pathlib import Path
 
-CRATES = Path(__file__).resolve().parent / "crates"
+CRATES = Path(__file__).resolve().parent.parent / "crates"
 PROGRAM = "hibitset_run"
 TOGETHER = 4  # runs side by side
 MOST = 64  # requests
@@ -402,5 +402,5 @@ def main():
 try:
     main()
 except Failed as why:
-    print(f"refusals: FAILED: {why}", flush=True)
+    print(f"allocation_failures.py: FAILED: {why}", flush=True)
     sys.exit(1)
