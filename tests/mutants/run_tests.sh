@@ -2,6 +2,7 @@
 # run_tests.sh [PATCH]: tests must kill the mutants that no contract excludes. Each patch of tests/ is applied to a copy of the repository, where the tests that it names must fail. PATCH: that one alone.
 # Two are tried side by side. Where there is one processor, no iteration takes threads, and the patches whose tests are to meet in two of them are left out.
 # The head of a patch says the crates and the tests: lines 'crate: NAME', and after each the lines 'fails: TEST' of that crate. A line 'seconds: N' before a crate cuts its tests short after so many seconds, where some that are not named read millions of words; a line 'only: WORDS' runs no other tests than those with these words in their names.
+# A line 'refused: N' before a crate makes the Nth allocation of each of its tests fail, and a line 'misses: TEST' after it names one that must then not tell of it, in which allocation_failures.py fails.
 set -euo pipefail
 here=$(cd "$(dirname "$0")" && pwd)
 
@@ -24,6 +25,7 @@ git -C "$work" init -q
 git -C "$work" apply "$patch"
 seconds=60
 only=
+refused=
 sed '/^diff /,$d' "$patch" | while read -r word value; do
     case $word in
         seconds:)
@@ -32,15 +34,28 @@ sed '/^diff /,$d' "$patch" | while read -r word value; do
         only:)
             only=$value
             ;;
+        refused:)
+            refused="--fail-alloc $value"
+            ;;
         crate:)
             crate=$value
-            (cd "$work/crates/$crate" && rt try --test --seconds "$seconds" ${only:+-- "$only"} </dev/null >out.txt 2>&1) || true
+            (cd "$work/crates/$crate" && rt try --test --seconds "$seconds" $refused ${only:+-- "$only"} </dev/null >out.txt 2>&1) || true
             ;;
         fails:)
             if grep -qF "test $value ... FAILED" "$work/crates/$crate/out.txt"; then
                 echo "$name fails $value: ok"
             else
                 echo "$name fails $value: NOT SEEN"
+                tail -n 20 "$work/crates/$crate/out.txt" >&2
+                exit 1
+            fi
+            ;;
+        misses:)
+            said=$(sed -n "/^test $value \.\.\. /,/^test /p" "$work/crates/$crate/out.txt" | grep '^    ' || true)
+            if [ "$(sort -u <<<"$said")" = '    passed' ]; then
+                echo "$name misses a refusal in $value: ok"
+            else
+                echo "$name misses a refusal in $value: NOT SEEN"
                 tail -n 20 "$work/crates/$crate/out.txt" >&2
                 exit 1
             fi
