@@ -8,8 +8,10 @@ Quotes    A block of rust whose first line is '// crates/..', the path of a file
           'fn NAME(..' and below them 'ensures LABEL: ..' names clauses that the functions have.
 Clauses   A table with a column 'clause' names in each cell what carries the row's promise, as
               `BitSet::add`: `refused`, `stays`; `laws`: `within`
-          that is functions (Type::function, Trait::function, function, module::function), types with an invariant, or
-          records and definitions of specs/, of the page's crate or one below it, and their clauses, invariants or fields.
+          that is functions (Type::function, Trait::function, function, module::function), types, traits, or records and
+          definitions of specs/, of the page's crate or one below it, and their clauses, invariants, facts or fields. A
+          function of an impl also has the impl's facts, as `BitIter::next`: `next_gives`. In a table whose first column
+          is 'clause' a cell has clauses alone.
           Each public function of a library crate that has an `ensures` is named in such a cell of its crate's README.
 Modules   Between <!-- modules --> and <!-- /modules --> a crate's README has what the first sentence of each file says.
           --write writes these tables anew.
@@ -104,9 +106,13 @@ def dead_links(page):
             yield line_at(text, link.start()), f"links to {link[1]}, which is not there"
         elif anchor and path.suffix == ".md" and anchor not in anchors(path):
             yield line_at(text, link.start()), f"links to {link[1]}, but no heading has the anchor #{anchor}"
+    # What a guide prints to be a file of the user's is not looked for here.
+    printed = re.findall(r"`([\w./-]+)`:\n\n```", text_of(page))
     named = r"(?<![\w./-])((?:docs|bench|tests|crates)/[\w./*+-]*\.(?:md|py|sh|rt|antt|edit|patch|svg)|CONTRIBUTING\.md)(?!\w)"
     for name in re.finditer(named, text):
-        if not PLACEHOLDER.search(name[1]) and not any((folder / name[1]).exists() for folder in (TOP, page.parent)):
+        if PLACEHOLDER.search(name[1]) or name[1] in printed:
+            continue
+        if not any((folder / name[1]).exists() for folder in (TOP, page.parent)):
             yield line_at(text, name.start()), f"names {name[1]}, which is not there"
 
 
@@ -159,19 +165,18 @@ def cells_of(line):
 
 
 def clause_cells(page):
-    """The cells in columns that are headed 'clause', with their lines."""
+    """The cells in columns that are headed 'clause': line, column and cell."""
     lines = without_fences(text_of(page), "").splitlines()
     column = None
     for number, line in enumerate(lines, 1):
         if not line.startswith("|"):
             column = None
         elif number < len(lines) and re.match(r"\|[ :|-]+\|$", lines[number]) and column is None:
-            heads = cells_of(line)
-            column = heads.index("clause") if "clause" in heads else None
+            column = next((at for at, head in enumerate(cells_of(line)) if head in ("clause", "clauses")), None)
         elif column is not None and not re.match(r"\|[ :|-]+\|$", line):
             cells = cells_of(line)
             if column < len(cells):
-                yield number, cells[column]
+                yield number, column, cells[column]
 
 
 ITEM = r"`[^`]+`(?:, `[^`]+`)*"
@@ -191,12 +196,17 @@ def carriers(cell):
 def wrong_cells(page):
     """The cells that name what is not there."""
     names = Names.for_page(page)
-    for line, cell in clause_cells(page):
+    for line, column, cell in clause_cells(page):
         parts = carriers(cell)
-        if parts is None:
+        if column == 0:
+            # A table that says what the clauses of one function are.
+            for label in re.findall(r"`([^`]+)`", cell):
+                if not any(label in labels for labels in names.values()):
+                    yield line, f"nothing has a clause {label} in {names.where}"
+        elif parts is None:
             yield line, f"is not of the form `Type::function`: `clause`, `clause`; ..: {cell}"
             continue
-        for which, labels in parts:
+        for which, labels in parts if column > 0 and parts else []:
             for name in which:
                 if name not in names:
                     yield line, f"no function, type, record or definition {name} in {names.where}"
@@ -242,7 +252,10 @@ class Crate:
 
     def __init__(self, name):
         self.name, self.folder = name, CRATES / name
-        self.functions, self.impls, self.words, self.open, self.exported = [], set(), {}, {(): True}, set()
+        self.functions, self.impls = [], set()
+        self.words = {}  # records with their fields, types with their invariants, traits with their facts
+        self.facts = {}  # of an impl, by its type and its trait
+        self.open, self.exported = {(): True}, set()
         for path in modules(name):
             self.read_source(path)
         for path in sorted((self.folder / "specs").glob("*.antt")):
@@ -267,10 +280,13 @@ class Crate:
                     self.impls.add((owner, trait))
                 if kind == "trait":
                     owner, trait = "", owner
+                elif not trait:
+                    self.words.setdefault(owner, set())
             elif line == "}":
                 owner = trait = kind = ""
-            if ghost := re.match(r"    (?:pub )?ghost (\w+): \{", line):
-                self.words.setdefault(owner or trait, set()).add(ghost[1])
+            if ghost := re.match(r"    (?:pub )?ghost (\w+)(:| =) \{", line):
+                said = self.facts.setdefault((owner, trait), set()) if kind == "impl" else self.words.setdefault(owner or trait, set())
+                said.add(ghost[1])
             elif call := re.match(r" *(pub )?(?:pub\([^)]*\) )?(?:const )?(?:final )?fn (\w+)", line):
                 head = head_of(lines, at)
                 labels = {label for _, label in re.findall(r"\b(ensures|requires)(?: (\w+))? \{", head) if label}
@@ -348,9 +364,12 @@ class Names(dict):
         for each in read:
             for function in each.functions:
                 for name in function.names():
-                    self.setdefault(name, set()).update(function.labels)
+                    facts = each.facts.get((function.owner, function.trait), set()) if function.owner else set()
+                    self.setdefault(name, set()).update(function.labels, facts)
             for name, words in each.words.items():
                 self.setdefault(name, set()).update(words)
+            for (owner, _), facts in each.facts.items():
+                self.setdefault(owner, set()).update(facts)
         # A type has the functions of its traits, with the traits' clauses.
         traits = {}
         for each in read:
@@ -376,7 +395,7 @@ def unnamed_functions(name):
     page = CRATES / name / "README.md"
     if not page.is_file():
         return
-    said = {who for _, cell in clause_cells(page) for which, _ in carriers(cell) or [] for who in which}
+    said = {who for *_, cell in clause_cells(page) for which, _ in carriers(cell) or [] for who in which}
     seen = set()
     for function in crate(name).functions:
         calls = function.names()
@@ -400,13 +419,17 @@ def first_sentence(path):
         if not line.startswith("//! "):
             break
         lines.append(line[4:].strip())
-    found = re.match(r".*?[.:](?=\s|$)", " ".join(lines))
+    found = re.match(r".*?[.](?=\s|$)", " ".join(lines))
     return (found[0] if found else " ".join(lines)).replace("|", "\\|")
 
 
 def table_of_modules(name):
-    rows = [f"| `{path.relative_to(CRATES / name / 'src')}` | {first_sentence(path)} |" for path in modules(name)]
-    return "\n".join(["", "| module | what it is |", "|---|---|", *rows, "", ""])
+    rows = [
+        f"| `{path.relative_to(CRATES / name)}` | {first_sentence(path)} |"
+        for path in modules(name)
+        if path.name not in ("lib.rt", "main.rt")
+    ]
+    return "\n".join(["| module | what it is |", "|---|---|", *rows, ""])
 
 
 def wrong_modules(page):
@@ -423,10 +446,10 @@ def wrong_modules(page):
     has, wants = found[1].splitlines(), wanted.splitlines()
     for row in wants:
         if row not in has:
-            yield line, f"the table of modules lacks: {row or 'an empty line'}"
+            yield line, f"the table of modules lacks (docs.py --write puts it there): {row}"
     for row in has:
         if row not in wants:
-            yield line, f"the table of modules has what is not so: {row}"
+            yield line, f"the table of modules has what is not so: {row or 'an empty line'}"
     if sorted(has) == sorted(wants):
         yield line, "the table of modules has another order"
 
@@ -497,7 +520,7 @@ def wrong_patches():
                 name = said
                 if not (CRATES / name).is_dir():
                     yield path, number, f"there is no crate {name}"
-            elif word == "fails" and not has_test(name, said):
+            elif word in ("fails", "misses") and not has_test(name, said):
                 yield path, number, f"{name} has no test {said}"
 
 
