@@ -6,7 +6,7 @@ here=$(cd "$(dirname "$0")" && pwd)
 . "$here/common.sh"
 work=$here/out/inlined
 rm -rf "$work"
-module "$work"
+llvm_module "$work"
 # shellcheck disable=SC2046
 "$kit/toolchain/bin/clang" $(cat "$work/words") -Rpass-missed=inline "$work/module.bc" -o "$work/remarks.o" 2>"$work/remarks"
 grep 'too costly to inline' "$work/remarks" | awk -F "'" -v word="${1:-}" '

@@ -12,7 +12,7 @@ mkdir -p "$1"
 work=$(cd "$1" && pwd)
 clang=$kit/toolchain/bin/clang
 if [ $# -eq 1 ]; then
-    module "$work"
+    llvm_module "$work"
     "$clang" -S -emit-llvm -Xclang -disable-llvm-passes -x ir "$work/module.bc" -o "$work/module.ll"
     exit
 fi
