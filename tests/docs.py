@@ -239,6 +239,8 @@ def last_word(text):
 
 
 class Function:
+    """A function: where it stands, and what its head promises."""
+
     def __init__(self, module, owner, trait, name, is_pub, head):
         self.module, self.owner, self.trait, self.name = module, owner, trait, name
         self.is_pub, self.clauses = is_pub, clauses_of(head)
@@ -268,36 +270,49 @@ class Crate:
             self.read_specs(path)
 
     def read_source(self, path):
+        """Reads the functions of a file, with the type and the trait whose block each is in, and the facts of these blocks."""
         parts = path.relative_to(self.folder / "src").with_suffix("").parts
         module = () if parts in (("lib",), ("main",)) else parts
         lines = text_of(path).splitlines()
-        owner = trait = kind = ""
+        self.read_names(module, lines)
+        kind = owner = trait = ""
         for at, line in enumerate(lines):
-            if declared := re.match(r"(pub )?mod (\w+);", line):
-                self.open[(*module, declared[2])] = bool(declared[1])
-            elif used := re.match(r"pub use (.*)", line):
-                said = " ".join(lines[at:]).split(";")[0] if ";" not in used[1] else used[1]
-                self.exported.update(re.findall(r"\w+", said.split("::")[-1]))
-            if opened := re.match(r"(?:pub(?:\([^)]*\))? )?(impl|trait|struct|enum)\b(.*)", line):
-                kind, rest = opened[1], flat(" ".join(lines[at : at + 3]).split(opened[1], 1)[1].split("{")[0])
-                first, _, second = rest.partition(" for ")
-                owner, trait = (last_word(second), last_word(first)) if second else (re.search(r"\w+", rest)[0], "")
-                if kind == "impl" and trait:
-                    self.impls.add((owner, trait))
-                if kind == "trait":
-                    owner, trait = "", owner
-                elif not trait:
-                    self.words.setdefault(owner, set())
+            if opened := re.match(r"(?:pub(?:\([^)]*\))? )?(impl|trait|struct|enum)\b", line):
+                kind = opened[1]
+                owner, trait = self.read_block(kind, " ".join(lines[at : at + 3])[opened.end() :])
             elif line == "}":
-                owner = trait = kind = ""
+                kind = owner = trait = ""
             if ghost := re.match(r"    (?:pub )?ghost (\w+)(:| =) \{", line):
-                said = self.facts.setdefault((owner, trait), set()) if kind == "impl" else self.words.setdefault(owner or trait, set())
-                said.add(ghost[1])
+                of_impl = kind == "impl"
+                (self.facts if of_impl else self.words).setdefault((owner, trait) if of_impl else owner or trait, set()).add(ghost[1])
             elif call := re.match(r" *(pub )?(?:pub\([^)]*\) )?(?:const )?(?:final )?fn (\w+)", line):
                 is_pub = bool(call[1]) or bool(trait)
                 self.functions.append(Function(module, owner, trait, call[2], is_pub, head_of(lines, at)))
 
+    def read_names(self, module, lines):
+        """Reads which modules are open, and what is given on."""
+        for at, line in enumerate(lines):
+            if declared := re.match(r"(pub )?mod (\w+);", line):
+                self.open[(*module, declared[2])] = bool(declared[1])
+            elif line.startswith("pub use "):
+                said = " ".join(lines[at:]).split(";")[0]
+                self.exported.update(re.findall(r"\w+", said.split("::")[-1]))
+
+    def read_block(self, kind, rest):
+        """The type and the trait of a block, by what follows its first word."""
+        first, _, second = flat(rest.split("{")[0]).partition(" for ")
+        if kind == "trait":
+            return "", re.search(r"\w+", first)[0]
+        if second:
+            owner, trait = last_word(second), last_word(first)
+            self.impls.add((owner, trait))
+            return owner, trait
+        owner = re.search(r"\w+", first)[0]
+        self.words.setdefault(owner, set())
+        return owner, ""
+
     def read_specs(self, path):
+        """Reads the records of a file, with their fields, and its definitions."""
         record, indent = "", ""
         for line in text_of(path).splitlines():
             if found := re.match(r"( *)(?:\w+ )*record (\S+)", line):
