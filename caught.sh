@@ -1,7 +1,7 @@
 #!/usr/bin/env bash
 # Tries wrong bodies that no contract excludes: applies each patch of caught/ to a copy of the repository, where the tests that it names must fail. caught.sh PATCH tries one alone.
 # Two are tried side by side. Where there is one processor, no walk takes threads, and the patches whose tests are to meet in two of them are left out.
-# The head of a patch says the crates and the tests: lines 'crate: NAME', and after each the lines 'fails: TEST' of that crate. A line 'seconds: N' before a crate cuts its tests short after so many seconds, where some that are not named walk over millions of words.
+# The head of a patch says the crates and the tests: lines 'crate: NAME', and after each the lines 'fails: TEST' of that crate. A line 'seconds: N' before a crate cuts its tests short after so many seconds, where some that are not named walk over millions of words; a line 'only: WORDS' runs no other tests than those with these words in their names.
 set -euo pipefail
 cd "$(dirname "$0")"
 top=$PWD
@@ -23,14 +23,18 @@ git ls-files -z | tar --null --files-from=- -cf - | tar -xf - -C "$work"
 git -C "$work" init -q
 git -C "$work" apply "$top/$patch"
 seconds=60
+only=
 sed '/^diff /,$d' "$patch" | while read -r word value; do
     case $word in
         seconds:)
             seconds=$value
             ;;
+        only:)
+            only=$value
+            ;;
         crate:)
             crate=$value
-            (cd "$work/crates/$crate" && rt try --test --seconds "$seconds" </dev/null >out.txt 2>&1) || true
+            (cd "$work/crates/$crate" && rt try --test --seconds "$seconds" ${only:+-- "$only"} </dev/null >out.txt 2>&1) || true
             ;;
         fails:)
             if grep -qF "test $value ... FAILED" "$work/crates/$crate/out.txt"; then

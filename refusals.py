@@ -58,7 +58,7 @@ CALLS = {
         "World::apply": "worlds::begin worlds::step worlds::open worlds::read worlds::run",
     },
     "hibitset": {
-        "BitSet::add": "sets::add sets::add_past_the_room_made_before",
+        "BitSet::add": "sets::add sets::room_made_before",
         "BitSet::add_index": "sets::extend_indices",
         "BitSet::add_range": "sets::add_range",
         "BitSet::bitor_assign": "sets::bitor_assign",
@@ -107,7 +107,7 @@ OTHERS = "columns::collect callers::take"
 
 # The tests of calls that make no request.
 ROOM = """sets sets_with_room sets_with_room_of_adds sets_with_room_of_assignments virtual_sets atomic_sets
-settled_sets shared_sets last_shares new_worlds worlds parts columns columns_in_order identifiers pages
+settled_sets shared_sets last_shares new_worlds worlds parts parts_in_one_thread columns columns_in_order identifiers pages
 tasks tags"""
 
 # How many requests the call of each test makes where none is refused. A call that does its work twice is seen here alone.
@@ -154,7 +154,6 @@ REQUESTS = {
     "sets::add": 1,
     "sets::add_range": 1,
     "sets::add_past_the_last_word": 1,
-    "sets::add_past_the_room_made_before": 1,
     "sets::add_to_a_clone": 1,
     "sets::bitor_assign": 1,
     "sets::bitxor_assign": 1,
@@ -165,6 +164,7 @@ REQUESTS = {
     "sets::from_index_refs": 2,
     "sets::from_indices": 2,
     "sets::from_words": 1,
+    "sets::room_made_before": 1,
     "sets::to_vec": 1,
     "sets::to_vec_of_a_member_a_word": 2,
     "sets::to_vec_of_full_words": 1,

@@ -11,6 +11,7 @@ mod operator;
 pub mod ops;
 mod range;
 pub mod set;
+pub mod util;
 
 pub use build::BuildError;
 pub use hibitset_atomic::{
@@ -20,6 +21,6 @@ pub use hibitset_atomic::{
 pub use hibitset_base::{
     BitIter, BitParIter, BitProducer, BitSetAll, BitSetAnd, BitSetLike, BitSetNot, BitSetOr,
     BitSetXor, DrainBitIter, DrainableBitSet, Index, LAYERS, MAX_EID, drain, iter, like, parallel,
-    util, virt,
+    virt,
 };
 pub use set::BitSet;

@@ -251,6 +251,11 @@ impl BitSetLike for BitSet {
     }
 
     #[inline]
+    fn has_cheap_words(&self) -> bool {
+        true
+    }
+
+    #[inline]
     fn layer4(&self) -> usize {
         self.layers.top()
     }

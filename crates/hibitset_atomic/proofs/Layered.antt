@@ -1,13 +1,16 @@
 -- The words of an atomic set.
-use Rattle.std.proofs.Common.{◌≡◌, ◌≢◌, ℕ, zero, suc, ◌+◌, ◌*◌, ◌/◌, ◌%◌, ◌^◌, ◌<◌, ◌≤◌, ◌==◌, not, true, List, [], ◌∷◌, get_or, length, arith, inl, inr, refl, sym, ap, ◌∙◌}
+use Rattle.std.proofs.Common.{◌≡◌, ◌≢◌, ℕ, zero, suc, ◌+◌, ◌-◌, ◌*◌, ◌/◌, ◌%◌, ◌^◌, ◌<◌, ◌≤◌, ◌==◌, not, true, false, List, [], ◌∷◌, get_or, length, arith, inl, inr, refl, sym, ap, ◌∙◌}
 use Rattle.std.specs.Int.{bit_at}
 use Rattle.std.proofs.Math.ListN.{set}
 use Rattle.std.proofs.lemmas.Bool.{cases_lt}
 use Rattle.std.proofs.lemmas.List.{get_or_past, get_or-set_same}
+use Rattle.hibitset_base.specs.Deciding.{same_or_not, eq_same, eq_other}
 use Rattle.hibitset_base.specs.Sets.{bit_of}
 use Rattle.hibitset_base.specs.Words.{holds_at}
 use Rattle.hibitset_atomic.specs.Placed.{IsPlaced, placed_word}
 use Rattle.hibitset_atomic.specs.Layers.{layer_word, word_over}
+use Rattle.hibitset_atomic.specs.Topped.{topped}
+use Rattle.hibitset_atomic.specs.declared.layers.TheConstants.{ATOMIC_LAYERS}
 use Rattle.hibitset_atomic.specs.declared.layers.Layers.{Layers}
 use Rattle.hibitset_base.proofs.Holding.{some_word}
 use Rattle.hibitset_base.specs.Mended.{MendedUpTo}
@@ -29,6 +32,25 @@ placed_past n places words p placed past =
     let none : get_or places (p / 64) 0 ≡ 0 = get_or_past places (p / 64) 0 (let e = placed.count in omega (arith, e, past)) in
     let at : 64 * get_or places (p / 64) 0 + p % 64 ≡ p % 64 = omega (arith, none) in
     ap (λ x. get_or words x 0) at ∙ placed.blank (p % 64) (omega arith)
+
+-- past its positions a layer's words are 0
+pub layers_past : (layers : Layers) (l p : ℕ) → 64 ^ (ATOMIC_LAYERS - 1 - l) ≤ p → layer_word layers l p ≡ 0
+layers_past layers zero p past = placed_past 4096 layers.layer0.places.items layers.layer0.words.items p layers.layer0.placed (omega (arith, past))
+layers_past layers (suc zero) p past = get_or_past layers.layer1.items p 0 (let long = layers.whole1 in omega (arith, past, long))
+layers_past layers (suc (suc zero)) p past = get_or_past layers.layer2.items p 0 (let long = layers.whole2 in omega (arith, past, long))
+layers_past layers (suc (suc (suc zero))) zero past = absurd (omega (arith, past))
+layers_past layers (suc (suc (suc zero))) (suc p) past = refl
+layers_past layers (suc (suc (suc (suc l)))) p past = refl
+
+-- The same with the layer on top, which has one position.
+pub topped_past : (layers : Layers) (l p : ℕ) → 64 ^ (ATOMIC_LAYERS - 1 - l) ≤ p → topped (ATOMIC_LAYERS - 1) (layer_word layers) l p ≡ 0
+topped_past layers l p past = elim (same_or_not l 4) [
+  | inl e ↦
+      let top : (l == 4) ≡ true = eq_same l 4 e in
+      let further : (p == 0) ≡ false = eq_other p 0 (λ z. absurd (let h : 64 ^ (3 - 4) ≤ p = rw e at past in omega (arith, h, z))) in
+      rw (top, further) refl
+  | inr other ↦ (let lower : (l == 4) ≡ false = eq_other l 4 other in rw lower (layers_past layers l p past))
+]
 
 -- no number past the range is a member
 pub held_below : (layers : Layers) (i : ℕ) → holds_at (layer_word layers) i ≡ true → i < ATOMIC_MAX_EID

@@ -175,6 +175,11 @@ impl BitSetLike for AtomicBitSet {
     }
 
     #[inline]
+    fn has_cheap_words(&self) -> bool {
+        true
+    }
+
+    #[inline]
     fn layer4(&self) -> usize {
         (self.layers.layer3 != 0) as usize
     }

@@ -1,5 +1,5 @@
 //! Laws that users rely on.
-ghost use Rattle.std.specs.Prelude.{◌≡◌, ℕ, ◌<◌, true, bit_and};
+ghost use Rattle.std.specs.Prelude.{◌≡◌, ℕ, ◌-◌, ◌^◌, ◌<◌, ◌≤◌, true, bit_and};
 ghost use Rattle.hibitset_base.specs.declared.util.TheConstants.{LAYERS};
 ghost use Rattle.hibitset_base.specs.Reading.{Encloses};
 ghost use Rattle.hibitset_base.specs.Sets.{IsExact};
@@ -17,12 +17,13 @@ use hibitset_base::util::LAYERS;
 
 /// The laws of all atomic sets held alone. The call does nothing, and its contract says them.
 ///
-/// No number past the range is a member. Summaries are exact, so that no part that a split gives is empty. The words of an intersection lie within those of each operand, so by the clause `bound` of `iter` a walk over `BitSetAnd` of two atomic sets, or of references to them, reads at most four words of each for every member of the smaller one, and the top. The same holds beside a set of any other type, on either side of it. The words of the four layers that are kept are exact alone.
+/// No number past the range is a member. Summaries are exact, so that no part that a split gives is empty. The words of an intersection lie within those of each operand, so by the clause `bound` of `iter` a walk over `BitSetAnd` of two atomic sets, or of references to them, reads at most four words of each for every member of the smaller one, and the top. The same holds beside a set of any other type, on either side of it. The words of the four layers that are kept are exact alone. Past its positions each layer has words that are 0: layer 0 has 262,144 positions, and each layer above it a 64th of those below.
 pub fn atomic_laws()
     ensures within { (set : AtomicBitSet) (i : ℕ) → has set i ≡ true → i < ATOMIC_MAX_EID }
     ensures exact { (set : AtomicBitSet) → IsExact LAYERS (topped_word set) × AreWords (topped_word set) }
     ensures intersection { (a b : AtomicBitSet) → Encloses LAYERS (has a) (topped_word a) (intersected a b) × Encloses LAYERS (has b) (topped_word b) (intersected a b) }
     ensures kept { (set : AtomicBitSet) → IsExact ATOMIC_LAYERS (word_of set) × AreWords (word_of set) }
+    ensures past { (set : AtomicBitSet) (l p : ℕ) → 64 ^ (ATOMIC_LAYERS - 1 - l) ≤ p → topped_word set l p ≡ 0 }
     ensures beside { (set : AtomicBitSet) (word : ℕ → ℕ → ℕ) → Encloses LAYERS (has set) (topped_word set) (λ l p. bit_and (topped_word set l p) (word l p)) × Encloses LAYERS (has set) (topped_word set) (λ l p. bit_and (word l p) (topped_word set l p)) }
 {}
 

@@ -12,6 +12,7 @@ use crate::layers::ATOMIC_LAYERS;
 use crate::steps::calls::{Call, Calls};
 use crate::steps::walks::Walks;
 use hibitset_base::util::{Index, Row, SHIFT0, SHIFT1, SHIFT2, SHIFT3};
+use std::alloc::Global;
 use std::snapshot::Snapshot;
 
 mod calls;
@@ -60,12 +61,11 @@ impl World {
 
     /// A world of this set, in which nothing has happened: the set's members are the old indices, no call has begun, and no walk.
     ///
-    /// It takes no memory.
-    pub fn new(set: AtomicBitSet) -> World
+    /// It takes no memory. From `alloc` comes what the world keeps of its past, its calls and its walks.
+    pub fn new(alloc: Global, set: AtomicBitSet) -> World
         ensures old { old_of result ≡ has set }
         ensures past { past_of result ≡ [] }
     {
-        let alloc = set.allocator();
         World {
             alloc,
             past: Vec::new(alloc),

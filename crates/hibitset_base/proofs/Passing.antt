@@ -11,11 +11,12 @@ use Rattle.std.proofs.lemmas.Bool.{cases_lt}
 use Rattle.std.proofs.lemmas.Grind.{flat_map-append}
 use Rattle.std.proofs.lemmas.List.{get_or-set_same, get_or-set_other, append-nil, length-set}
 use Rattle.std.proofs.lemmas.List.Elements.{All-nil, All-cons, All-tail, All-head, All-append}
+use Rattle.std.proofs.lemmas.List.Sums.{sum_by-append}
 use Rattle.hibitset_base.specs.Members.{members}
 use Rattle.hibitset_base.specs.Deciding.{same_or_not}
 use Rattle.hibitset_base.specs.Sets.{IsLawful}
 use Rattle.hibitset_base.specs.Places.{Place, places_in, places_left, bits_from}
-use Rattle.hibitset_base.specs.Reading.{words_under, words_of, Encloses, LiesOver, IsBoundBy}
+use Rattle.hibitset_base.specs.Reading.{words_under, words_of, Encloses, LiesOver, words_in, IsBoundBy}
 use Rattle.hibitset_base.specs.From.{BeginsBy, BeginsAfter, IsAheadFrom, Passes, HasTail, first_bit, bit_over, IsTail, AreOver, AreTails, BeginsAt}
 use Rattle.hibitset_base.proofs.Members.{members-append}
 use Rattle.hibitset_base.proofs.Left.{eq_one, eq_none, left-fill, left-none}
@@ -336,6 +337,12 @@ all_later : (P : Place → Type 0) (xs ys : List Place) → All P (xs ++ ys) →
 all_later P [] ys all = all
 all_later P (x ∷ xs) ys all = all_later P xs ys (All-tail P x (xs ++ ys) all)
 
+each_later : {m : ℕ} (l : ℕ) (xs ys all : List Place) → all ≡ xs ++ ys → words_in l all ≤ m → words_in l ys ≤ m
+each_later l xs ys all e most =
+    let whole : words_in l all ≡ words_in l (xs ++ ys) = ap (words_in l) e in
+    let sum : words_in l (xs ++ ys) ≡ words_in l xs + words_in l ys = sum_by-append (λ (place : Place). cond (place.layer == l) 1 0) xs ys in
+    omega (arith, most, whole, sum)
+
 pub ahead_is_bound : (d : ℕ) (p : ℕ → Bool) (a w : ℕ → ℕ → ℕ) (from r : ℕ) (ahead : List Place) → IsAheadFrom from r (words_under w (suc d) 0) ahead → Encloses (suc d) p a w → IsBoundBy (suc d) p ahead
 ahead_is_bound d p a w from r ahead is encloses =
     let rest : List Place = flat_map (words_under w d) (bits_from 0 (w d 0)) in
@@ -345,4 +352,4 @@ ahead_is_bound d p a w from r ahead is encloses =
     let e = ap length h.1 in
     let f = length-append h.0 ahead in
     let few = bound.few in
-    record { over = all_later (LiesOver p) h.0 ahead over_rest; few = omega (arith, e, f, few) }
+    record { over = all_later (LiesOver p) h.0 ahead over_rest; each = λ l. each_later l h.0 ahead rest h.1 (bound.each l); few = omega (arith, e, f, few) }

@@ -1,6 +1,6 @@
 -- The words that a walk reads.
-use Rattle.std.specs.Prelude.{◌≡◌, ℕ, zero, suc, ◌+◌, ◌-◌, ◌*◌, ◌/◌, ◌%◌, ◌^◌, ◌<◌, ◌≤◌, Bool, true, List, [], ◌∷◌, ◌++◌, length, All}
-use Rattle.std.specs.List.{flat_map}
+use Rattle.std.specs.Prelude.{◌≡◌, ℕ, zero, suc, ◌+◌, ◌-◌, ◌*◌, ◌/◌, ◌%◌, ◌^◌, ◌<◌, ◌≤◌, ◌==◌, Bool, true, List, [], ◌∷◌, ◌++◌, length, All}
+use Rattle.std.specs.List.{flat_map, count_by}
 use Rattle.std.specs.Int.{bit_at}
 use Rattle.hibitset_base.specs.Members.{members_below}
 use Rattle.hibitset_base.specs.Sets.{IsLawful, IsExact}
@@ -47,7 +47,12 @@ pub record Encloses (n : ℕ) (p : ℕ → Bool) (a word : ℕ → ℕ → ℕ) 
 abbrev pub LiesOver : (ℕ → Bool) → Place → Type 0
 LiesOver p place = (i : ℕ) × (p i ≡ true) × (i / 64 ^ (place.layer + 1) ≡ place.position)
 
--- These words lie over members of the set, and below the top layer there are at most as many as members in each layer.
+-- how many of these words lie in a layer
+abbrev pub words_in : ℕ → List Place → ℕ
+words_in l = count_by (λ place. place.layer == l)
+
+-- These words lie over members of the set. In each layer there are at most as many as members, so below the top layer at most as many as members for each.
 pub record IsBoundBy (n : ℕ) (p : ℕ → Bool) (words : List Place) : Type 0 where
   pub over : All (LiesOver p) words
+  pub each : (l : ℕ) → words_in l words ≤ length (members_below (64 ^ n) p)
   pub few : length words ≤ (n - 1) * length (members_below (64 ^ n) p)

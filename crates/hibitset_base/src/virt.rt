@@ -38,6 +38,11 @@ impl<A: BitSetLike, B: BitSetLike> BitSetLike for BitSetAnd<A, B> {
     ghost lawful = { λ s. and_lawful LAYERS (A.lawful s.0) (B.lawful s.1) };
 
     #[inline]
+    fn has_cheap_words(&self) -> bool {
+        self.0.has_cheap_words() && self.1.has_cheap_words()
+    }
+
+    #[inline]
     fn layer4(&self) -> usize {
         self.0.layer4() & self.1.layer4()
     }
@@ -121,6 +126,11 @@ impl<A: BitSetLike, B: BitSetLike> BitSetLike for BitSetOr<A, B> {
     ghost lawful = { λ s. or_lawful LAYERS (A.lawful s.0) (B.lawful s.1) };
 
     #[inline]
+    fn has_cheap_words(&self) -> bool {
+        self.0.has_cheap_words() && self.1.has_cheap_words()
+    }
+
+    #[inline]
     fn layer4(&self) -> usize {
         self.0.layer4() | self.1.layer4()
     }
@@ -201,6 +211,11 @@ impl<A: BitSetLike, B: BitSetLike> BitSetLike for BitSetXor<A, B> {
     ghost lawful = { λ s. xor_lawful LAYERS (A.lawful s.0) (B.lawful s.1) };
 
     #[inline]
+    fn has_cheap_words(&self) -> bool {
+        self.0.has_cheap_words() && self.1.has_cheap_words()
+    }
+
+    #[inline]
     fn layer4(&self) -> usize {
         self.0.layer4() | self.1.layer4()
     }
@@ -257,6 +272,11 @@ impl<A: BitSetLike> BitSetLike for BitSetNot<A> {
     ghost lawful = { λ s. not_lawful LAYERS (A.lawful s.0) };
 
     #[inline]
+    fn has_cheap_words(&self) -> bool {
+        self.0.has_cheap_words()
+    }
+
+    #[inline]
     fn layer4(&self) -> usize {
         !0
     }
@@ -306,6 +326,11 @@ impl BitSetLike for BitSetAll {
     ghost word = { λ s l p. all_ones };
 
     ghost lawful = { λ s. all_lawful LAYERS };
+
+    #[inline]
+    fn has_cheap_words(&self) -> bool {
+        true
+    }
 
     #[inline]
     fn layer4(&self) -> usize {

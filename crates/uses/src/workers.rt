@@ -89,7 +89,7 @@ fn jobs_of(
     let Ok(mut jobs) = Vec::with_capacity(alloc, lists.len()) else {
         return Err(seat);
     };
-    let mut seats = match set.divide_among(seat, lists.len() + 1, alloc) {
+    let mut seats = match set.divide_among(alloc, seat, lists.len() + 1) {
         Ok(seats) => seats,
         Err(seat) => return Err(seat),
     };

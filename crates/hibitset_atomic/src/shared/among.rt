@@ -77,7 +77,7 @@ impl SharedBitSet {
     /// The first has the reports, and the others have none; all know what the seat knew. Joined again they are a seat of the same weight, whole where that was. Of the loads, each has those of the seat and 30 more at most; the exchanges stay with the first. It waits for nobody.
     ///
     /// It is refused for memory alone, for the vector, which it takes first: then the seat comes back unchanged.
-    pub fn divide_among(&self, seat: Seat, n: usize, alloc: Global) -> Result<Vec<Seat>, Seat>
+    pub fn divide_among(&self, alloc: Global, seat: Seat, n: usize) -> Result<Vec<Seat>, Seat>
         requires came { Came self.now seat }
         requires some { 0 < n }
         requires few { n ≤ weight_of seat }

@@ -163,7 +163,7 @@ fn assert_all_step(rt: &impl Abort, world: &mut World, reply: Reply) {
 // All calls pass a layer before one passes the next.
 #[test]
 fn a_world_of_many_calls(rt: HostRuntime) -> Result<(), AllocError> {
-    let mut world = World::new(AtomicBitSet::new(rt.alloc())?);
+    let mut world = World::new(rt.alloc(), AtomicBitSet::new(rt.alloc())?);
     assert_all_begin(&rt, &mut world);
     assert_all_step(&rt, &mut world, Reply::First { there: false });
     assert_all_step(&rt, &mut world, Reply::Path { left: 2 });

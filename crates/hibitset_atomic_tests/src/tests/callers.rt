@@ -1,12 +1,14 @@
-//! Callers of the shared set, who prove what their contracts say from the public clauses alone.
-ghost use Rattle.std.specs.Prelude.{◌≡◌, ℕ, ◌+◌, ◌≤◌, ◌⊎◌, ◌↔◌, [], true, length, nat_eq, Contains, IfSome, IfOk, IfErr, ◌<◌};
+//! Callers of both forms of the set, who prove what their contracts say from the public clauses alone.
+ghost use Rattle.std.specs.Prelude.{◌≡◌, ℕ, ◌+◌, ◌/◌, ◌≤◌, ◌⊎◌, ◌↔◌, [], true, length, nat_eq, Contains, IfSome, IfOk, IfErr, ◌<◌};
 ghost use Rattle.hibitset_atomic.specs.declared.atomic.TheConstants.{ATOMIC_MAX_EID};
 ghost use Rattle.hibitset_atomic.specs.AtomicBitSet.{has};
 ghost use Rattle.std.specs.List.{IsDistinct};
 ghost use Rattle.hibitset_atomic.specs.Seats.{IsOld, Came, reports_of, loads_by, exchanges_by};
 
 use crate::tests::list;
+use hibitset_atomic::laws::atomic_laws;
 use hibitset_atomic::{AtomicBitSet, Seat, SharedBitSet};
+use hibitset_base::BitSetLike;
 use hibitset_base::util::Index;
 use std::snapshot::Snapshot;
 use std::sync::Wait;
@@ -156,6 +158,15 @@ pub fn add_again(set: &SharedBitSet, seat: &mut Seat, id: Index) -> bool
     set.add_atomic(seat, id)
 }
 
+/// The word of layer 0 at a position past the range, which is 0 in every set.
+pub fn word_past_the_range(set: &AtomicBitSet, position: usize) -> usize
+    requires { ATOMIC_MAX_EID / 64 ≤ position }
+    ensures { result ≡ 0 }
+{
+    atomic_laws();
+    set.layer0(position)
+}
+
 #[test]
 fn two_threads_add_the_same(rt: HostRuntime) -> Result<(), Fail> {
     let Ok((set, seat)) = AtomicBitSet::new(rt.alloc())?.share() else {
@@ -179,5 +190,6 @@ fn one_more_after_settling(rt: HostRuntime) -> Result<(), Fail> {
         panic!(rt; "no memory")
     };
     assert_eq!(rt; list(rt.alloc(), &set)?.as_slice(), [5, 70_000].as_slice());
+    assert!(rt; word_past_the_range(&set, 262_144) == 0);
     Ok(())
 }

@@ -291,7 +291,7 @@ fn play_from(
     ids: (Index, Index),
     turns: &[Player],
 ) -> Result<Result<AtomicBitSet, Difference>, AllocError> {
-    let mut world = World::new(set);
+    let mut world = World::new(alloc, set);
     let model = match play(alloc, &mut world, ids, turns)? {
         Ok(model) => model,
         Err(by) => return Ok(Err(by)),

@@ -118,6 +118,7 @@ fn a_seat_that_is_dropped(rt: HostRuntime) -> Result<(), AllocError> {
     assert!(rt;
         set.contains(&mut b, 5) && set.contains(&mut b, 7) && !set.contains(&mut a, 16777216)
     );
+    drop(b);
     assert!(rt; a.weight() == 32768 && !a.is_whole());
     assert_members(&rt, &settled(&rt, set, a), &[5, 7, 9])
 }
@@ -127,7 +128,7 @@ fn weights_among(alloc: Global, n: usize) -> Option<Vec<u32>>
     requires { (0 < n) × (n ≤ SHARES) }
 {
     let (set, seat) = AtomicBitSet::new(alloc).ok()?.share().ok()?;
-    let seats = set.divide_among(seat, n, alloc).ok()?;
+    let seats = set.divide_among(alloc, seat, n).ok()?;
     seats.iter().map(|seat| seat.weight()).collect(alloc).ok()
 }
 
@@ -155,7 +156,7 @@ fn divided_among_as_many_as_it_has_shares(rt: HostRuntime) -> Result<(), AllocEr
         eight = kept;
     }
     let shares = eight.weight() as usize;
-    let Ok(seats) = set.divide_among(eight, shares, rt.alloc()) else {
+    let Ok(seats) = set.divide_among(rt.alloc(), eight, shares) else {
         panic!(rt; "no memory")
     };
     assert_count(&rt, seats.len(), 8);
@@ -186,7 +187,7 @@ fn divided_and_joined(set: &SharedBitSet, seat: Seat, n: usize, alloc: Global) -
     ensures weight { IfSome result (λ joined. weight_of joined ≡ weight_of seat) }
     ensures reports { IfSome result (λ joined. reports_of joined ≡ reports_of seat) }
 {
-    let Ok(mut seats) = set.divide_among(seat, n, alloc) else {
+    let Ok(mut seats) = set.divide_among(alloc, seat, n) else {
         return None;
     };
     let first = seats.remove(0);
@@ -209,7 +210,7 @@ fn added_and_joined(rt: &(impl Abort + AllocGlobal), set: &SharedBitSet, seat: S
     requires { Came set.now seat × (weight_of seat ≡ SHARES) }
     ensures { Came set.now result }
 {
-    let Ok(mut seats) = set.divide_among(seat, 5, rt.alloc()) else {
+    let Ok(mut seats) = set.divide_among(rt.alloc(), seat, 5) else {
         panic!(rt; "no memory")
     };
     add_with_each(set, &mut seats);

@@ -1,6 +1,6 @@
 //! Which sets are large enough for threads.
 //!
-//! Nothing is promised of the choice, which is between two ways to the same answer. Threads are started anew at each call, and until they run a walk in one thread has gone over some hundred thousand members. What a call has to do is told by the words of layer 0 that it looks at and the members that it gives, so that a sparse set goes by its words. bench/README.md has the times on either side of these numbers.
+//! Nothing is promised of the choice, which is between two ways to the same answer. Threads are started anew at each call, and until they run a walk in one thread has gone over some hundred thousand members. What a closure does at a member nobody can know, so for `for_each` and `fold` the members alone decide. What `count` and `collect` do is known: where words are cheap it is told by the words of layer 0 that are looked at and the members that are listed, and elsewhere by the members. bench/README.md has the times on either side of these numbers.
 use crate::bits::take_bit;
 use crate::like::BitSetLike;
 use crate::util::{LAYERS, average_ones};
@@ -22,6 +22,11 @@ pub(super) struct Size {
 const DENSE: usize = 3;
 
 impl Size {
+    // About how many members there are.
+    fn members(self) -> usize {
+        self.full.saturating_mul(64).saturating_add(self.members)
+    }
+
     // Tells whether a fold gains nothing by going over whole words.
     pub(super) fn is_sparse(self) -> bool {
         self.full == 0 && self.members < self.words.saturating_mul(DENSE)
@@ -74,27 +79,50 @@ pub(super) const COLLECTING: Work = Work {
     worth: 500_000,
 };
 
-// A visit leaves something behind, which takes longer, also where a word has all bits.
-pub(super) const VISITING: Work = Work {
-    full: 2 + 64,
-    word: 2,
+// Where a word may take long, threads save time wherever they don't take longer to start than to go over the members.
+pub(super) const READING: Work = Work {
+    full: 64,
+    word: 0,
     member: 1,
     listing: 0,
-    worth: 300_000,
+    worth: 100_000,
 };
 
-// A fold goes over a word with all bits without looking for them, which is a matter of its step alone: an addition takes less than a quarter of a member's time elsewhere, and nearly any other step more.
-pub(super) const FOLDING: Work = Work {
-    full: 16,
-    word: 2,
-    member: 1,
+// What a closure does may take any time.
+pub(super) const CALLING: Work = Work {
+    full: 0,
+    word: 0,
+    member: 0,
     listing: 0,
-    worth: 500_000,
+    worth: 0,
 };
 
-// Tells whether a walk over a set of this size goes faster in several threads, where so much is done: never where there is one processor.
-pub(super) fn pays<R: Threads>(rt: &R, size: Size, work: Work) -> bool {
-    is_worth(size, work) && current_num_threads(rt) > 1
+// What it takes to count.
+pub(super) fn counting<T: BitSetLike>(set: &T) -> Work {
+    if set.has_cheap_words() {
+        COUNTING
+    } else {
+        READING
+    }
+}
+
+// What it takes to collect.
+pub(super) fn collecting<T: BitSetLike>(set: &T) -> Work {
+    if set.has_cheap_words() {
+        COLLECTING
+    } else {
+        READING
+    }
+}
+
+// Tells whether a set of this size has about so many members and so much to do that several threads save time: never where there is one processor.
+pub(super) fn pays<R: Threads>(rt: &R, size: Size, work: Work, least: usize) -> bool {
+    is_enough(size, work, least) && current_num_threads(rt) > 1
+}
+
+// Tells whether there is so much to do, at about so many members.
+fn is_enough(size: Size, work: Work, least: usize) -> bool {
+    is_worth(size, work) && size.members() >= least
 }
 
 // Tells whether there is so much to do.
@@ -119,11 +147,11 @@ fn joined(size: Size, other: Size) -> Size {
     }
 }
 
-/// About how large the set is. It reads a few words under each bit of the layer below the top, until there are enough to be counted in threads, however many more there are.
-pub(super) fn estimate<T: BitSetLike>(set: &T) -> Size {
+/// About how large the set is. It reads a few words under each bit of the layer below the top, until there is so much of this work, at about so many members, however much more there is.
+pub(super) fn estimate<T: BitSetLike>(set: &T, work: Work, least: usize) -> Size {
     let mut left = set.get_from_layer(LAYERS - 1, 0);
     let mut size = NOTHING;
-    'bits: while left != 0 && !is_worth(size, COUNTING) {
+    'bits: while left != 0 && !is_enough(size, work, least) {
         let position = take_bit(&mut left);
         size = joined(size, size_below(set, position));
     }

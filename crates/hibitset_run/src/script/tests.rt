@@ -293,7 +293,7 @@ fn splits_to_the_end(rt: HostRuntime) -> Result<(), Fail> {
 fn is_run(replies: &[Reply]) -> bool {
     match replies {
         [Reply::Bool(false), Reply::List(list), Reply::Bool(true)] => {
-            list.as_slice() == [70_000].as_slice()
+            list.as_slice() == [5].as_slice()
         }
         [Reply::NoMemory, Reply::List(list), Reply::Bool(false)] => list.is_empty(),
         [Reply::Bool(false), Reply::NoMemory, Reply::Bool(true)] => true,
@@ -307,7 +307,7 @@ fn refused_and_again(rt: HostRuntime) -> Result<(), Fail> {
     let alloc = rt.alloc();
     let mut sets = array::from_fn(|_| BitSet::new(alloc));
     let set = Slot::A;
-    let id = 70_000;
+    let id = 5;
     let commands = [
         Command::Add { set, id },
         Command::List { set },

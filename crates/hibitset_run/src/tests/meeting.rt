@@ -5,29 +5,24 @@ ghost use Rattle.hibitset_base.specs.declared.util.TheConstants.{LAYERS};
 use hibitset::{BitParIter, BitSet, BitSetLike, Index};
 use rayon::prelude::*;
 use std::alloc::{AllocError, Global};
+use std::process::Abort;
 use std::sync::atomic::{AtomicU32, Ordering};
 use std::test::Fail;
 use std::thread::Threads;
 
-// How often each side looks for the other, at most: for a second or more, since the other may wait for a processor where programs use them all.
-const TURNS: u32 = 2_000_000_000;
+// How often each side looks for the other, at most.
+const TURNS: u32 = 200_000_000;
 
-// So many full words of layer 0 are enough to be visited in several threads.
+// So many full words of layer 0 hold the indices below 524,288.
 const RUN: usize = 8_192;
 
-// So many are enough to be folded in several threads.
-const LONG_RUN: usize = 32_768;
-
-// The sum of their indices.
-const SUM: u64 = 2_199_022_206_976;
-
-// A word with every eighth bit. Words with more bits each are sooner collected in one thread.
+// A word with every eighth bit. Cheap words with more bits each are sooner collected in one thread.
 const EIGHTHS: usize = 0x0101_0101_0101_0101;
 
 // So many of these are enough to be collected in several threads.
 const MANY_EIGHTHS: usize = 65_536;
 
-// So many words are enough to be counted in several threads.
+// So many cheap words are enough to be counted in several threads.
 const MANY_WORDS: usize = 2_097_152;
 
 // How many items meet through `rayon` alone.
@@ -91,6 +86,7 @@ impl Places {
 struct Meeting {
     set: BitSet,
     last_word: usize,
+    is_cheap: bool,
     places: Places,
 }
 
@@ -103,24 +99,28 @@ impl Meeting {
         Ok(Meeting {
             set: BitSet::from_words(alloc, words.as_slice())?,
             last_word: count.wrapping_sub(1),
+            is_cheap: false,
             places: Places::new(alone),
         })
     }
 
-    fn of_run(alloc: Global, count: usize) -> Result<Meeting, AllocError>
-        requires { count ≤ 64 ^ (LAYERS - 1) }
-    {
-        Meeting::of_words(alloc, usize::MAX, count, 0)
+    // Of the indices below 524,288.
+    fn of_run(alloc: Global) -> Result<Meeting, AllocError> {
+        Meeting::of_words(alloc, usize::MAX, RUN, 0)
     }
 
-    // Of words that are counted in one thread, and then listed in several.
+    // Of cheap words that are counted in one thread, and then listed in several.
     fn of_eighths(alloc: Global) -> Result<Meeting, AllocError> {
-        Meeting::of_words(alloc, EIGHTHS, MANY_EIGHTHS, 1)
+        let mut set = Meeting::of_words(alloc, EIGHTHS, MANY_EIGHTHS, 1)?;
+        set.is_cheap = true;
+        Ok(set)
     }
 
-    // Of the first index of each of the first `MANY_WORDS` words of layer 0.
+    // Of the first index of each of the first `MANY_WORDS` words of layer 0, which are cheap.
     fn of_many_words(alloc: Global) -> Result<Meeting, AllocError> {
-        Meeting::of_words(alloc, 1, MANY_WORDS, 0)
+        let mut set = Meeting::of_words(alloc, 1, MANY_WORDS, 0)?;
+        set.is_cheap = true;
+        Ok(set)
     }
 }
 
@@ -132,6 +132,10 @@ impl BitSetLike for Meeting {
     ghost word = { λ s. word_of s.set };
 
     ghost lawful = { λ s. has_is_lawful s.set };
+
+    fn has_cheap_words(&self) -> bool {
+        self.is_cheap
+    }
 
     fn layer4(&self) -> usize {
         self.set.layer4()
@@ -200,8 +204,56 @@ fn sum_of<T: BitSetLike + Send + Sync>(
     )
 }
 
+// Counts a walk over a run, lists it, adds it up and visits it, and sees that its first and last words met each time, where it is cut in so many layers. A list is counted first.
+fn assert_meets(
+    rt: &(impl Abort + Threads + Sync),
+    alloc: Global,
+    layers: u8,
+) -> Result<(), AllocError>
+    requires some { 0 < layers }
+    requires fits { layers < LAYERS }
+{
+    let set = Meeting::of_run(alloc)?;
+    let walk = (&set).par_iter().layers_split(layers);
+    assert_eq!(rt; walk.count(rt, alloc)?, 64 * RUN);
+    assert!(rt; set.places.both_found(1), "count");
+    let set = Meeting::of_run(alloc)?;
+    let walk = (&set).par_iter().layers_split(layers);
+    assert_eq!(rt; walk.collect(rt, alloc)?.len(), 64 * RUN);
+    assert!(rt; set.places.both_found(2), "collect");
+    let set = Meeting::of_run(alloc)?;
+    let walk = (&set).par_iter().layers_split(layers);
+    assert_eq!(rt; sum_of(rt, alloc, walk)?, 137_438_691_328);
+    assert!(rt; set.places.both_found(1), "fold");
+    let set = Meeting::of_run(alloc)?;
+    let walk = (&set).par_iter().layers_split(layers);
+    walk.for_each(rt, alloc, |_index: Index| {})?;
+    assert!(rt; set.places.both_found(1), "for_each");
+    Ok(())
+}
+
 #[test]
 fn parts_meet(rt: HostRuntime) -> Result<(), Fail> {
+    if !threads_meet(&rt) {
+        return Ok(());
+    }
+    assert_meets(&rt, rt.alloc(), 4)?;
+    Ok(())
+}
+
+// Two parts, each of them half of the work: a thread has to take each, however few they are.
+#[test]
+fn few_heavy_parts_meet(rt: HostRuntime) -> Result<(), Fail> {
+    if !threads_meet(&rt) {
+        return Ok(());
+    }
+    assert_meets(&rt, rt.alloc(), 2)?;
+    Ok(())
+}
+
+// Where words are cheap, threads count and list where there are many, and so they do where a list is counted.
+#[test]
+fn many_cheap_words_meet(rt: HostRuntime) -> Result<(), Fail> {
     if !threads_meet(&rt) {
         return Ok(());
     }
@@ -212,58 +264,68 @@ fn parts_meet(rt: HostRuntime) -> Result<(), Fail> {
     let set = Meeting::of_eighths(rt.alloc())?;
     let all = (&set).par_iter().collect(&rt, rt.alloc())?;
     assert_eq!(rt; all.len(), 8 * MANY_EIGHTHS);
-    assert!(rt;
-        set.places.both_found(2),
-        "collect, which counts in one thread and then writes"
-    );
-    let set = Meeting::of_run(rt.alloc(), LONG_RUN)?;
-    let sum = sum_of(&rt, rt.alloc(), (&set).par_iter())?;
-    assert_eq!(rt; sum, SUM);
-    assert!(rt; set.places.both_found(1), "fold");
-    let set = Meeting::of_run(rt.alloc(), RUN)?;
-    (&set)
-        .par_iter()
-        .for_each(&rt, rt.alloc(), |_index: Index| {})?;
-    assert!(rt; set.places.both_found(1), "for_each");
-    Ok(())
-}
-
-// Where there are many words, threads count them too.
-#[test]
-fn counts_of_a_list_meet(rt: HostRuntime) -> Result<(), Fail> {
-    if !threads_meet(&rt) {
-        return Ok(());
-    }
+    assert!(rt; set.places.both_found(2), "collect, counted in one thread");
     let set = Meeting::of_many_words(rt.alloc())?;
     let all = (&set).par_iter().collect(&rt, rt.alloc())?;
     assert_eq!(rt; all.len(), MANY_WORDS);
-    assert!(rt; set.places.both_found(2));
+    assert!(rt; set.places.both_found(2), "collect");
     Ok(())
 }
 
-// Two parts, each of them half of the work, or, to count and to fold, eight, or, to collect, sixteen: a thread has to take each, however few they are.
+// Meets at the first of so many members, from 0 on, and at the last.
+fn meet_at(places: &Places, members: u32, index: Index) {
+    if index == 0 {
+        places.meet_first();
+    }
+    if index == members.wrapping_sub(1) {
+        places.meet_last();
+    }
+}
+
+// A walk that takes threads from so many members on, if it is said from how many.
+fn walk_over(set: &BitSet, least: Option<usize>) -> BitParIter<&BitSet> {
+    match least {
+        Some(least) => set.par_iter().with_min_len(least),
+        None => set.par_iter(),
+    }
+}
+
+// Visits and counts so many members, from 0 on, and sees that the closures met at the first and the last.
+fn assert_closures_meet(
+    rt: &(impl Abort + Threads + Sync),
+    alloc: Global,
+    members: u32,
+    least: Option<usize>,
+) -> Result<(), Fail> {
+    let mut set = BitSet::new(alloc);
+    set.extend_indices(0..members)?;
+    let places = Places::new(0);
+    let walk = walk_over(&set, least);
+    walk.for_each(rt, alloc, |index: Index| meet_at(&places, members, index))?;
+    assert!(rt; places.both_found(1), "for_each");
+    let places = Places::new(0);
+    let walk = walk_over(&set, least);
+    let folded = walk.fold(
+        rt,
+        alloc,
+        || 0u32,
+        |count: u32, index: Index| {
+            meet_at(&places, members, index);
+            count.wrapping_add(1)
+        },
+        |count: u32, other: u32| count.wrapping_add(other),
+    )?;
+    assert_eq!(rt; folded, members);
+    assert!(rt; places.both_found(1), "fold");
+    Ok(())
+}
+
+// Threads are there for what closures do, also where a set has few members, as its caller says.
 #[test]
-fn few_heavy_parts_meet(rt: HostRuntime) -> Result<(), Fail> {
+fn closures_meet(rt: HostRuntime) -> Result<(), Fail> {
     if !threads_meet(&rt) {
         return Ok(());
     }
-    let set = Meeting::of_many_words(rt.alloc())?;
-    let count = (&set).par_iter().layers_split(1).count(&rt, rt.alloc())?;
-    assert_eq!(rt; count, MANY_WORDS);
-    assert!(rt; set.places.both_found(1), "count");
-    let set = Meeting::of_eighths(rt.alloc())?;
-    let all = (&set).par_iter().layers_split(2).collect(&rt, rt.alloc())?;
-    assert_eq!(rt; all.len(), 8 * MANY_EIGHTHS);
-    assert!(rt; set.places.both_found(2), "collect");
-    let set = Meeting::of_run(rt.alloc(), LONG_RUN)?;
-    let sum = sum_of(&rt, rt.alloc(), (&set).par_iter().layers_split(2))?;
-    assert_eq!(rt; sum, SUM);
-    assert!(rt; set.places.both_found(1), "fold");
-    let set = Meeting::of_run(rt.alloc(), RUN)?;
-    (&set)
-        .par_iter()
-        .layers_split(2)
-        .for_each(&rt, rt.alloc(), |_index: Index| {})?;
-    assert!(rt; set.places.both_found(1), "for_each");
-    Ok(())
+    assert_closures_meet(&rt, rt.alloc(), 65, Some(1))?;
+    assert_closures_meet(&rt, rt.alloc(), 10_000, None)
 }

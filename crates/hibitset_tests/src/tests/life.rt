@@ -1,6 +1,7 @@
 //! A set from `new` to `clear`.
 use crate::tests::{assert_count, assert_members, assert_words, set_of};
-use hibitset::{ATOMIC_MAX_EID, BitSet, BitSetLike, Index};
+use hibitset::util::{ATOMIC_MAX_EID, Row, average_ones};
+use hibitset::{BitSet, BitSetLike, Index};
 use hibitset_base::util::{LAYERS, MAX, MAX_EID, SHIFT0, SHIFT1, SHIFT2, SHIFT3, SHIFT4};
 use std::alloc::{AllocError, AllocGlobal};
 use std::process::Abort;
@@ -10,11 +11,17 @@ fn constants(rt: HostRuntime) {
     assert_words(&rt, &[LAYERS, MAX, MAX_EID], &[5, 30, 1_073_741_824]);
     let shifts = [SHIFT0, SHIFT1, SHIFT2, SHIFT3, SHIFT4];
     assert_words(&rt, &shifts, &[0, 6, 12, 18, 24]);
-    assert_count(&rt, ATOMIC_MAX_EID, 16_777_216);
     assert_count(&rt, BitSet::BITS_PER_USIZE, 64);
     assert_count(&rt, BitSet::LAYER1_GRANULARITY, 64);
     assert_count(&rt, BitSet::LAYER2_GRANULARITY, 4_096);
     assert_count(&rt, BitSet::LAYER3_GRANULARITY, 262_144);
+}
+
+#[test]
+fn what_util_has(rt: HostRuntime) {
+    assert_count(&rt, ATOMIC_MAX_EID, 16_777_216);
+    assert!(rt; ATOMIC_MAX_EID == hibitset::ATOMIC_MAX_EID);
+    assert!(rt; average_ones(0b1011) == Some(3) && 70_000u32.row(6) == 5);
 }
 
 // Adds an index, which is to be new.
@@ -123,20 +130,25 @@ fn words_stay_as_the_set_grows(rt: HostRuntime) -> Result<(), AllocError> {
 }
 
 #[test]
-fn border_indices(rt: HostRuntime) -> Result<(), AllocError> {
+fn eight_border_indices(rt: HostRuntime) -> Result<(), AllocError> {
     let mut set = BitSet::new(rt.alloc());
-    for id in [
-        1073741823, 16777216, 16777215, 262144, 262143, 4096, 4095, 64, 63, 0,
-    ] {
+    for id in [16777215, 262144, 262143, 4096, 4095, 64, 63, 0] {
         assert_adds(&rt, &mut set, id)?;
     }
     assert_members(
         &rt,
         &set,
-        &[
-            0, 63, 64, 4095, 4096, 262143, 262144, 16777215, 16777216, 1073741823,
-        ],
+        &[0, 63, 64, 4095, 4096, 262143, 262144, 16777215],
     )
+}
+
+#[test]
+fn border_indices_of_the_fifth_layer(rt: HostRuntime) -> Result<(), AllocError> {
+    let mut set = BitSet::new(rt.alloc());
+    for id in [1073741823, 16777216, 16777215, 0] {
+        assert_adds(&rt, &mut set, id)?;
+    }
+    assert_members(&rt, &set, &[0, 16777215, 16777216, 1073741823])
 }
 
 #[test]
@@ -181,7 +193,7 @@ fn clearing(rt: HostRuntime) -> Result<(), AllocError> {
     assert_members(&rt, &set, &[70])
 }
 
-// Where memory is refused in the middle, the members are those from before. A run under failing allocations takes the other branch.
+// The test of this name in `refusals` sees what stands where memory is refused.
 #[test]
 fn room_made_before(rt: HostRuntime) -> Result<(), AllocError> {
     let mut set = BitSet::with_capacity(rt.alloc(), 1000)?;

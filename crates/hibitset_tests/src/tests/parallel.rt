@@ -94,20 +94,25 @@ fn no_members_in_parts(rt: HostRuntime) -> Result<(), AllocError> {
     Ok(())
 }
 
-#[test]
-fn border_indices_in_parts(rt: HostRuntime) -> Result<(), AllocError> {
-    let ids = [
-        0, 63, 64, 4095, 4096, 262_143, 262_144, 16_777_215, 16_777_216,
-    ];
-    let set = set_of(rt.alloc(), ids.as_slice())?;
+// Sees that `collect` lists these indices, which ascend, by each number of layers.
+fn assert_listed_in_parts(
+    rt: &(impl Abort + Threads + Sync),
+    alloc: Global,
+    ids: &[Index],
+) -> Result<(), AllocError> {
+    let set = set_of(alloc, ids)?;
     for layers in 1..5u8 {
-        let all = (&set)
-            .par_iter()
-            .layers_split(layers)
-            .collect(&rt, rt.alloc())?;
-        assert_indices(&rt, all.as_slice(), &ids);
+        let all = (&set).par_iter().layers_split(layers).collect(rt, alloc)?;
+        assert_indices(rt, all.as_slice(), ids);
     }
     Ok(())
+}
+
+#[test]
+fn border_indices_in_parts(rt: HostRuntime) -> Result<(), AllocError> {
+    let eight = [0, 63, 64, 4095, 4096, 262_143, 262_144, 16_777_215];
+    assert_listed_in_parts(&rt, rt.alloc(), &eight)?;
+    assert_listed_in_parts(&rt, rt.alloc(), &[0, 16_777_215, 16_777_216])
 }
 
 #[test]
@@ -149,10 +154,10 @@ fn folds_of_ten_and_of_many(rt: HostRuntime) -> Result<(), AllocError> {
 
 #[test]
 fn folds_count_their_pieces(rt: HostRuntime) -> Result<(), Fail> {
-    let many = run_of(rt.alloc(), 2_097_152)?;
+    let many = run_of(rt.alloc(), 524_288)?;
     // One processor alone walks over it whole.
     let is_cut = available_parallelism(&rt)?.get() > 1;
-    for (layers, parts) in [(1u8, 1), (2, 8), (3, 512), (4, 512)] {
+    for (layers, parts) in [(1u8, 1), (2, 2), (3, 128), (4, 512)] {
         let wanted = if is_cut { parts } else { 1 };
         let pieces = BitParIter::new(&many).layers_split(layers).fold(
             &rt,
@@ -161,7 +166,7 @@ fn folds_count_their_pieces(rt: HostRuntime) -> Result<(), Fail> {
             |pieces: u64, _index: Index| pieces,
             |pieces: u64, other: u64| pieces.wrapping_add(other),
         )?;
-        assert!(rt; pieces == wanted, "in {layers} layers");
+        assert!(rt; pieces == wanted && pieces <= 4_096, "in {layers} layers");
     }
     Ok(())
 }

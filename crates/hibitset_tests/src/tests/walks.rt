@@ -1,9 +1,9 @@
 //! Walks, drains and virtual sets over sets that keep their words.
-ghost use Rattle.std.specs.Prelude.{◌≡◌};
-ghost use Rattle.hibitset_base.specs.Reading.{IsBoundBy};
+ghost use Rattle.std.specs.Prelude.{◌≡◌, ◌≤◌, ℕ, length, min};
+ghost use Rattle.hibitset_base.specs.Reading.{IsBoundBy, words_in};
 ghost use Rattle.hibitset_base.specs.Walk.{words_read, words_ahead};
 ghost use Rattle.hibitset_base.specs.declared.util.TheConstants.{LAYERS};
-ghost use Rattle.hibitset.specs.BitSet.{has};
+ghost use Rattle.hibitset.specs.BitSet.{has, members_of};
 ghost use Rattle.hibitset.specs.Laws.{intersected};
 
 use crate::tests::{
@@ -167,10 +167,11 @@ fn added_up(set: BitSet) -> u32 {
     total
 }
 
-// A walk over an intersection, whose words all lie over members of the first set, and are at most four for each.
+// A walk over an intersection, whose words all lie over members of the first set, and are at most four for each: in each layer at most as many as the smaller set has members.
 fn walk_both<'a>(a: &'a BitSet, b: &'a BitSet) -> BitIter<BitSetAnd<&'a BitSet, &'a BitSet>>
     ensures read { words_read result ≡ 1 }
     ensures bound { IsBoundBy LAYERS (has a.now) (words_ahead (λ both. intersected both.0.now both.1.now) result) }
+    ensures each { (l : ℕ) → words_in l (words_ahead (λ both. intersected both.0.now both.1.now) result) ≤ min (length (members_of a.now)) (length (members_of b.now)) }
 {
     laws();
     (a & b).iter()

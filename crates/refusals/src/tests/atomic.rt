@@ -307,7 +307,7 @@ fn in_three(shared: &SharedBitSet, seat: Seat, alloc: Global) -> Result<Vec<Seat
     requires { Came shared.now seat × (weight_of seat ≡ SHARES) }
     ensures { IfErr result (λ s. Came shared.now s × (weight_of s ≡ SHARES)) }
 {
-    shared.divide_among(seat, 3, alloc)
+    shared.divide_among(alloc, seat, 3)
 }
 
 // Divides a seat again that was refused it, after a look at the seat.

@@ -305,7 +305,7 @@ fn assert_new(rt: &impl Abort, world: &World) {
 fn new_worlds(rt: HostRuntime) -> Result<(), Fail> {
     let set = atomic_of(rt.alloc(), &[7])?;
     ask(&rt)?;
-    let world = World::new(set);
+    let world = World::new(rt.alloc(), set);
     assert_new(&rt, &world);
     assert!(rt; path(7)[3] == (3, 0, 1) && path(16_777_215)[3] == (3, 0, 1 << 63));
     ask(&rt)
@@ -313,7 +313,7 @@ fn new_worlds(rt: HostRuntime) -> Result<(), Fail> {
 
 // A world in which a call has ended, and a walk that has given all.
 fn world_at_rest(alloc: Global) -> Result<World, AllocError> {
-    let mut world = World::new(atomic_of(alloc, &[7])?);
+    let mut world = World::new(alloc, atomic_of(alloc, &[7])?);
     let (step, read) = (Event::Step { call: 1 }, Event::Read { walk: 1 });
     let begin = Event::Begin { call: 1, id: 8 };
     let open = Event::Open { walk: 1 };
@@ -365,6 +365,22 @@ fn parts(rt: HostRuntime) -> Result<(), Fail> {
     if let Some(second) = second {
         assert!(rt; second.fold_with(0u64, add) == 300_000);
     }
+    ask(&rt)
+}
+
+// Walks that are to take no threads, since they have fewer members than are asked for.
+#[test]
+fn parts_in_one_thread(rt: HostRuntime) -> Result<(), Fail> {
+    let words = vec![in rt.alloc(); usize::MAX; 1_000]?;
+    let set = BitSet::from_words(rt.alloc(), words.as_slice())?;
+    let add = |sum: u64, index: Index| sum.wrapping_add(u64::from(index));
+    let both = |sum: u64, other: u64| sum.wrapping_add(other);
+    ask(&rt)?;
+    let walk = (&set).par_iter().with_min_len(100_000).layers_split(2);
+    walk.for_each(&rt, rt.alloc(), |_index: Index| {})?;
+    let walk = (&set).par_iter().layers_split(2).with_min_len(100_000);
+    let sum = walk.fold(&rt, rt.alloc(), || 0u64, add, both)?;
+    assert!(rt; sum == 2_047_968_000);
     ask(&rt)
 }
 

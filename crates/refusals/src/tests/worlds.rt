@@ -12,7 +12,7 @@ fn applied(world: &mut World, event: Event) -> Result<Reply, StepError> {
 
 // A world over {7} in which these events have happened.
 fn world_after(rt: &HostRuntime, events: &[Event]) -> Result<World, AllocError> {
-    let mut world = World::new(atomic_of(rt.alloc(), &[7])?);
+    let mut world = World::new(rt.alloc(), atomic_of(rt.alloc(), &[7])?);
     for event in events {
         if applied(&mut world, *event).is_err() {
             return Err(AllocError);

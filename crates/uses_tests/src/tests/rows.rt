@@ -148,7 +148,7 @@ fn weights_of_what_both_have(rt: HostRuntime) -> Result<(), Fail> {
 fn a_world_comes_to_rest(rt: HostRuntime) -> Result<(), Fail> {
     let mut old = AtomicBitSet::new(rt.alloc())?;
     old.add(5)?;
-    let mut world = World::new(old);
+    let mut world = World::new(rt.alloc(), old);
     assert_eq!(rt; add(&mut world, 1, 300_000), Ok(false));
     assert_eq!(rt; add(&mut world, 2, 5), Ok(true));
     assert_eq!(rt; world.apply(Event::Open { walk: 1 }), Ok(Reply::Opened));
@@ -167,7 +167,7 @@ fn a_world_comes_to_rest(rt: HostRuntime) -> Result<(), Fail> {
 fn sets_by_turns(rt: HostRuntime) -> Result<(), Fail> {
     let mut old = AtomicBitSet::new(rt.alloc())?;
     old.add(5)?;
-    let Ok(set) = add_in_turn(old, &[70_000, 5, 6]) else {
+    let Ok(set) = add_in_turn(rt.alloc(), old, &[70_000, 5, 6]) else {
         panic!(rt; "no memory")
     };
     assert_eq!(rt;
@@ -183,7 +183,7 @@ fn what_a_world_at_rest_tells(rt: HostRuntime) -> Result<(), Fail> {
     old.add(5)?;
     let mut kept = AtomicBitSet::new(rt.alloc())?;
     kept.add(5)?;
-    let mut world = World::new(old);
+    let mut world = World::new(rt.alloc(), old);
     assert_eq!(rt; add(&mut world, 1, 300_000), Ok(false));
     if !world.is_at_rest() {
         panic!(rt; "not at rest")

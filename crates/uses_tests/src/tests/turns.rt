@@ -9,6 +9,7 @@ ghost use Rattle.uses_tests.specs.Turns.{is_in, is_done, given, reads_of, HasLea
 
 use hibitset::laws::world_laws;
 use hibitset::{ATOMIC_MAX_EID, AtomicBitSet, Event, Index, Reply, StepError, World};
+use std::alloc::Global;
 
 /// Adds an index by a call of its own, which passes all its layers, and tells whether the index was there. A world at rest is so again.
 pub fn add(world: &mut World, call: u32, id: Index) -> Result<bool, StepError>
@@ -33,10 +34,10 @@ pub fn add(world: &mut World, call: u32, id: Index) -> Result<bool, StepError>
 }
 
 /// Adds all indices of a list to a set, each by a call of its own, and takes the set out of the world, which is at rest by then.
-pub fn add_all(set: AtomicBitSet, ids: &[Index]) -> Result<AtomicBitSet, StepError>
+pub fn add_all(alloc: Global, set: AtomicBitSet, ids: &[Index]) -> Result<AtomicBitSet, StepError>
     ensures { IfOk result (λ all. (i : ℕ) → (has all i ≡ true) ↔ ((has set i ≡ true) ⊎ Contains ids.now i)) }
 {
-    let mut world = World::new(set);
+    let mut world = World::new(alloc, set);
     let mut call = 0u32;
     for id in ids {
         add(&mut world, call, *id)?;

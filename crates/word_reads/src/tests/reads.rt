@@ -76,6 +76,19 @@ fn one_word_and_then_four_a_step(rt: HostRuntime) -> Result<(), AllocError> {
     Ok(())
 }
 
+#[test]
+fn one_word_and_then_four_to_an_index(rt: HostRuntime) -> Result<(), AllocError> {
+    let counting = Counting {
+        set: set_of(rt.alloc(), &[4_000])?,
+        reads: Cell::new(0),
+    };
+    let mut walk = (&counting).iter();
+    assert_count(&rt, counting.reads.replace(0), 1);
+    assert_index(&rt, walk.next(), Some(4_000));
+    assert_count(&rt, counting.reads.replace(0), 4);
+    Ok(())
+}
+
 // A set that counts in the same way, with all bits in the layers above the lowest.
 #[derive(Drop)]
 pub(super) struct Everywhere {

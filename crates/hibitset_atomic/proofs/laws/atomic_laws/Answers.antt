@@ -10,7 +10,7 @@ use Rattle.hibitset_atomic.specs.AtomicBitSet.{word_of, has, topped_word, topped
 use Rattle.hibitset_atomic.specs.Layers.{single_word}
 use Rattle.hibitset_atomic.specs.Topping.{topped_exact, topped_fits}
 use Rattle.hibitset_atomic.specs.declared.atomic.AtomicBitSet.{AtomicBitSet}
-use Rattle.hibitset_atomic.proofs.Layered.{layers_fit, held_below}
+use Rattle.hibitset_atomic.proofs.Layered.{layers_fit, held_below, topped_past}
 use Rattle.hibitset_atomic.proofs.laws.atomic_laws.Goals as goal
 
 first_has : (x y b : ℕ) → bit_at (bit_and x y) b ≡ 1 → bit_at x b ≡ 1
@@ -38,6 +38,10 @@ returns-clause-exact c set = (exact_topped set, fit_topped set)
 pub returns-clause-kept : goal.returns-clause-kept
 unfolding word_of
 returns-clause-kept c set = (summed_exact ATOMIC_LAYERS set.summed, layers_fit set.layers)
+
+pub returns-clause-past : goal.returns-clause-past
+unfolding word_of
+returns-clause-past c set l p past = topped_past set.layers l p past
 
 pub returns-clause-beside : goal.returns-clause-beside
 returns-clause-beside c set word = (

@@ -4,19 +4,22 @@ use std::alloc::{AllocError, Global};
 use std::io::{self, ErrorKind, Read, Write};
 use std::test::Fail;
 
-// Gives its bytes, at most three at a time, and then fails each read.
+// Gives its bytes, at most so many a read, and fails from one read on.
 #[derive(Drop)]
 struct Breaking<'a> {
     bytes: &'a [u8],
+    most: usize,
+    reads_left: u32,
     kind: ErrorKind,
 }
 
 impl Read for Breaking<'_> {
     fn read(&mut self, buf: &mut [u8]) -> io::Result<usize> {
-        if self.bytes.is_empty() {
+        if self.reads_left == 0 {
             return Err(io::Error::new(self.kind, "broken"));
         }
-        let count = buf.len().min(3);
+        self.reads_left -= 1;
+        let count = buf.len().min(self.most);
         self.bytes.read(&mut buf[..count])
     }
 }
@@ -135,6 +138,8 @@ fn ends_where_a_read_fails(rt: HostRuntime) {
     for kind in [ErrorKind::Other, ErrorKind::OutOfMemory] {
         let reader = Breaking {
             bytes: b"add a 5\n",
+            most: 3,
+            reads_left: 3,
             kind,
         };
         let mut output = Vec::new(rt.alloc());
@@ -142,6 +147,25 @@ fn ends_where_a_read_fails(rt: HostRuntime) {
         assert_eq!(rt; ended, Ended::InputFailed);
         assert_eq!(rt; output.len(), 0);
     }
+}
+
+// The first read gives a part of the line, or all of it.
+#[test]
+fn ends_where_the_second_read_or_the_first_write_fails(rt: HostRuntime) {
+    for most in [3, 8] {
+        let reader = Breaking {
+            bytes: b"add a 5\n",
+            most,
+            reads_left: 1,
+            kind: ErrorKind::Other,
+        };
+        let mut output = Vec::new(rt.alloc());
+        let ended = run_text(rt.alloc(), reader, &mut output);
+        assert!(rt; ended.status() == 4 && output.is_empty());
+    }
+    let mut writer = Taking::new(rt.alloc(), usize::MAX, 0, ErrorKind::Other);
+    let ended = run_text(rt.alloc(), b"add a 5\n".as_slice(), &mut writer);
+    assert!(rt; ended.status() == 5 && writer.bytes.is_empty());
 }
 
 #[test]
@@ -198,6 +222,8 @@ fn ends_where_a_read_would_wait_or_ends_early(rt: HostRuntime) {
     ] {
         let reader = Breaking {
             bytes: b"add a 5\nlist a\n",
+            most: 3,
+            reads_left: 5,
             kind,
         };
         let mut output = Vec::new(rt.alloc());
