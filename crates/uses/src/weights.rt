@@ -14,6 +14,9 @@ fn weight(weights: &[u32], index: Index) -> u64
     u64::from(weights.get(index as usize).copied().unwrap_or(0))
 }
 
+// A weight is added in some nanoseconds, so threads save time from about so many members on.
+const MIN_LEN: usize = 500_000;
+
 /// The sum of the weights of the indices that are in both sets, from as many threads as there are.
 pub fn weight_of_both<R: Threads + Sync>(
     rt: &R,
@@ -24,7 +27,7 @@ pub fn weight_of_both<R: Threads + Sync>(
 ) -> Result<u64, AllocError>
     ensures { IfOk result (λ total. total ≡ weight_of_both weights.now (has a.now) (has b.now)) }
 {
-    (a & b).par_iter().fold(
+    (a & b).par_iter().with_min_len(MIN_LEN).fold(
         rt,
         alloc,
         || 0u64,
