@@ -1,6 +1,5 @@
 pub mod Sharing
 pub mod Placed
-pub mod Building
 pub mod Layered
 pub mod Resting
 pub mod Clearing

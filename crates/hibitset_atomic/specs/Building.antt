@@ -1,12 +1,8 @@
 -- `AtomicBitSet`s that take the items of an iterator.
-use Rattle.std.specs.Prelude.{◌≢◌, ℕ, ◌/◌, Bool, Option, None}
+use Rattle.std.specs.Prelude.{◌≢◌, ℕ, ◌/◌, Bool, Option}
 use Rattle.hibitset_base.specs.Building.{RefusesBelow, TakesAllBelow, StopsAtRefusedBelow}
 use Rattle.hibitset_base.specs.declared.build.BuildError.{BuildError}
 use Rattle.hibitset_atomic.specs.declared.atomic.TheConstants.{ATOMIC_MAX_EID}
-
--- There is no item.
-abbrev pub GivesNone : {U S A : Type 0} → (U → S → Type 0) → (S → Option A → S → Type 0) → U → Type 0
-GivesNone {U} {S} becomes steps iter = (it : S) × (rest : S) × becomes iter it × steps it None rest
 
 -- U is what is iterated over, S its iterator and A an item, of which `number` reads the index.
 module _ {U S A : Type 0} (becomes : U → S → Type 0) (steps : S → Option A → S → Type 0) (number : A → ℕ) (iter : U) where

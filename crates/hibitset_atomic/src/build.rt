@@ -1,13 +1,12 @@
 //! Atomic sets made of the items of an iterator, or extended by them.
 #![tactic(auto, unfolding(crate::specs::AtomicBitSet::has, crate::specs::AtomicBitSet::word_of))]
 
-ghost use Rattle.std.specs.Prelude.{◌≡◌, ◌≢◌, ℕ, ◌/◌, ◌<◌, ◌≤◌, ◌⊎◌, ◌||◌, Bool, false, OnOk, OnErr, IfOk, IfErr, IfSome, None};
+ghost use Rattle.std.specs.Prelude.{◌≡◌, ◌≢◌, ℕ, ◌/◌, ◌<◌, ◌≤◌, ◌⊎◌, ◌||◌, Bool, false, OnOk, OnErr, IfOk, IfErr};
 ghost use Rattle.std.specs.Iterator.{IsFiniteIterable};
-ghost use Rattle.hibitset_base.specs.Building.{IsRefusalBelow};
 ghost use Rattle.hibitset_base.specs.declared.build.BuildError.TheVariants.{Memory};
 ghost use Rattle.hibitset_atomic.specs.declared.atomic.TheConstants.{ATOMIC_MAX_EID};
 ghost use Rattle.hibitset_atomic.specs.AtomicBitSet.{has, HasNoNear, LacksBlock, block_apart};
-ghost use Rattle.hibitset_atomic.specs.Building.{GivesNone, Refuses, TakesAll, StopsAtRefused};
+ghost use Rattle.hibitset_atomic.specs.Building.{Refuses, TakesAll, StopsAtRefused};
 
 use crate::atomic::{ATOMIC_MAX_EID, AtomicBitSet};
 use hibitset_base::build::{self, BuildError, Extendable};
@@ -28,19 +27,6 @@ impl Extendable for AtomicBitSet {
     #[inline]
     fn add_index(&mut self, index: Index) -> Result<bool, AllocError> {
         self.add(index)
-    }
-}
-
-// What is told of the first item where there is no memory for the set: the item is out of range, or else it finds no memory; nor does a set without items.
-fn refusal_at_first(first: Option<Index>) -> BuildError
-    ensures item { IfSome first (λ index. IsRefusalBelow ATOMIC_MAX_EID (λ _. Unit {0}) result 0 index) }
-    ensures none { first ≡ None → result ≡ Memory 0 }
-{
-    match first {
-        Some(index) if index as usize >= ATOMIC_MAX_EID => {
-            BuildError::OutOfRange { place: 0, index }
-        }
-        _ => BuildError::Memory { place: 0 },
     }
 }
 
@@ -77,7 +63,7 @@ impl AtomicBitSet {
 
     /// A set of the items of an iterator, each of which is to be below `ATOMIC_MAX_EID`.
     ///
-    /// It stops at the first item that is not, and where memory is refused: then no later item is drawn. Memory is refused only for an item with none before it in the same 4,096 indices. Where there is no memory for the empty set itself, the first item is refused, as out of range if it is, and else with `Memory` at place 0; so is a set without items. It is `FromIterator` of the original.
+    /// It stops at the first item that is not, and where memory is refused: then no later item is drawn. Memory is refused only for an item with none before it in the same 4,096 indices. Where there is no memory for the empty set itself, the error is `Memory` at place 0, whatever the items are, and none is drawn. It is `FromIterator` of the original.
     pub fn from_indices<U: IntoIterator<Item = Index>>(
         alloc: Global,
         iter: U,
@@ -85,12 +71,14 @@ impl AtomicBitSet {
         requires { IsFiniteIterable U.into_iter_gives U.IntoIter.can_next U.IntoIter.remaining iter }
         ensures all { IfOk result (λ set. TakesAll U.into_iter_gives U.IntoIter.next_gives (λ i. i) iter (λ _. false) (has set)) }
         ensures most { IfOk result (λ set. (i : ℕ) → HasNoNear set i → LacksBlock set i) }
-        ensures stops { IfErr result (λ error. GivesNone U.into_iter_gives U.IntoIter.next_gives iter ⊎ Refuses U.into_iter_gives U.IntoIter.next_gives (λ i. i) iter error) }
-        ensures empty { IfErr result (λ error. (error ≡ Memory 0) ⊎ Refuses U.into_iter_gives U.IntoIter.next_gives (λ i. i) iter error) }
+        ensures stops { IfErr result (λ error. (error ≡ Memory 0) ⊎ Refuses U.into_iter_gives U.IntoIter.next_gives (λ i. i) iter error) }
     {
         match AtomicBitSet::new(alloc) {
             Ok(set) => build::from_indices(set, iter),
-            Err(_) => Err(refusal_at_first(iter.into_iter().next())),
+            Err(_) => {
+                drop(iter.into_iter());
+                Err(BuildError::Memory { place: 0 })
+            }
         }
     }
 
@@ -102,12 +90,14 @@ impl AtomicBitSet {
         requires { IsFiniteIterable U.into_iter_gives U.IntoIter.can_next U.IntoIter.remaining iter }
         ensures all { IfOk result (λ set. TakesAll U.into_iter_gives U.IntoIter.next_gives (λ i. i.now) iter (λ _. false) (has set)) }
         ensures most { IfOk result (λ set. (i : ℕ) → HasNoNear set i → LacksBlock set i) }
-        ensures stops { IfErr result (λ error. GivesNone U.into_iter_gives U.IntoIter.next_gives iter ⊎ Refuses U.into_iter_gives U.IntoIter.next_gives (λ i. i.now) iter error) }
-        ensures empty { IfErr result (λ error. (error ≡ Memory 0) ⊎ Refuses U.into_iter_gives U.IntoIter.next_gives (λ i. i.now) iter error) }
+        ensures stops { IfErr result (λ error. (error ≡ Memory 0) ⊎ Refuses U.into_iter_gives U.IntoIter.next_gives (λ i. i.now) iter error) }
     {
         match AtomicBitSet::new(alloc) {
             Ok(set) => build::from_index_refs(set, iter),
-            Err(_) => Err(refusal_at_first(iter.into_iter().next().copied())),
+            Err(_) => {
+                drop(iter.into_iter());
+                Err(BuildError::Memory { place: 0 })
+            }
         }
     }
 }

@@ -17,7 +17,6 @@ use Rattle.std.proofs.lemmas.List.Elements.{Contains-append_right, Contains-appe
 use Rattle.hibitset_base.specs.Building.{AddsItemsBelow, IsRefusalBelow, TakesAllBelow, StopsAtRefusedBelow, RefusesBelow}
 use Rattle.hibitset_base.specs.declared.build.BuildError.{BuildError}
 use Rattle.hibitset_base.specs.declared.build.BuildError.TheVariants.{OutOfRange, Memory}
-use Rattle.hibitset_atomic.specs.Building.{GivesNone}
 use Rattle.uses.specs.Lists.{place_of, InRangeBefore, IsWhy, LacksRoom, LiesApartIn, IsWhyFrom, BeginsWord}
 
 -- the numbers of items
@@ -218,11 +217,24 @@ refused_in range apart slice error h =
       lies_apart = apart_from_others range apart slice.now h.1 h.2.now stops error h.7;
     }
 
--- The same where an error may also tell that the list has none, and it has one.
-pub refused_unless_none : (range : ℕ) (apart : ℕ → ℕ → Type 0) (slice : Bor (List ℕ)) (error : BuildError) → 0 < length slice.now → GivesNone Begins iter_steps slice ⊎ RefusesBelow range Begins iter_steps (λ x. x.now) slice apart error → RefusedIn range apart slice.now error
-refused_unless_none range apart slice error some h = elim h [
-  | inl none ↦ absurd (let same = ap length none.2.0 in let empty = none.3.0 in omega (arith, same, empty, some))
-  | inr refuses ↦ refused_in range apart slice error refuses
+-- The same where `Memory` at place 0 may also tell that there was no memory for the empty set.
+pub record UnmadeIn (range : ℕ) (apart : ℕ → ℕ → Type 0) (list : List ℕ) (error : BuildError) : Type 0 where
+  pub place : place_of error < length list
+  pub before : InRangeBefore range list (place_of error)
+  pub why : (error ≡ Memory 0) ⊎ IsWhy range list error
+  pub lies_apart : LiesApartIn apart list error
+
+pub unmade_in : (range : ℕ) (apart : ℕ → ℕ → Type 0) (slice : Bor (List ℕ)) (error : BuildError) → 0 < length slice.now → (error ≡ Memory 0) ⊎ RefusesBelow range Begins iter_steps (λ x. x.now) slice apart error → UnmadeIn range apart slice.now error
+unmade_in range apart slice error some h = elim h [
+  | inl none ↦ rw none record {
+    place = some;
+    before = λ k below. absurd (omega (arith, below));
+    why = inl refl;
+    lies_apart = λ k below. absurd (omega (arith, below));
+  }
+  | inr refuses ↦
+      let refused = refused_in range apart slice error refuses in
+      record { place = refused.place; before = refused.before; why = inr refused.why; lies_apart = refused.lies_apart }
 ]
 
 -- ---- a range

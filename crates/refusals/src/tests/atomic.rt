@@ -59,6 +59,12 @@ fn is_refused_there(error: BuildError, next: Option<Index>, places: &[usize]) ->
     }
 }
 
+// Tells whether building was refused memory: for the empty set, and then all of `SPREAD` is left, or for an item that can need some, and then all after it.
+fn is_building_refused(error: BuildError, next: Option<Index>) -> bool {
+    let for_no_item = error == (BuildError::Memory { place: 0 }) && next == Some(SPREAD[0]);
+    for_no_item || is_refused_there(error, next, &[0, 4, 7])
+}
+
 // What is made of these items, and the next one that is left.
 fn of_items(alloc: Global, items: &[Index]) -> (Result<AtomicBitSet, BuildError>, Option<Index>) {
     let mut left = items.iter().copied();
@@ -79,7 +85,7 @@ fn from_indices(rt: HostRuntime) -> Result<(), Fail> {
     let set = match built {
         Ok(set) => set,
         Err(error) => {
-            assert!(rt; is_refused_there(error, next, &[0, 4, 7]));
+            assert!(rt; is_building_refused(error, next));
             of_items_again(rt.alloc())?
         }
     };
@@ -113,7 +119,7 @@ fn from_index_refs(rt: HostRuntime) -> Result<(), Fail> {
     let set = match built {
         Ok(set) => set,
         Err(error) => {
-            assert!(rt; is_refused_there(error, next, &[0, 4, 7]));
+            assert!(rt; is_building_refused(error, next));
             of_references_again(rt.alloc())?
         }
     };
@@ -127,7 +133,13 @@ fn from_index_refs(rt: HostRuntime) -> Result<(), Fail> {
 
 const ONE_FITS: [Index; 3] = [7, 16_777_216, 8];
 
-// Tells whether the first item was refused for want of memory.
+// Sees what is left of `ONE_FITS`: where memory was refused all, or all after the first item, and else all after the one out of range.
+fn assert_left_of_one(rt: &impl Abort, refused: bool, next: Option<Index>) {
+    let after_out_of_range = next == Some(8);
+    assert!(rt; refused != after_out_of_range && next.is_some());
+}
+
+// Tells whether memory was refused for the empty set, or for the first item.
 fn is_refused_at_first(built: &Result<AtomicBitSet, BuildError>) -> bool {
     match built {
         Ok(_) => false,
@@ -135,7 +147,6 @@ fn is_refused_at_first(built: &Result<AtomicBitSet, BuildError>) -> bool {
     }
 }
 
-// Where the empty set is refused memory, the first item is drawn, and no other.
 #[test]
 fn from_indices_of_which_one_fits(rt: HostRuntime) -> Result<(), Fail> {
     ask(&rt)?;
@@ -143,7 +154,8 @@ fn from_indices_of_which_one_fits(rt: HostRuntime) -> Result<(), Fail> {
     let refused = is_refused_at_first(&built);
     say(&rt, refused)?;
     ask(&rt)?;
-    assert!(rt; built.is_err() && next == Some(if refused { 16_777_216 } else { 8 }));
+    assert!(rt; built.is_err());
+    assert_left_of_one(&rt, refused, next);
     Ok(())
 }
 
@@ -154,7 +166,46 @@ fn from_index_refs_of_which_one_fits(rt: HostRuntime) -> Result<(), Fail> {
     let refused = is_refused_at_first(&built);
     say(&rt, refused)?;
     ask(&rt)?;
-    assert!(rt; built.is_err() && next == Some(if refused { 16_777_216 } else { 8 }));
+    assert!(rt; built.is_err());
+    assert_left_of_one(&rt, refused, next);
+    Ok(())
+}
+
+const NONE_FITS: [Index; 2] = [16_777_216, 8];
+
+// Sees that no item of `NONE_FITS` was drawn where memory was refused, and else that the first is out of range and no other was drawn.
+fn assert_none_fits(rt: &impl Abort, built: Result<AtomicBitSet, BuildError>, next: Option<Index>) {
+    let Some(error) = built.err() else {
+        panic!(rt; "an index out of range was taken")
+    };
+    if error == (BuildError::Memory { place: 0 }) {
+        assert!(rt; next == Some(16_777_216));
+        return;
+    }
+    let out_of_range = BuildError::OutOfRange {
+        place: 0,
+        index: 16_777_216,
+    };
+    assert!(rt; error == out_of_range && next == Some(8));
+}
+
+#[test]
+fn from_indices_of_which_none_fits(rt: HostRuntime) -> Result<(), Fail> {
+    ask(&rt)?;
+    let (built, next) = of_items(rt.alloc(), &NONE_FITS);
+    say(&rt, is_refused_at_first(&built))?;
+    ask(&rt)?;
+    assert_none_fits(&rt, built, next);
+    Ok(())
+}
+
+#[test]
+fn from_index_refs_of_which_none_fits(rt: HostRuntime) -> Result<(), Fail> {
+    ask(&rt)?;
+    let (built, next) = of_references(rt.alloc(), &NONE_FITS);
+    say(&rt, is_refused_at_first(&built))?;
+    ask(&rt)?;
+    assert_none_fits(&rt, built, next);
     Ok(())
 }
 

@@ -1,5 +1,6 @@
 //! Atomic sets made of lists, and extended by them.
 ghost use Rattle.std.specs.Prelude.{◌≡◌, ◌≢◌, ℕ, ◌/◌, ◌<◌, ◌↔◌, ◌⊎◌, true, length, take, IfOk, IfErr, OnOk, Contains};
+ghost use Rattle.hibitset_base.specs.declared.build.BuildError.TheVariants.{Memory};
 ghost use Rattle.hibitset_atomic.specs.declared.atomic.TheConstants.{ATOMIC_MAX_EID};
 ghost use Rattle.hibitset_atomic.specs.AtomicBitSet.{has, LacksBlock};
 ghost use Rattle.uses.specs.Lists.{place_of, InRangeBefore, IsWhy, LacksRoom, LiesApartIn};
@@ -8,13 +9,13 @@ use hibitset::{AtomicBitSet, BitSetLike, BuildError, Index};
 use std::alloc::Global;
 use std::test::Fail;
 
-// The set of the indices of a list. Where one is refused, it is the first out of range, or one for which there was no memory, and then it lies in other 4,096 indices than each before it.
+// The set of the indices of a list. Where one is refused, it is the first out of range, or one for which there was no memory, and then it lies in other 4,096 indices than each before it. Want of memory at place 0 may also tell of the empty set.
 fn set_of(alloc: Global, list: &[Index]) -> Result<AtomicBitSet, BuildError>
     requires { 0 < length list.now }
     ensures members { IfOk result (λ set. (i : ℕ) → (has set i ≡ true) ↔ Contains list.now i) }
     ensures place { IfErr result (λ error. place_of error < length list.now) }
     ensures before { IfErr result (λ error. InRangeBefore ATOMIC_MAX_EID list.now (place_of error)) }
-    ensures why { IfErr result (IsWhy ATOMIC_MAX_EID list.now) }
+    ensures why { IfErr result (λ error. (error ≡ Memory 0) ⊎ IsWhy ATOMIC_MAX_EID list.now error) }
     ensures apart { IfErr result (LiesApartIn (λ i j. i / 4096 ≢ j / 4096) list.now) }
 {
     AtomicBitSet::from_index_refs(alloc, list)
