@@ -289,7 +289,7 @@ class Crate:
                 said.add(ghost[1])
             elif call := re.match(r" *(pub )?(?:pub\([^)]*\) )?(?:const )?(?:final )?fn (\w+)", line):
                 head = head_of(lines, at)
-                labels = {label for _, label in re.findall(r"\b(ensures|requires)(?: (\w+))? \{", head) if label}
+                labels = {label for _, label in re.findall(r"\b(ensures|requires)\*?(?: (\w+))? \{", head) if label}
                 is_pub = bool(call[1]) or kind in ("trait",) or bool(trait)
                 self.functions.append(Function(module, owner, trait, call[2], is_pub, labels, "ensures" in head))
 
@@ -427,7 +427,7 @@ def table_of_modules(name):
     rows = [
         f"| `{path.relative_to(CRATES / name)}` | {first_sentence(path)} |"
         for path in modules(name)
-        if path.name not in ("lib.rt", "main.rt")
+        if path.name not in ("lib.rt", "main.rt") and shown(path) not in HEADLESS
     ]
     return "\n".join(["| module | what it is |", "|---|---|", *rows, ""])
 
