@@ -5,7 +5,7 @@ Links     A relative link of a page leads to a file, and its #anchor to a headin
           source, given from the top of the repository (docs/.., bench/.., tests/.., crates/.., CONTRIBUTING.md), is there.
 Quotes    A block of rust whose first line is '// crates/..', the path of a file, has parts of that file, with an empty line
           between two; a block of antt with '-- crates/..' has whole statements of it. A block of text that has lines
-          'fn NAME(..' and below them 'ensures LABEL: ..' names clauses that the functions have.
+          'fn NAME(..' and below them 'ensures LABEL: ..' or 'ensures LABEL { .. }' has clauses of these functions.
 Clauses   A table with a column 'clause' names in each cell what carries the row's promise, as
               `BitSet::add`: `refused`, `stays`; `laws`: `within`
           that is functions (Type::function, Trait::function, function, module::function), types, traits, or records and
@@ -145,8 +145,8 @@ def misquoted(page):
                 yield line, f"quotes what does not stand so in {path}: {part.splitlines()[0].strip()}"
 
 
-def misnamed_clauses(page):
-    """The clauses that a block of text says a function has, and that it does not have."""
+def misquoted_clauses(page):
+    """The clauses that a block of text says a function has, and that it does not have so."""
     text, names = text_of(page), Names.for_page(page)
     for block in re.finditer(r"^```text\n(.*?)^```", text, re.M | re.S):
         function = ""
@@ -155,9 +155,10 @@ def misnamed_clauses(page):
                 function = head[1]
                 if function not in names:
                     yield number, f"no function {function} in {names.where}"
-            elif clause := re.match(r" +(?:ensures|requires) (\w+):", line):
-                if function in names and clause[1] not in names[function]:
-                    yield number, f"{function} has no clause {clause[1]}"
+            elif function in names and (clause := re.match(r" +(?:ensures|requires)\b", line)):
+                said = re.sub(r"^(\S+(?: \w+)?) \{ (.*) \}$", r"\1: \2", line.strip())
+                if said not in names.clauses.get(function, set()):
+                    yield number, f"{function} has no such clause: {line.strip()}"
 
 
 def cells_of(line):
@@ -200,23 +201,26 @@ def wrong_cells(page):
         parts = carriers(cell)
         if column == 0:
             # A table that says what the clauses of one function are.
+            parts = []
             for label in re.findall(r"`([^`]+)`", cell):
                 if not any(label in labels for labels in names.values()):
                     yield line, f"nothing has a clause {label} in {names.where}"
         elif parts is None:
             yield line, f"is not of the form `Type::function`: `clause`, `clause`; ..: {cell}"
-            continue
-        for which, labels in parts if column > 0 and parts else []:
-            for name in which:
-                if name not in names:
-                    yield line, f"no function, type, record or definition {name} in {names.where}"
-            known = [name for name in which if name in names]
-            for label in labels:
-                if known and not any(label in names[name] for name in known):
-                    yield line, f"{', '.join(known)} has no clause {label}"
-            for name in known:
-                if labels and not any(label in names[name] for label in labels):
-                    yield line, f"{name} has none of the clauses {', '.join(labels)}"
+        for which, labels in parts or []:
+            yield from ((line, words) for words in lacking(names, which, labels))
+
+
+def lacking(names, which, labels):
+    """Which of the names are not there, and which of the labels none of them has; each has one of the labels."""
+    yield from (f"no function, type, record or definition {name} in {names.where}" for name in which if name not in names)
+    known = [name for name in which if name in names]
+    for label in labels:
+        if known and not any(label in names[name] for name in known):
+            yield f"{', '.join(known)} has no clause {label}"
+    for name in known:
+        if len(known) > 1 and labels and not any(label in names[name] for label in labels):
+            yield f"{name} has none of the clauses {', '.join(labels)}"
 
 
 # Sources: functions and their clauses.
@@ -235,9 +239,11 @@ def last_word(text):
 
 
 class Function:
-    def __init__(self, module, owner, trait, name, is_pub, labels, ensures):
+    def __init__(self, module, owner, trait, name, is_pub, head):
         self.module, self.owner, self.trait, self.name = module, owner, trait, name
-        self.is_pub, self.labels, self.ensures = is_pub, labels, ensures
+        self.is_pub, self.clauses = is_pub, clauses_of(head)
+        self.labels = {said.split(":")[0].split()[-1] for said in self.clauses} - {"ensures", "requires"}
+        self.ensures = "ensures" in head
 
     def names(self):
         """All names by which a page may call it."""
@@ -288,10 +294,8 @@ class Crate:
                 said = self.facts.setdefault((owner, trait), set()) if kind == "impl" else self.words.setdefault(owner or trait, set())
                 said.add(ghost[1])
             elif call := re.match(r" *(pub )?(?:pub\([^)]*\) )?(?:const )?(?:final )?fn (\w+)", line):
-                head = head_of(lines, at)
-                labels = {label for _, label in re.findall(r"\b(ensures|requires)\*?(?: (\w+))? \{", head) if label}
-                is_pub = bool(call[1]) or kind in ("trait",) or bool(trait)
-                self.functions.append(Function(module, owner, trait, call[2], is_pub, labels, "ensures" in head))
+                is_pub = bool(call[1]) or bool(trait)
+                self.functions.append(Function(module, owner, trait, call[2], is_pub, head_of(lines, at)))
 
     def read_specs(self, path):
         record, indent = "", ""
@@ -322,6 +326,18 @@ def head_of(lines, at):
         if lines[end].startswith((indent + "{", indent + "}")) or lines[end].endswith((" {", ";", " {}")):
             return "\n".join(lines[at : end + 1])
     return lines[at]
+
+
+def clauses_of(head):
+    """The clauses of a function's head, each in one line, as 'ensures LABEL: ..'."""
+    found = set()
+    for clause in re.finditer(r"\b((?:ensures|requires)\*?(?: \w+)?) \{", head):
+        depth, end = 1, clause.end()
+        while depth and end < len(head):
+            depth += {"{": 1, "}": -1}.get(head[end], 0)
+            end += 1
+        found.add(f"{clause[1]}: {' '.join(head[clause.end() : end - 1].split())}")
+    return found
 
 
 def modules(crate):
@@ -359,13 +375,14 @@ class Names(dict):
 
     def __init__(self, crates, where):
         super().__init__()
-        self.where = where
+        self.where, self.clauses = where, {}
         read = [crate(name) for name in crates]
         for each in read:
             for function in each.functions:
                 for name in function.names():
                     facts = each.facts.get((function.owner, function.trait), set()) if function.owner else set()
                     self.setdefault(name, set()).update(function.labels, facts)
+                    self.clauses.setdefault(name, set()).update(function.clauses)
             for name, words in each.words.items():
                 self.setdefault(name, set()).update(words)
             for (owner, _), facts in each.facts.items():
@@ -534,7 +551,7 @@ def wrong_results():
 def faults():
     """All that is wrong, each as page, line and words."""
     for page in PAGES:
-        for found in (dead_links, misquoted, misnamed_clauses, wrong_cells):
+        for found in (dead_links, misquoted, misquoted_clauses, wrong_cells):
             yield from ((page, line, words) for line, words in found(page))
         if page.parent.parent == CRATES and page.name == "README.md":
             yield from ((page, line, words) for line, words in wrong_modules(page))
