@@ -151,7 +151,7 @@ fn ends_where_a_read_fails(rt: HostRuntime) {
 
 // The first read gives a part of the line, or all of it.
 #[test]
-fn ends_where_the_second_read_or_the_first_write_fails(rt: HostRuntime) {
+fn ends_where_the_second_read_fails(rt: HostRuntime) {
     for most in [3, 8] {
         let reader = Breaking {
             bytes: b"add a 5\n",
@@ -163,6 +163,10 @@ fn ends_where_the_second_read_or_the_first_write_fails(rt: HostRuntime) {
         let ended = run_text(rt.alloc(), reader, &mut output);
         assert!(rt; ended.status() == 4 && output.is_empty());
     }
+}
+
+#[test]
+fn ends_where_the_first_write_fails(rt: HostRuntime) {
     let mut writer = Taking::new(rt.alloc(), usize::MAX, 0, ErrorKind::Other);
     let ended = run_text(rt.alloc(), b"add a 5\n".as_slice(), &mut writer);
     assert!(rt; ended.status() == 5 && writer.bytes.is_empty());
