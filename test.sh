@@ -1,14 +1,70 @@
 #!/usr/bin/env bash
-# Sees that the pages name the files; proves every crate from nothing, tries the wrong bodies, runs the tests and the program; then refuses each request for memory in turn and, beside that, tries the wrong bodies that tests alone see; and replays the oracle's scripts on the program that was proved.
+# test.sh [PART [WORD..]]: passes all tests of this repository, or one part of them.
+#   docs [--write]              pages, files, edits and patches agree; --write makes the generated tables anew
+#   proofs [CRATE..]            rt ci: proofs from nothing, must-fail edits, tests, programs
+#   mutants contract [CRATE..]  the prover refuses the mutants of tests/mutants/contract
+#   mutants tests [PATCH]       tests kill the mutants of tests/mutants/tests
+#   allocation                  each allocation of each call fails in turn
+#   differential [PROGRAM]      the program gives the stored answers; without PROGRAM it is proved and built first
+#   guide [--make FOLDER]       the repository that docs/GUIDE.md prints passes; --make makes it alone
+# Without PART: docs, proofs, allocation beside mutants tests, differential. It stops at the first part that fails.
 set -euo pipefail
-cd "$(dirname "$0")"
-docs/check.py
-rt ci
+top=$(cd "$(dirname "$0")" && pwd)
+parts=5
+beside=
+
+usage() {
+    sed -n '2,/^set /{/^#/s/^# \{0,1\}//p}' "$top/test.sh" >&2
+    exit 64
+}
+
+run() { # PART [WORD..]: one part, by the script that does it
+    case "$1 ${2:-}" in
+        "docs "*) "$top/tests/docs.py" "${@:2}" ;;
+        "proofs "*) (cd "$top" && rt ci "${@:2}") ;;
+        "mutants contract") "$top/tests/mutants/run_contract.sh" "${@:3}" ;;
+        "mutants tests") "$top/tests/mutants/run_tests.sh" "${@:3}" ;;
+        "allocation "*) "$top/tests/allocation_failures.py" ;;
+        "differential "*) sh "$top/tests/differential/replay.sh" "${@:2}" ;;
+        "guide "*) "$top/tests/guide.py" "${@:2}" ;;
+        *) usage ;;
+    esac
+}
+
+part() { # NUMBER PART [WORD..]: one of the parts, with what it is, which one of how many, and how long it took
+    local words=${*:2} began=$SECONDS status=0
+    echo "test.sh: part $1 of $parts: $words"
+    run "${@:2}" || status=$?
+    local took=$((SECONDS - began))
+    printf 'test.sh: %s: %s after %d min %d s\n' "$words" "$([ "$status" = 0 ] && echo passed || echo FAILED)" $((took / 60)) $((took % 60))
+    return "$status"
+}
+
+both() { # allocation, and beside it mutants tests, whose output comes when it has ended
+    local status=0
+    # A process group of its own, which the trap can end whole.
+    set -m
+    part 4 mutants tests </dev/null >"$log" 2>&1 &
+    beside=$!
+    set +m
+    echo "test.sh: part 4 of $parts, mutants tests, runs beside part 3"
+    part 3 allocation || status=$?
+    wait "$beside" || status=$?
+    beside=
+    cat "$log"
+    return "$status"
+}
+
+if [ $# -gt 0 ]; then
+    parts=1
+    part 1 "$@"
+    exit
+fi
 log=$(mktemp)
-./caught.sh >"$log" 2>&1 &
-caught=$!
-trap 'kill "$caught" 2>/dev/null || true; rm -f "$log"' EXIT
-./refusals.py
-wait "$caught" || { cat "$log"; exit 1; }
-cat "$log"
-sh diff/replay.sh "$PWD/crates/hibitset_run/out/hibitset_run"
+trap '[ -z "$beside" ] || kill -- -"$beside" 2>/dev/null; rm -f "$log"' EXIT
+trap 'exit 130' INT TERM HUP
+part 1 docs
+part 2 proofs
+both
+part 5 differential "$top/crates/hibitset_run/out/hibitset_run"
+echo "test.sh: all passed after $((SECONDS / 60)) min"

@@ -3,7 +3,7 @@
 # ORIGINAL: the folder of the original crate's sources. REPEATS: how many times each call is made, of which the median counts (15). TABLE: threads, steps or shared; all three if left out.
 # Both programs are compiled so that each function begins at a multiple of 64 bytes and no jump lies at a border of 32, or the luck of where a loop falls is measured too. `rt run` links ours with a clang that is told so.
 # It needs rt, cargo and taskset, and of Debian's packages librust-rayon-dev under REGISTRY; without that the original is left out.
-# README=1: also puts what it prints into README.md, each table in the place of its last results.
+# RESULTS=1: also puts what it prints into RESULTS.md, each table in the place of its last results.
 set -eu
 here=$(cd "$(dirname "$0")" && pwd)
 [ $# -ge 1 ] || { echo "usage: threads.sh ORIGINAL [REPEATS [TABLE..]]" >&2; exit 64; }
@@ -16,10 +16,9 @@ else
     tables="threads steps shared"
 fi
 registry=${REGISTRY:-/usr/share/cargo/registry}
-. "$here/library.sh"
+. "$here/common.sh"
 crate=$here/../crates/hibitset_bench_threads
 work=$here/out/threads
-cores=$(nproc)
 rm -rf "$work/hibitset"
 mkdir -p "$work/src" "$work/.cargo" "$work/hibitset/src" "$work/atom/src"
 
@@ -92,10 +91,10 @@ stolen() { # how many hundredths of a second of processors the host has taken aw
     awk '$1 == "cpu" { print $9 }' /proc/stat
 }
 
-machine() { # WHAT STOLEN SECONDS: the line above a table, once its rows are made; what was stolen when they began, and how long they took
-    printf '%s, %s cores of %s; %s; medians of %s %s, load average %s; the host took %s %% of the processors away.\n' "$(date -u +%Y-%m-%d)" "$cores" \
-        "$(sed -n 's/^model name[^:]*: *//p' /proc/cpuinfo | head -n 1)" "$(rt version)" "$repeats" "$1" "$(cut -d ' ' -f 1 /proc/loadavg)" \
-        "$(awk -v taken="$(($(stolen) - $2))" -v seconds="$3" -v cores="$cores" 'BEGIN { printf "%.1f", taken / (seconds * cores) }')"
+said() { # WHAT STOLEN SECONDS: the line above a table, once its rows are made; what was stolen when they began, and how long they took
+    printf '%s; %s; %s; %s; medians of %s %s, load average %s; the host took %s %% of the processors away.\n' "$(date -u +%Y-%m-%d)" "$(machine)" \
+        "$(rt version)" "$(commit_of "$here/..")" "$repeats" "$1" "$(cut -d ' ' -f 1 /proc/loadavg)" \
+        "$(awk -v taken="$(($(stolen) - $2))" -v seconds="$3" -v cores="$(nproc)" 'BEGIN { printf "%.1f", taken / (seconds * cores) }')"
 }
 
 walks() { # WHERE WHICH [WORD..]: a table of walks
@@ -121,17 +120,12 @@ shared_table() {
 for table in $tables; do
     began=$(date +%s) before=$(stolen)
     "${table}_table" >"$work/$table.rows"
-    { machine "$([ "$table" = shared ] && echo rounds || echo calls)" "$before" "$(($(date +%s) - began))"; cat "$work/$table.rows"; } >"$work/$table.md"
+    { said "$([ "$table" = shared ] && echo rounds || echo calls)" "$before" "$(($(date +%s) - began))"; cat "$work/$table.rows"; } >"$work/$table.md"
     cat "$work/$table.md"
     echo
 done
-if [ -n "${README:-}" ]; then
+if [ -n "${RESULTS:-}" ]; then
     for table in $tables; do
-        awk -v results="$work/$table.md" -v table="$table" '
-            $0 == "<!-- " table " -->" { print; print ""; while ((getline line < results) > 0) print line; print ""; held = 1 }
-            $0 == "<!-- end of " table " -->" { held = 0 }
-            !held { print }
-        ' "$here/README.md" >"$work/README.md"
-        cp "$work/README.md" "$here/README.md"
+        keep "$table" "$work/$table.md"
     done
 fi

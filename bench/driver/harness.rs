@@ -9,6 +9,16 @@
 use std::hint::black_box;
 use std::time::Duration;
 
+use crate::callgrind::counted;
+
+/// How many turns are counted, beyond the first: an even number, since each second turn of some kernels undoes the first.
+const TURNS: usize = 2;
+
+/// Whether instructions are counted, and nothing is timed.
+pub fn counts() -> bool {
+    std::env::args().nth(1).as_deref() == Some("count")
+}
+
 /// A fixed sequence of numbers that look random: a 64 bit congruential generator, of whose state the high half is used.
 pub struct Numbers(pub u64);
 
@@ -85,6 +95,22 @@ impl<'a> Row<'a> {
     pub fn peer(mut self, who: &'static str, run: impl FnMut() -> (Duration, u64) + 'a) -> Row<'a> {
         self.peers.push((who, Box::new(run)));
         self
+    }
+
+    /// Has each kernel's turns counted, and gives the line that the script fills with what was counted.
+    fn counted(&self, place: usize) -> String {
+        for (kernels, what) in [(&self.work, "work"), (&self.copy, "copy")] {
+            for (kernel, who) in kernels.iter().zip(["ours", "original"]) {
+                for turns in [1, 1 + TURNS] {
+                    counted(&format!("{} {who} {what} {turns}", self.key(place)), || kernel(turns));
+                }
+            }
+        }
+        format!("{}\t{}\t{}", self.key(place), self.ops * TURNS as f64, self.name)
+    }
+
+    fn key(&self, place: usize) -> String {
+        format!("{place}-{}", self.name.bytes().fold(0u32, |sum, byte| sum.wrapping_mul(31).wrapping_add(byte as u32)))
     }
 }
 
@@ -175,17 +201,20 @@ pub struct Bench {
     wanted: Duration,
     only: String,
     table: Vec<String>,
-    chart: Vec<(String, f64, f64)>,
     notes: Vec<String>,
 }
 
 impl Bench {
     pub fn new(peers: &[&'static str], repeats: usize, wanted: Duration, only: &str) -> Bench {
-        Bench { peers: peers.to_vec(), repeats, wanted, only: only.to_string(), table: Vec::new(), chart: Vec::new(), notes: Vec::new() }
+        Bench { peers: peers.to_vec(), repeats, wanted, only: only.to_string(), table: Vec::new(), notes: Vec::new() }
     }
 
     pub fn run(&mut self, row: Row) {
         if !row.name.contains(&self.only) {
+            return;
+        }
+        if counts() {
+            self.table.push(row.counted(self.table.len()));
             return;
         }
         let Row { name, ops, aim, answer, work, copy, mut peers } = row;
@@ -237,7 +266,6 @@ impl Bench {
         let line = match (&medians[..], aim, ratio) {
             ([ours, original], Some(aim), Some(ratio)) => {
                 let miss = if ratio > aim { " *" } else { "" };
-                self.chart.push((name.replace("\\|", "|"), ratio, aim));
                 format!("| {name} | {} | {} | {ratio:.2}{miss} | {aim:.2} | {} |", shown(*ours), shown(*original), cells.join(" | "))
             }
             _ => format!("| {name} | {} | - | - | - | {} |", shown(medians[0]), cells.join(" | ")),
@@ -253,34 +281,18 @@ impl Bench {
 
     /// A heading between rows.
     pub fn part(&mut self, title: &str) {
-        self.table.push(format!("| **{title}** |{}", " |".repeat(4 + self.peers.len())));
-        self.chart.push((title.to_string(), f64::NAN, f64::NAN));
+        let others = if counts() { 6 } else { 4 + self.peers.len() };
+        let title = if counts() { title.replace("(ns per", "(per") } else { title.to_string() };
+        self.table.push(format!("| **{title}** |{}", " |".repeat(others)));
     }
 
     pub fn print(&self) {
+        if counts() {
+            self.table.iter().for_each(|line| println!("{line}"));
+            return;
+        }
         println!("| workload | ours | original | ratio | aim | {} |\n|---{}|", self.peers.join(" | "), "|---:".repeat(4 + self.peers.len()));
         self.table.iter().for_each(|line| println!("{line}"));
         self.notes.iter().for_each(|line| println!("\n{line}"));
-        println!("\n```text");
-        let width = self.chart.iter().map(|row| row.0.chars().count()).max().unwrap_or(0);
-        println!("{:width$}  0        0.25        0.50        0.75        1.0", "");
-        for (name, ratio, aim) in &self.chart {
-            if ratio.is_nan() {
-                println!("{name}");
-                continue;
-            }
-            println!("{name:width$}  {} {ratio:.2}", bar(*ratio, *aim));
-        }
-        println!("```");
     }
-}
-
-/// A bar of the ratio, 48 places for 1.0, with a mark at the aim.
-fn bar(ratio: f64, aim: f64) -> String {
-    const ONE: f64 = 48.0;
-    let end = (ratio * ONE).round().clamp(0.0, ONE + 8.0) as usize;
-    let mark = (aim * ONE).round() as usize;
-    (0..ONE as usize + 8).map(|at| {
-        if at == mark { '|' } else if at < end { '#' } else { ' ' }
-    }).collect()
 }

@@ -1,5 +1,7 @@
 //! bench [REPEATS [MILLISECONDS [WORDS]]]: the workloads, each with ours, the original and its peers in one process.
 //! MILLISECONDS: how long the work of one timing is to take. WORDS: the rows whose names have them, alone.
+//! bench count [WORDS]: has callgrind count the instructions of each kernel, in turns of a fixed number; nothing is timed.
+mod callgrind;
 mod columns;
 mod harness;
 mod original;
@@ -12,7 +14,7 @@ mod wide;
 use std::collections::{BTreeSet, HashSet};
 use std::time::Duration;
 
-use harness::{timed, Answer, Bench, Both, Numbers, Row};
+use harness::{counts, timed, Answer, Bench, Both, Numbers, Row};
 use peers::{sum, Peers, END};
 
 #[cfg(fixedbitset)]
@@ -409,15 +411,16 @@ fn small_sets(bench: &mut Bench) {
 fn main() {
     let args: Vec<String> = std::env::args().collect();
     let number = |at: usize, default: u64| args.get(at).map_or(default, |n| n.parse().expect("a number"));
-    let (repeats, wanted) = (number(1, 9) as usize, Duration::from_millis(number(2, 20)));
-    let only = args.get(3).map_or("", String::as_str);
+    let (repeats, wanted) = if counts() { (0, Duration::ZERO) } else { (number(1, 9) as usize, Duration::from_millis(number(2, 20))) };
+    let only = args.get(if counts() { 2 } else { 3 }).map_or("", String::as_str);
     let mut bench = Bench::new(&peers::names(), repeats, wanted, only);
 
     let end = END as u32;
     let mut numbers = Numbers(1);
     let random = numbers.many(MILLION, END as u64);
     let members = Peers::of(&random);
-    let absent: Vec<u32> = numbers.many(MILLION, END as u64).into_iter().filter(|i| !members.hash.contains(i)).collect();
+    let there: HashSet<u32> = random.iter().copied().collect();
+    let absent: Vec<u32> = numbers.many(MILLION, END as u64).into_iter().filter(|i| !there.contains(i)).collect();
     let ascending: Vec<u32> = (0..MILLION as u32).collect();
     let half = Sample::new("half of 2^21", numbers.one_in(2, 1 << 21));
     let other_half = Sample::new("another half", numbers.one_in(2, 1 << 21));
@@ -484,6 +487,8 @@ fn main() {
     let mut values = Bench::new(&["HashMap"], repeats, wanted, only);
     columns::rows(&mut values);
     bench.print();
-    println!("\nValues by index, where \"original\" is its set beside a flat vector:\n");
+    if !counts() {
+        println!("\nValues by index, where \"original\" is its set beside a flat vector:\n");
+    }
     values.print();
 }

@@ -1,5 +1,5 @@
 #!/usr/bin/env python3
-"""draw.py: draws layers.svg and ratios.svg into its own folder; ratios.svg is read off the results in bench/README.md.
+"""draw.py: draws layers.svg and ratios.svg into its own folder; ratios.svg is read off the results in bench/RESULTS.md.
 
 layers.svg: the words of a set of four members, and the order in which a walk reads them.
 ratios.svg: the time of each row of the results, as part of the original's, a dot each.
@@ -8,7 +8,7 @@ import pathlib
 import re
 
 HERE = pathlib.Path(__file__).resolve().parent
-RESULTS = HERE.parent.parent / "bench" / "README.md"
+RESULTS = HERE.parent.parent / "bench" / "RESULTS.md"
 
 BITS = 64
 LAYERS = 5

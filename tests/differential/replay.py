@@ -1,6 +1,6 @@
 #!/usr/bin/env python3
 """replay.py SCRIPTS PROGRAM [ARG..]: runs the program on each script of the folder SCRIPTS, and compares standard output,
-standard error and the exit status with what is kept there. It also fails where the examples of docs/PROGRAM.md are not
+standard error and the exit status with what is kept there. It also fails where the examples of crates/hibitset_run/README.md are not
 those of program.txt.
 
 The last line is 'N passed, M failed'. The status is 0 where none failed. SHOW: failures that are printed whole (10).
@@ -81,7 +81,7 @@ def main():
     kept = (folder / "program.txt").read_text(encoding="ascii")
     if page.text() != kept:
         failed += 1
-        print("FAILED docs/PROGRAM.md: its examples are not those of program.txt")
+        print("FAILED crates/hibitset_run/README.md: its examples are not those of program.txt")
     for script in (script for file in files for script in bundle.read(file)):
         said = failures(program, script)
         if not said:

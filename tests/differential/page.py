@@ -1,10 +1,10 @@
-"""The examples of docs/PROGRAM.md. They stand there as in a file of scripts/, and program.txt has the same text."""
+"""The examples of crates/hibitset_run/README.md. They stand there as in a file of scripts/, and program.txt has the same text."""
 import re
 from pathlib import Path
 
 import bundle
 
-PAGE = Path(__file__).resolve().parent.parent / "docs" / "PROGRAM.md"
+PAGE = Path(__file__).resolve().parent.parent.parent / "crates" / "hibitset_run" / "README.md"
 
 
 def text():

@@ -4,7 +4,7 @@
 set -eu
 here=$(cd "$(dirname "$0")" && pwd)
 if [ $# -eq 0 ]; then
-    crate=$here/../crates/hibitset_run
+    crate=$here/../../crates/hibitset_run
     log=$(mktemp)
     trap 'rm -f "$log"' EXIT
     if ! (cd "$crate" && rt run </dev/null) >"$log" 2>&1; then

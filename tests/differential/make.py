@@ -1,6 +1,6 @@
 #!/usr/bin/env python3
 """make.py OUT SCRIPTS ORACLE: writes the files of the folder OUT, of scripts that lie in the folder SCRIPTS as *.in,
-of those of recipes.py, of the examples of docs/PROGRAM.md and of a few runs with other arguments, input or output, each
+of those of recipes.py, of the examples of crates/hibitset_run/README.md and of a few runs with other arguments, input or output, each
 with the answer of the program ORACLE. make.sh calls it.
 """
 import re

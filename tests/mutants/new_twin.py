@@ -1,5 +1,5 @@
 #!/usr/bin/env python3
-"""Writes a must-fail edit that is a twin: twin.py CRATE FILE FUNCTION NAME BODY [PLACE]
+"""Writes a must-fail edit that is a twin: new_twin.py CRATE FILE FUNCTION NAME BODY [PLACE]
 
 The edit crates/CRATE/must-fail/NAME.edit puts, before FUNCTION of src/FILE, a second function with the same clauses and
 this body, in one line, which calls the first. PLACE counts from 0 where the file has several functions of that name.
@@ -9,7 +9,7 @@ import re
 import sys
 from pathlib import Path
 
-CRATES = Path(__file__).resolve().parent / "crates"
+CRATES = Path(__file__).resolve().parent.parent.parent / "crates"
 
 
 def head_of(lines, start):

@@ -19,7 +19,7 @@ from concurrent.futures import ThreadPoolExecutor
 from itertools import islice
 from pathlib import Path
 
-CRATES = Path(__file__).resolve().parent / "crates"
+CRATES = Path(__file__).resolve().parent.parent / "crates"
 PROGRAM = "hibitset_run"
 TOGETHER = 4  # runs side by side
 MOST = 64  # requests
@@ -101,6 +101,9 @@ CALLS = {
         "StoreReply::put_line": "",
     },
 }
+
+# What the names of the program's tests in CALLS have in common, and no other of its tests has.
+RUNS = "refused_and_again"
 
 # Tests of other calls: one of std on what a public call gives, and one that stops where it is refused.
 OTHERS = "columns::collect callers::take"
@@ -355,8 +358,8 @@ def library(pool):
 
 
 def runs(pool):
-    for name in CALLS[PROGRAM]["run"].split():
-        tests(pool, PROGRAM, {name}, ["--", name])
+    # A build takes more than a minute and serves one number (this kit's --fail-alloc takes no list), so the tests are run together.
+    tests(pool, PROGRAM, set(CALLS[PROGRAM]["run"].split()), ["--", RUNS])
 
 
 def scripts(pool):
@@ -404,5 +407,5 @@ def main():
 try:
     main()
 except Failed as why:
-    print(f"refusals: FAILED: {why}", flush=True)
+    print(f"allocation_failures.py: FAILED: {why}", flush=True)
     sys.exit(1)

@@ -1,7 +1,7 @@
 #!/usr/bin/env python3
-"""example.py [--make] [FOLDER]: makes the repository that README's section 'Use it from your crate' prints, and passes it.
+"""guide.py [--make] [FOLDER]: makes the repository that docs/GUIDE.md prints, and passes it.
 
-In that section each block whose line above it ends in a file's name in backticks and a colon is that file. Beside these
+On that page each block whose line above it ends in a file's name in backticks and a colon is that file. Beside these
 files stand the crates of this repository that the printed crates.txt names, as they are here but for must-fail edits.
 FOLDER is one that is not there yet; without it a fresh one is made, and removed afterwards. Then 'rt ci' runs there, and
 its status is this one's. With --make nothing is run.
@@ -14,15 +14,17 @@ import sys
 import tempfile
 from pathlib import Path
 
-TOP = Path(__file__).resolve().parent
-HEADING = "## Use it from your crate"
+TOP = Path(__file__).resolve().parent.parent
+GUIDE = TOP / "docs" / "GUIDE.md"
 
 
 def printed():
-    """The files that the section prints: their names, and what is in them."""
-    text = (TOP / "README.md").read_text(encoding="utf-8")
-    section = text.split(f"\n{HEADING}\n")[1].split("\n## ")[0]
-    return dict(re.findall(r"`([\w./-]+)`:\n\n```\w*\n(.*?)^```$", section, re.M | re.S))
+    """The files that the page prints: their names, and what is in them."""
+    text = GUIDE.read_text(encoding="utf-8")
+    files = dict(re.findall(r"`([\w./-]+)`:\n\n```\w*\n(.*?)^```$", text, re.M | re.S))
+    if "crates.txt" not in files:
+        sys.exit("guide.py: docs/GUIDE.md prints no file crates.txt")
+    return files
 
 
 def make(folder):
@@ -40,7 +42,7 @@ def make(folder):
 
 
 def main():
-    reader = argparse.ArgumentParser(description="Makes the repository that README prints for a user, and passes it.")
+    reader = argparse.ArgumentParser(description="Makes the repository that docs/GUIDE.md prints, and passes it.")
     reader.add_argument("--make", action="store_true", help="make it, and run nothing")
     reader.add_argument("folder", nargs="?", type=Path, metavar="FOLDER", help="where to make it; not there yet")
     said = reader.parse_args()

@@ -1,28 +1,28 @@
 #!/usr/bin/env bash
-# Tries wrong bodies that no contract excludes: applies each patch of caught/ to a copy of the repository, where the tests that it names must fail. caught.sh PATCH tries one alone.
-# Two are tried side by side. Where there is one processor, no walk takes threads, and the patches whose tests are to meet in two of them are left out.
-# The head of a patch says the crates and the tests: lines 'crate: NAME', and after each the lines 'fails: TEST' of that crate. A line 'seconds: N' before a crate cuts its tests short after so many seconds, where some that are not named walk over millions of words; a line 'only: WORDS' runs no other tests than those with these words in their names.
-# A line 'refused: N' before a crate refuses the Nth request for memory of each of its tests, and a line 'misses: TEST' after it names one that must then not tell of it, in which `refusals.py` fails.
+# run_tests.sh [PATCH]: tests must kill the mutants that no contract excludes. Each patch of tests/ is applied to a copy of the repository, where the tests that it names must fail. PATCH: that one alone.
+# Two are tried side by side. Where there is one processor, no iteration takes threads, and the patches whose tests are to meet in two of them are left out.
+# The head of a patch says the crates and the tests: lines 'crate: NAME', and after each the lines 'fails: TEST' of that crate. A line 'seconds: N' before a crate cuts its tests short after so many seconds, where some that are not named read millions of words; a line 'only: WORDS' runs no other tests than those with these words in their names.
+# A line 'refused: N' before a crate makes the Nth allocation of each of its tests fail, and a line 'misses: TEST' after it names one that must then not tell of it, in which allocation_failures.py fails.
 set -euo pipefail
-cd "$(dirname "$0")"
-top=$PWD
+here=$(cd "$(dirname "$0")" && pwd)
 
 if [ $# = 0 ]; then
-    printf '%s\0' caught/*.patch | xargs -0 -P 2 -n 1 ./caught.sh
+    printf '%s\0' "$here"/tests/*.patch | xargs -0 -P 2 -n 1 "$here/run_tests.sh"
     exit
 fi
 
-patch=$1
+patch=$(realpath -e "$1")
 name=$(basename "$patch" .patch)
 if [ "$(nproc)" = 1 ] && grep -q '^fails: tests::meeting::' "$patch"; then
     echo "$name: left out, since there is one processor"
     exit
 fi
+cd "$here/../.."
 work=$(mktemp -d)
 trap 'rm -rf "$work"' EXIT
 git ls-files -z | tar --null --files-from=- -cf - | tar -xf - -C "$work"
 git -C "$work" init -q
-git -C "$work" apply "$top/$patch"
+git -C "$work" apply "$patch"
 seconds=60
 only=
 refused=

@@ -1,14 +1,14 @@
 #!/bin/sh
-# beside.sh OTHER [REPEATS [MILLISECONDS [WORDS]]]: the rows of run.sh over the library as it is and over another of it, in one process: the
+# compare.sh OTHER [REPEATS [MILLISECONDS [WORDS]]]: the rows of run.sh over the library as it is and over another of it, in one process: the
 # column `original` is then the other's. OTHER: a checkout of another commit, whose library is built alike, or a static library that was. A row
 # whose kernel it lacks has ours twice; peers are left out. NOW: the same for this one. REPEATS, MILLISECONDS and WORDS: as of run.sh. PLACE: by
 # how many times 64 bytes all code is moved on, since where a loop lies can decide its row: a form is better if it is so at several places.
 set -eu
 here=$(cd "$(dirname "$0")" && pwd)
-[ $# -ge 1 ] || { echo "usage: beside.sh OTHER [REPEATS [MILLISECONDS [WORDS]]]" >&2; exit 64; }
+[ $# -ge 1 ] || { echo "usage: compare.sh OTHER [REPEATS [MILLISECONDS [WORDS]]]" >&2; exit 64; }
 other=$1
 shift
-. "$here/library.sh"
+. "$here/common.sh"
 work=$here/out/beside
 rm -rf "$work"
 mkdir -p "$work"
