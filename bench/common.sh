@@ -1,7 +1,8 @@
-# common.sh: read by the other scripts here, which set `here` first. It sets `flags`, how rustc compiles, `padding`, what both compilers are told of jumps, and `kit`, the folder of the toolchain.
-# No jump lies at a border of 32 bytes: many processors of Intel are slow there, and where a loop falls would decide the row. What it takes is prefixes before other instructions, and not instructions of its own.
+# common.sh: read by the other scripts here, which set `here` first. It sets `flags`, how rustc compiles, `padding`, what both compilers are told of jumps where they are, and `kit`, the folder of the toolchain.
+# All is compiled as a user compiles it. PADDED=1: functions begin at multiples of 64 bytes, and no jump lies at a border of 32, where many processors of Intel are slow and where a loop falls would decide the row. Prefixes before other instructions do that, and no instructions of its own.
 padding='-x86-branches-within-32B-boundaries -x86-pad-max-prefix-size=5'
-flags=${FLAGS:--C opt-level=3 -C target-cpu=x86-64-v2 -C llvm-args=-align-all-functions=6$(printf ' -C llvm-args=%s' $padding)}
+flags=${FLAGS:--C opt-level=3 -C target-cpu=x86-64-v2}
+[ -z "${PADDED:-}" ] || flags="$flags -C llvm-args=-align-all-functions=6$(printf ' -C llvm-args=%s' $padding)"
 kit=$(dirname "$(rt doc)")
 
 # commit_of FOLDER: the commit that is checked out there, with a word if files of the library or of the bench are changed.
@@ -29,18 +30,25 @@ library() {
     [ -d "$1" ] || { echo "$1"; return; }
     crate=$(cd "$1/crates/hibitset_bench" && pwd)
     mkdir -p "$2"
-    padded "$2/kit"
     rm -f "$crate/out/libhibitset_bench.a"
-    (cd "$crate" && "$2/kit/bin/rt" lib) >"$2/lib.log" 2>&1 || { tail -n 30 "$2/lib.log" >&2; exit 1; }
+    (cd "$crate" && "$(kit_in "$2/kit")" lib) >"$2/lib.log" 2>&1 || { tail -n 30 "$2/lib.log" >&2; exit 1; }
     mv "$crate/out/libhibitset_bench.a" "$2/"
     echo "$2/libhibitset_bench.a"
 }
 
-# aligned FROM TO: the same library, in which every function begins at a multiple of 64 bytes, or the place that it happens to get decides.
-aligned() {
+# placed FROM TO [WORD..]: the same library, as objcopy makes it with these words. With PADDED every function in it begins at a multiple of 64 bytes.
+placed() {
     from=$1 to=$2
     shift 2
-    objcopy --set-section-alignment '.text*=64' "$@" "$from" "$to"
+    [ -z "${PADDED:-}" ] || set -- "$@" --set-section-alignment '.text*=64'
+    objcopy "$@" "$from" "$to"
+}
+
+# kit_in FOLDER [WORD..]: the toolchain's command; with PADDED that of a toolchain in this folder, whose clang pads jumps away from borders, and is told WORDs too.
+kit_in() {
+    [ -n "${PADDED:-}" ] || { command -v rt; return; }
+    padded "$@"
+    echo "$1/bin/rt"
 }
 
 # wrapped FOLDER SCRIPT: the toolchain in a folder of its own, whose clang is this script.

@@ -8,6 +8,8 @@ here=$(cd "$(dirname "$0")" && pwd)
 [ $# -ge 1 ] || { echo "usage: compare.sh OTHER [REPEATS [MILLISECONDS [WORDS]]]" >&2; exit 64; }
 other=$1
 shift
+# Where a loop falls is not to decide between two forms.
+PADDED=${PADDED-1}
 . "$here/common.sh"
 work=$here/out/beside
 rm -rf "$work"
@@ -16,8 +18,8 @@ now=$(library "${NOW:-$here/..}" "$work/now")
 other=$(library "$other" "$work/other")
 nm --defined-only "$other" | awk 'NF == 3 && $2 ~ /[A-Z]/ { print $3 }' | sort -u >"$work/symbols"
 sed 's/.*/& before_&/' "$work/symbols" >"$work/renamed"
-aligned "$now" "$work/libhibitset_bench.a"
-aligned "$other" "$work/libbefore_bench.a" --redefine-syms="$work/renamed"
+placed "$now" "$work/libhibitset_bench.a"
+placed "$other" "$work/libbefore_bench.a" --redefine-syms="$work/renamed"
 
 cp "$here"/driver/*.rs "$work"
 # The other's kernels, by the names of ours.

@@ -14,7 +14,7 @@ work=$here/out/instructions
 rm -rf "$work"
 mkdir -p "$work/counts"
 lib=$(library "${LIB:-$here/..}" "$work/library")
-aligned "$lib" "$work/libhibitset_bench.a"
+placed "$lib" "$work/libhibitset_bench.a"
 driver "$original" "$work"
 
 # Nothing of the environment, so that the stack begins at the same place each time.

@@ -16,7 +16,7 @@ work=$here/out
 mkdir -p "$work"
 
 lib=$(library "${LIB:-$here/..}" "$work/library")
-aligned "$lib" "$work/libhibitset_bench.a"
+placed "$lib" "$work/libhibitset_bench.a"
 
 peers "$work"
 driver "$original" "$work"

@@ -1,7 +1,7 @@
 #!/bin/sh
 # threads.sh ORIGINAL [REPEATS [TABLE..]]: times the calls that start threads, beside the original with its own rayon, on all processors and on one; the same with a step that takes time, on all processors; and the shared set, beside the original's AtomicBitSet.
 # ORIGINAL: the folder of the original crate's sources. REPEATS: how many times each call is made, of which the median counts (15). TABLE: threads, steps or shared; all three if left out.
-# Both programs are compiled so that each function begins at a multiple of 64 bytes and no jump lies at a border of 32, or the luck of where a loop falls is measured too. `rt run` links ours with a clang that is told so.
+# Both programs are compiled as a user compiles them, or with PADDED=1 as common.sh says.
 # It needs rt, cargo and taskset, and of Debian's packages librust-rayon-dev under REGISTRY; without that the original is left out.
 # RESULTS=1: also puts what it prints into RESULTS.md, each table in the place of its last results.
 set -eu
@@ -22,9 +22,8 @@ work=$here/out/threads
 rm -rf "$work/hibitset"
 mkdir -p "$work/src" "$work/.cargo" "$work/hibitset/src" "$work/atom/src"
 
-padded "$work/kit" -align-all-functions=6
 rm -f "$crate/out/hibitset_bench_threads"
-(cd "$crate" && "$work/kit/bin/rt" run) >"$work/ours.log" 2>&1 || { tail -n 30 "$work/ours.log" >&2; exit 1; }
+(cd "$crate" && "$(kit_in "$work/kit" -align-all-functions=6)" run) >"$work/ours.log" 2>&1 || { tail -n 30 "$work/ours.log" >&2; exit 1; }
 ours=$work/ours
 mv "$crate/out/hibitset_bench_threads" "$ours"
 

@@ -115,7 +115,7 @@ fn step_in_parts(set: &BitSet, work: &str, turns: u32) -> u64 {
 }
 
 fn steps(repeats: usize) {
-    for (step, turns) in [("0 ns", 0), ("100 ns", 60), ("1 us", 540)] {
+    for (step, turns) in [("0 ns", 0), ("100 ns", 75), ("1 us", 620)] {
         for (shape_name, shape) in [("dense", Shape::Dense), ("10 %", Shape::OneIn(10))] {
             for size in [1_000, 10_000, 100_000, 1_000_000] {
                 let set = set_of(shape, size);

@@ -31,6 +31,9 @@ const SHAPES: [(&str, Shape); 5] = [
 
 const SIZES: [u32; 4] = [10_000, 100_000, 1_000_000, 4_000_000];
 
+// From how many members on a fold that adds takes threads.
+const MIN_LEN: usize = 500_000;
+
 // Each of these is a function of its own, so that its loops have the registers to themselves.
 #[inline(never)]
 fn count_alone(set: &BitSet) -> u64 {
@@ -74,7 +77,7 @@ fn fold_in_parts(
     alloc: Global,
     set: &BitSet,
 ) -> Result<u64, AllocError> {
-    set.par_iter().with_min_len(500_000).fold(
+    set.par_iter().with_min_len(MIN_LEN).fold(
         rt,
         alloc,
         || 0u64,

@@ -18,7 +18,7 @@ enum Work {
 const WORKS: [(&str, Work); 2] = [("for_each", Work::ForEach), ("fold", Work::Fold)];
 
 // About how long a step takes, and how many turns it makes.
-const STEPS: [(&str, u32); 3] = [("0 ns", 0), ("100 ns", 60), ("1 us", 540)];
+const STEPS: [(&str, u32); 3] = [("0 ns", 0), ("100 ns", 75), ("1 us", 620)];
 
 const SHAPES: [(&str, Shape); 2] = [("dense", Shape::Dense), ("10 %", Shape::OneIn(10))];
 

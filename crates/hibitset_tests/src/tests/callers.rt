@@ -199,7 +199,11 @@ fn unions_of_callers(rt: HostRuntime) -> Result<(), AllocError> {
 fn blocks_of_callers(rt: HostRuntime) -> Result<(), AllocError> {
     let set = set_of(rt.alloc(), &[3, 70, 4_095, 5_000, 1_000_000])?;
     let blocks = blocks_of(rt.alloc(), &set)?;
-    assert_indices(&rt, looped(rt.alloc(), &blocks)?.as_slice(), &[0, 4_096, 999_424]);
+    assert_indices(
+        &rt,
+        looped(rt.alloc(), &blocks)?.as_slice(),
+        &[0, 4_096, 999_424],
+    );
     Ok(())
 }
 
