@@ -1,4 +1,4 @@
-//! Each call that asks for memory is made between two requests of the test's own. Where a request of the call is refused it is seen what stands, and the call is made again. A test prints whether the first request, the call and the last request were refused; `refusals.py` refuses the requests one after the other. The tests of `room` make calls that need no memory as things stand, and print nothing between the two requests.
+//! Each call that asks for memory is made between two requests of the test's own. Where a request of the call is refused it is seen what stands, and the call is made again. A test prints whether the first request, the call and the last request were refused; `allocation_failures.py` refuses the requests one after the other. The tests of `room` make calls that need no memory as things stand, and print nothing between the two requests.
 ghost use Rattle.std.specs.Prelude.{◌≡◌, [], IfOk};
 ghost use Rattle.hibitset_atomic.specs.Seats.{Came, weight_of, reports_of};
 ghost use Rattle.hibitset_atomic.specs.declared.shared.sizes.TheConstants.{SHARES};

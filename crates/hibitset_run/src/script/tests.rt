@@ -301,7 +301,7 @@ fn is_run(replies: &[Reply]) -> bool {
     }
 }
 
-// The run is made between two requests of the test's own; `refusals.py` refuses the requests one after the other. Where the room for the replies is refused no set has changed, and where a command is refused the run goes on. Then the run is made again.
+// The run is made between two requests of the test's own; `allocation_failures.py` refuses the requests one after the other. Where the room for the replies is refused no set has changed, and where a command is refused the run goes on. Then the run is made again.
 #[test]
 fn refused_and_again(rt: HostRuntime) -> Result<(), Fail> {
     let alloc = rt.alloc();

@@ -98,7 +98,7 @@ fn add(rt: HostRuntime) -> Result<(), Fail> {
     Ok(())
 }
 
-// `refusals.py` refuses one request at a time, and sees that the two calls make one alone: so where that is refused, every request of theirs is.
+// `allocation_failures.py` refuses one request at a time, and sees that the two calls make one alone: so where that is refused, every request of theirs is.
 #[test]
 fn room_made_before(rt: HostRuntime) -> Result<(), Fail> {
     let mut set = BitSet::with_capacity(rt.alloc(), 1000)?;
