@@ -1,5 +1,5 @@
 #!/bin/sh
-# instructions.sh ORIGINAL [WORDS]: counts the instructions and the branches of each kernel of run.sh, of ours and of the original's, and prints a table of what an item takes. Another run on the same machine gives the same digits.
+# instructions.sh ORIGINAL [WORDS]: counts the instructions and the branches of each kernel of run.sh, of ours and of the original's, and prints a table of what an item takes. Another run with the same words on the same machine gives the same digits.
 # ORIGINAL: the folder of the original crate. WORDS: the rows whose names have them, alone. Two turns of a kernel count, beyond a first one; copies that a turn works on are taken off, as in run.sh.
 # LIB: the static library, if it is not to be built, or a checkout of another commit, whose library is built.
 # It needs rt, rustc, objcopy and valgrind (of Debian: apt-get install valgrind).
@@ -39,7 +39,9 @@ awk -F '\t' '
         return count[key " " who " " what " 3" FS column] - count[key " " who " " what " 1" FS column]
     }
     function taken(key, who, items, column) { return (counted(key, who, "work", column) - counted(key, who, "copy", column)) / items }
-    function ratio(ours, theirs) { return theirs > 0 ? sprintf("%.2f", ours / theirs) : "-" }
+    # A call that takes a few instructions can come out below what the empty turn took, and says nothing then.
+    function number(count) { return count > 0 ? sprintf("%.3f", count) : "-" }
+    function ratio(ours, theirs) { return ours > 0 && theirs > 0 ? sprintf("%.2f", ours / theirs) : "-" }
     NR == FNR { # counts: KEY WHO WHAT TURNS INSTRUCTIONS BRANCHES
         split($0, word, " ")
         name = word[1] " " word[2] " " word[3] " " word[4]
@@ -53,10 +55,13 @@ awk -F '\t' '
         for (column = 1; column <= 2; column++) {
             ours = taken($1, "ours", $2, column)
             theirs = has[$1 " original"] ? taken($1, "original", $2, column) : 0
-            line = line sprintf(" %.3f | %s | %s |", ours, has[$1 " original"] ? sprintf("%.3f", theirs) : "-", ratio(ours, theirs))
+            line = line sprintf(" %s | %s | %s |", number(ours), number(theirs), ratio(ours, theirs))
         }
+        if (head) print head
+        head = ""
         print line
         next
     }
-    { print }
+    # A head whose rows were not asked for is left out.
+    { head = $0 }
 ' "$work/counts.txt" "$work/rows.txt"
