@@ -1,5 +1,5 @@
 //! Parts of a walk that wait for one another, which only threads that run side by side get through.
-ghost use Rattle.std.specs.Prelude.{◌-◌, ◌^◌, ◌≤◌};
+ghost use Rattle.std.specs.Prelude.{◌-◌, ◌^◌, ◌<◌, ◌≤◌};
 ghost use Rattle.hibitset_base.specs.declared.util.TheConstants.{LAYERS};
 
 use hibitset::{BitParIter, BitSet, BitSetLike, Index};
