@@ -102,9 +102,6 @@ CALLS = {
     },
 }
 
-# What the names of the program's tests in CALLS have in common, and no other of its tests has.
-RUNS = "refused_and_again"
-
 # Tests of other calls: one of std on what a public call gives, and one that stops where it is refused.
 OTHERS = "columns::collect callers::take"
 
@@ -358,8 +355,9 @@ def library(pool):
 
 
 def runs(pool):
-    # A build takes more than a minute and serves one number (this kit's --fail-alloc takes no list), so the tests are run together.
-    tests(pool, PROGRAM, set(CALLS[PROGRAM]["run"].split()), ["--", RUNS])
+    # Each by itself: past its own last allocation such a test makes the run again, and has to get its memory there.
+    for name in CALLS[PROGRAM]["run"].split():
+        tests(pool, PROGRAM, {name}, ["--", name])
 
 
 def scripts(pool):
