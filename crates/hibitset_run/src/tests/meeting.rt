@@ -5,13 +5,12 @@ ghost use Rattle.hibitset_base.specs.declared.util.TheConstants.{LAYERS};
 use hibitset::{BitParIter, BitSet, BitSetLike, Index};
 use rayon::prelude::*;
 use std::alloc::{AllocError, Global};
-use std::hint::spin_loop;
 use std::process::Abort;
 use std::sync::atomic::{AtomicU32, Ordering};
 use std::test::Fail;
 use std::thread::Threads;
 
-// How often each side looks for the other, at most: for a second or more, since the other may wait for a processor where programs use them all.
+// How often each side looks for the other, at most.
 const TURNS: u32 = 200_000_000;
 
 // So many full words of layer 0 hold the indices below 524,288.
@@ -50,7 +49,6 @@ fn meet(mine: &AtomicU32, other: &AtomicU32, found: &AtomicU32, alone: u32) {
             found.fetch_add(1, Ordering::SeqCst);
             return;
         }
-        spin_loop();
     }
 }
 
