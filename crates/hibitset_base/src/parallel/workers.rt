@@ -14,9 +14,9 @@ use std::thread::Threads;
 // No pool keeps threads, so each worker but one costs a new one, and there are no more than this.
 const MOST_WORKERS: usize = 32;
 
-/// An answer, and the number of the part that it is to.
+// An answer, and the number of the part that it is to.
 #[derive(Drop)]
-pub(super) struct Answer<U> {
+struct Answer<U> {
     part: usize,
     value: U,
 }
@@ -45,9 +45,9 @@ fn work<P, U: Drop, F: Fn(&P) -> U>(
     Ok(answers)
 }
 
-/// The answers of so many workers, each in a thread of its own where one can be made.
+// The answers of so many workers, each in a thread of its own where one can be made.
 #[cycle(halves)]
-pub(super) fn workers<R: Threads + Sync, P: Sync, U: Send + Drop, F: Fn(&P) -> U + Sync>(
+fn workers<R: Threads + Sync, P: Sync, U: Send + Drop, F: Fn(&P) -> U + Sync>(
     rt: &R,
     alloc: Global,
     count: usize,
@@ -80,8 +80,8 @@ pub(super) fn workers<R: Threads + Sync, P: Sync, U: Send + Drop, F: Fn(&P) -> U
     Ok(answers)
 }
 
-/// How many workers there are for so many parts.
-pub(super) fn count_for<R: Threads>(rt: &R, parts: usize) -> usize {
+// How many workers there are for so many parts.
+fn count_for<R: Threads>(rt: &R, parts: usize) -> usize {
     current_num_threads(rt).min(MOST_WORKERS).min(parts)
 }
 
