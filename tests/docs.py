@@ -40,16 +40,6 @@ PAGES = sorted(
     if not path.is_relative_to(TOP / "tests" / "differential" / "scripts")
 )
 
-# Files that do not yet begin with a line that says what they are. This list is to become empty.
-HEADLESS = """
-crates/hibitset_atomic/src/shared/parts.rt
-crates/hibitset_atomic/src/shared/sizes.rt
-crates/hibitset_atomic/src/shared/steps.rt
-crates/hibitset_atomic/src/shared/view.rt
-crates/hibitset_run/src/script/tests.rt
-crates/hibitset_run/src/store/tests.rt
-""".split()
-
 # Public functions that no row names: NAME of a crate, as CRATE NAME, each for a reason that its comment says.
 UNNAMED = set()
 
@@ -459,7 +449,7 @@ def table_of_modules(name):
     rows = [
         f"| `{path.relative_to(CRATES / name)}` | {first_sentence(path)} |"
         for path in modules(name)
-        if path.name not in ("lib.rt", "main.rt") and shown(path) not in HEADLESS
+        if path.name not in ("lib.rt", "main.rt")
     ]
     return "\n".join(["| module | what it is |", "|---|---|", *rows, ""])
 
@@ -503,8 +493,8 @@ def headless():
     """The files that do not say what they are, and the exceptions that are none."""
     for path in sorted(CRATES.glob("*/src/**/*.rt")):
         starts = text_of(path).startswith("//! ")
-        if starts == (shown(path) in HEADLESS):
-            yield path, "begins with //! and is in the list HEADLESS of docs.py" if starts else "does not begin with //!"
+        if not starts:
+            yield path, "does not begin with //!"
     for path in sorted([*CRATES.glob("*/specs/*.antt"), *CRATES.glob("*/proofs/*.antt")]):
         if path.name != "Lib.antt" and not text_of(path).startswith("-- "):
             yield path, "does not begin with --"

@@ -1,3 +1,4 @@
+pub mod Answers
 pub mod Members
 pub mod Firsts
 pub mod Lasts

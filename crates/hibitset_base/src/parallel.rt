@@ -22,6 +22,7 @@ mod driver;
 mod par_iter;
 mod pieces;
 mod size;
+mod workers;
 
 pub use self::par_iter::BitParIter;
 

@@ -1,4 +1,4 @@
-// The numbers of a shared set: its shares, and where its layers lie in the row of all its words.
+//! The numbers of a shared set: its shares, and where its layers lie in the row of all its words.
 
 /// The shares of a set. A seat that has them all is whole.
 pub const SHARES: u32 = 65_536;

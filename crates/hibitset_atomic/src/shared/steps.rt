@@ -1,4 +1,4 @@
-// One step each.
+//! The single steps of the calls on a shared set: each reads or writes one word.
 ghost use Rattle.std.specs.Prelude.{◌≡◌, ℕ, ◌+◌, ◌-◌, ◌*◌, ◌/◌, ◌%◌, ◌^◌, ◌<◌, ◌≤◌, true, false, [], ◌∷◌, length};
 ghost use Rattle.std.specs.Int.{bit_at};
 ghost use Rattle.hibitset_atomic.specs.Lists.{Has};

@@ -1,3 +1,4 @@
+//! Lines of set commands: what each is read as, and the answers to a script.
 mod streams;
 
 use super::*;

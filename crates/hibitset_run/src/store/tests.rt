@@ -1,3 +1,4 @@
+//! Lines of the component store: what each is read as, and the answers to a script.
 mod program;
 
 use super::*;

@@ -1,0 +1,160 @@
+//! What a function answers at each part of a list, from several threads.
+//!
+//! There is a worker for each processor. Each takes the next part that none has taken, by a counter that they share, so that no processor is idle while parts are left. An answer keeps the number of its part, by which the answers are brought in order.
+ghost use Rattle.std.specs.Prelude.{◌≡◌, ◌⊎◌, ℕ, All, Contains, IfOk, IfSome, None};
+ghost use Rattle.std.specs.Borrow.{Bor};
+ghost use Rattle.std.specs.Thread.{IsSync, IsSend};
+ghost use Rattle.hibitset_base.specs.Answers.{AnswersOf, AnswersPart, AnswersItsPart, SlotHas, FilledBy};
+
+use rayon::{current_num_threads, join};
+use std::alloc::{AllocError, Global};
+use std::sync::atomic::{AtomicUsize, Ordering};
+use std::thread::Threads;
+
+// No pool keeps threads, so each worker but one costs a new one, and there are no more than this.
+const MOST_WORKERS: usize = 32;
+
+// An answer, and the number of the part that it is to.
+#[derive(Drop)]
+struct Answer<U> {
+    part: usize,
+    value: U,
+}
+
+// The answers of one worker: it takes the next part that none has taken, until there is no more.
+fn work<P, U: Drop, F: Fn(&P) -> U>(
+    alloc: Global,
+    parts: &[P],
+    next: &AtomicUsize,
+    f: &F,
+) -> Result<Vec<Answer<U>>, AllocError>
+    requires { All (λ p. (part : Bor P) → part.now ≡ p → F.pre f.now part) parts.now }
+    ensures { IfOk result (λ v. All (AnswersItsPart (λ part u. F.post f.now part u) parts.now) v.items) }
+{
+    let mut answers = Vec::new(alloc);
+    for _ in 0..parts.len() {
+        let part = next.fetch_add(1, Ordering::SeqCst);
+        let Some(taken) = parts.get(part) else {
+            break;
+        };
+        answers.push(Answer {
+            part,
+            value: f(taken),
+        })?;
+    }
+    Ok(answers)
+}
+
+// The answers of so many workers, each in a thread of its own where one can be made.
+#[cycle(halves)]
+fn workers<R: Threads + Sync, P: Sync, U: Send + Drop, F: Fn(&P) -> U + Sync>(
+    rt: &R,
+    alloc: Global,
+    count: usize,
+    parts: &[P],
+    next: &AtomicUsize,
+    f: &F,
+) -> Result<Vec<Answer<U>>, AllocError>
+    requires { All (λ p. (part : Bor P) → part.now ≡ p → F.pre f.now part) parts.now }
+    ensures { IfOk result (λ v. All (AnswersItsPart (λ part u. F.post f.now part u) parts.now) v.items) }
+{
+    if count < 2 {
+        return work(alloc, parts, next, f);
+    }
+    let half = count / 2;
+    let other_half = count - half;
+    let (first, second) = join(
+        rt,
+        || -> Result<Vec<Answer<U>>, AllocError>
+            requires { IsSync R.row × IsSync P.row × IsSync F.row × IsSend U.row × All (λ p. (part : Bor P) → part.now ≡ p → F.pre f.now part) parts.now }
+            ensures { IfOk result (λ v. All (AnswersItsPart (λ part u. F.post f.entry.now part u) parts.entry.now) v.items) }
+        { workers(rt, alloc, half, parts, next, f) },
+        || -> Result<Vec<Answer<U>>, AllocError>
+            requires { IsSync R.row × IsSync P.row × IsSync F.row × IsSend U.row × All (λ p. (part : Bor P) → part.now ≡ p → F.pre f.now part) parts.now }
+            ensures { IfOk result (λ v. All (AnswersItsPart (λ part u. F.post f.entry.now part u) parts.entry.now) v.items) }
+        { workers(rt, alloc, other_half, parts, next, f) },
+    );
+    let mut answers = first?;
+    let mut others = second?;
+    answers.append(&mut others)?;
+    Ok(answers)
+}
+
+// How many workers there are for so many parts.
+fn count_for<R: Threads>(rt: &R, parts: usize) -> usize {
+    current_num_threads(rt).min(MOST_WORKERS).min(parts)
+}
+
+// So many slots without an answer.
+fn empty_slots<U: Drop>(alloc: Global, count: usize) -> Result<Vec<Option<U>>, AllocError>
+    ensures { IfOk result (λ v. All (λ slot. slot ≡ None) v.items) }
+{
+    let mut slots = Vec::with_capacity(alloc, count)?;
+    for _ in 0..count {
+        slots.push(None)?;
+    }
+    Ok(slots)
+}
+
+// The slots with each answer in that of its part.
+fn filled_slots<U: Drop>(mut slots: Vec<Option<U>>, answers: Vec<Answer<U>>) -> Vec<Option<U>>
+    ensures { FilledBy answers.items slots.items result.items }
+{
+    for answer in answers {
+        if answer.part < slots.len() {
+            slots[answer.part] = Some(answer.value);
+        }
+    }
+    slots
+}
+
+// Takes the answer in a slot.
+fn take_from<U: Drop>(slots: &mut [Option<U>], part: usize) -> Option<U>
+    ensures answer { IfSome result (λ u. SlotHas slots.old part u) }
+    ensures others { (n : ℕ) (u : U) → SlotHas slots.new n u → SlotHas slots.old n u }
+{
+    if part < slots.len() {
+        slots[part].take()
+    } else {
+        None
+    }
+}
+
+// The answers in order. A part whose slot is empty is answered here: the workers leave none, which no clause says.
+fn in_order<P, U: Drop, F: Fn(&P) -> U>(
+    alloc: Global,
+    parts: &[P],
+    mut slots: Vec<Option<U>>,
+    f: &F,
+) -> Result<Vec<U>, AllocError>
+    requires parts { All (λ p. (part : Bor P) → part.now ≡ p → F.pre f.now part) parts.now }
+    requires slots { (n : ℕ) (u : U) → SlotHas slots.items n u → AnswersPart (λ part u. F.post f.now part u) parts.now n u }
+    ensures { IfOk result (λ v. AnswersOf (λ part u. F.post f.now part u) parts.now v.items) }
+{
+    let slots = slots.as_mut_slice();
+    let mut answers = Vec::with_capacity(alloc, parts.len())?;
+    for part in 0..parts.len() {
+        let answer = match take_from(slots, part) {
+            Some(answer) => answer,
+            None => f(&parts[part]),
+        };
+        answers.push(answer)?;
+    }
+    Ok(answers)
+}
+
+/// What `f` answers at each part, in order, from several threads.
+pub(super) fn each<R: Threads + Sync, P: Sync, U: Send + Drop, F: Fn(&P) -> U + Sync>(
+    rt: &R,
+    alloc: Global,
+    parts: &[P],
+    f: &F,
+) -> Result<Vec<U>, AllocError>
+    requires { All (λ p. (part : Bor P) → part.now ≡ p → F.pre f.now part) parts.now }
+    ensures { IfOk result (λ v. AnswersOf (λ part u. F.post f.now part u) parts.now v.items) }
+{
+    let next = AtomicUsize::new(0);
+    let answers = workers(rt, alloc, count_for(rt, parts.len()), parts, &next, f)?;
+    let slots = filled_slots(empty_slots(alloc, parts.len())?, answers);
+    in_order(alloc, parts, slots, f)
+}
