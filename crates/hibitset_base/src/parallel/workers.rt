@@ -21,7 +21,7 @@ struct Answer<U> {
     value: U,
 }
 
-// The answers of one worker: it takes the next part that none has taken, until there is no more.
+// The answers of one worker: it takes the next part that none has taken, until there is no more. Its list has room for all parts, so that what is allocated does not depend on which worker takes which.
 fn work<P, U: Drop, F: Fn(&P) -> U>(
     alloc: Global,
     parts: &[P],
@@ -31,7 +31,7 @@ fn work<P, U: Drop, F: Fn(&P) -> U>(
     requires { All (λ p. (part : Bor P) → part.now ≡ p → F.pre f.now part) parts.now }
     ensures { IfOk result (λ v. All (AnswersItsPart (λ part u. F.post f.now part u) parts.now) v.items) }
 {
-    let mut answers = Vec::new(alloc);
+    let mut answers = Vec::with_capacity(alloc, parts.len())?;
     for _ in 0..parts.len() {
         let part = next.fetch_add(1, Ordering::SeqCst);
         let Some(taken) = parts.get(part) else {
