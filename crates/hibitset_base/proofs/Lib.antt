@@ -22,9 +22,13 @@ pub mod Descending
 pub mod Stepping
 pub mod Beginning
 pub mod Draining
+pub mod LastBeforeLemmas
+pub mod HeadLemmas
+pub mod RankLemmas
 pub mod Bounds
 pub mod Passing
 pub mod Running
+pub mod RevWalkLemmas
 pub mod Splitting
 pub mod Folding
 pub mod Filling
@@ -33,4 +37,6 @@ pub mod Given
 pub mod Mending
 pub mod Holding
 pub mod Building
+pub mod RangeLemmas
+pub mod RetainLemmas
 pub mod CallerLemmas
