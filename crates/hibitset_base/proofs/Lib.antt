@@ -1,6 +1,5 @@
 pub mod Members
 pub mod Firsts
-pub mod Lasts
 pub mod Placing
 pub mod Masks
 pub mod Ones
@@ -22,13 +21,14 @@ pub mod Descending
 pub mod Stepping
 pub mod Beginning
 pub mod Draining
-pub mod LastBeforeLemmas
-pub mod HeadLemmas
+pub mod PartLemmas
 pub mod RankLemmas
 pub mod Bounds
 pub mod Passing
 pub mod Running
+pub mod RevPlaceLemmas
 pub mod RevWalkLemmas
+pub mod LastLemmas
 pub mod Splitting
 pub mod Folding
 pub mod Filling

@@ -1,5 +1,5 @@
--- Members counted up to an index, from the top layer down, and up to a place of their list.
-use Rattle.std.proofs.Common.{◌≡◌, ◌≢◌, ℕ, zero, suc, ◌+◌, ◌-◌, ◌*◌, ◌/◌, ◌%◌, ◌^◌, ◌<◌, ◌≤◌, Bool, cond, ◌==◌, List, [], ◌∷◌, ◌++◌, length, Option, Some, None, refl, sym, ◌∙◌, ap, ap₂, lit<, arith, length-append}
+-- Members before an index, from the top layer down; members of a range, from the lowest layer up; and the one at a place of their list.
+use Rattle.std.proofs.Common.{◌≡◌, ◌≢◌, ℕ, zero, suc, ◌+◌, ◌-◌, ◌*◌, ◌/◌, ◌%◌, ◌^◌, ◌<◌, ◌≤◌, Bool, cond, List, [], ◌∷◌, ◌++◌, length, Some, refl, sym, ◌∙◌, ap, ap₂, lit<, arith, length-append}
 use Rattle.std.specs.Prelude.{slice_get}
 use Rattle.std.specs.Int.{bit_at}
 use Rattle.std.proofs.Math.Nat.{pow-suc, one-le-pow, div-lt_iff_lt-mul, div-eq_of_lt, div-mul-le_self, lt-div-mul-add}
@@ -9,12 +9,12 @@ use Rattle.hibitset_base.specs.Sets.{IsLawful}
 use Rattle.hibitset_base.specs.Places.{places_in, bits_from, items_under, items_of}
 use Rattle.hibitset_base.specs.From.{bit_over}
 use Rattle.hibitset_base.specs.Ranks.{HasHead, start_over}
-use Rattle.hibitset_base.proofs.Members.{members-none, members-append, members-length}
+use Rattle.hibitset_base.proofs.Members.{members-none, members-append}
 use Rattle.hibitset_base.proofs.Firsts.{none_in}
 use Rattle.hibitset_base.proofs.Left.{eq_none}
 use Rattle.hibitset_base.proofs.Layers.{block_here}
 use Rattle.hibitset_base.proofs.Beginning.{over, word_within}
-use Rattle.hibitset_base.proofs.HeadLemmas.{items_of_head}
+use Rattle.hibitset_base.proofs.PartLemmas.{items_of_head}
 
 -- a place over an index lies in its layer
 pub place_below : (n i l : ℕ) → l ≤ n → i < 64 ^ n → i / 64 ^ l < 64 ^ (n - l)
@@ -32,7 +32,7 @@ start_next end l =
     ap (λ y. q * y) size ∙ turned
 
 -- and the place over it, so many places later
-start_here : (end l : ℕ) → start_over end l ≡ start_over end (l + 1) + end / 64 ^ l % 64 * 64 ^ l
+pub start_here : (end l : ℕ) → start_over end l ≡ start_over end (l + 1) + end / 64 ^ l % 64 * 64 ^ l
 start_here end l =
     let z : ℕ = 64 ^ l in
     let x : ℕ = end / 64 ^ l in
@@ -68,31 +68,17 @@ module _ (n : ℕ) (p : ℕ → Bool) (w : ℕ → ℕ → ℕ) (lawful : IsLawf
       sym block ∙ ap (λ b. cond b (items_under p l x) []) (eq_none (bit_at (w l q) (x - 64 * q)) off)
 
 -- nothing lies before the place over all
-none_start : (n end : ℕ) → end < 64 ^ n → start_over end n ≡ 0
+pub none_start : (n end : ℕ) → end < 64 ^ n → start_over end n ≡ 0
 none_start n end within = let none : end / 64 ^ n ≡ 0 = div-eq_of_lt within in ap (λ q. q * 64 ^ n) none ∙ omega arith
 
-pub count_none : (p : ℕ → Bool) (n end : ℕ) → end < 64 ^ n → 0 ≡ length (members_below (start_over end n) p)
-count_none p n end within = let few = members-length p 0 (start_over end n) in let none = none_start n end within in omega (arith, few, none)
-
 -- the members before the place over an index are those before its word and those under the word's head
-parts_here : (p : ℕ → Bool) (end l : ℕ) → members_below (start_over end l) p ≡ members_below (start_over end (l + 1)) p ++ members p (start_over end (l + 1)) (start_over end l - start_over end (l + 1))
+pub parts_here : (p : ℕ → Bool) (end l : ℕ) → members_below (start_over end l) p ≡ members_below (start_over end (l + 1)) p ++ members p (start_over end (l + 1)) (start_over end l - start_over end (l + 1))
 parts_here p end l =
     let s : ℕ = start_over end (l + 1) in
     let t : ℕ = start_over end l in
     let whole : t ≡ s + (t - s) = (let e = start_here end l in omega (arith, e)) in
     let first : 0 + s ≡ s = omega arith in
     ap (λ b. members_below b p) whole ∙ (members-append p 0 s (t - s) ∙ ap (λ a. members_below s p ++ members p a (t - s)) first)
-
-pub count_more : (p : ℕ → Bool) (end l count more : ℕ) → count ≡ length (members_below (start_over end (l + 1)) p) → more ≡ length (members p (start_over end (l + 1)) (start_over end l - start_over end (l + 1)))
-    → count + more ≡ length (members_below (start_over end l) p)
-count_more p end l count more before here =
-    let both = ap length (parts_here p end l) in
-    let sum = length-append (members_below (start_over end (l + 1)) p) (members p (start_over end (l + 1)) (start_over end l - start_over end (l + 1))) in
-    omega (arith, before, here, both, sum)
-
--- they are no more than the index
-pub count_fits : (p : ℕ → Bool) (end l : ℕ) → length (members_below (start_over end l) p) ≤ end
-count_fits p end l = let few = members-length p 0 (start_over end l) in let less = div-mul-le_self end (64 ^ l) in omega (arith, few, less)
 
 -- where the place over the index has none, they are all before the index
 pub ends_before : (p : ℕ → Bool) (end l : ℕ) → members p (start_over end l) (64 ^ l) ≡ [] → members_below (start_over end l) p ≡ members_below end p
@@ -110,6 +96,46 @@ ends_before p end l none =
     append_none : (xs : List ℕ) → xs ++ [] ≡ xs
     append_none [] = refl
     append_none (x ∷ xs) = ap (λ ys. x ∷ ys) (append_none xs)
+
+-- a row of places, cut in two
+cut_row : (p : ℕ → Bool) (z a d e : ℕ) → members p (a * z) ((d + e) * z) ≡ members p (a * z) (d * z) ++ members p ((a + d) * z) (e * z)
+cut_row p z a d e =
+    let sum : (d + e) * z ≡ d * z + e * z = omega arith in
+    let next : a * z + d * z ≡ (a + d) * z = omega arith in
+    ap (members p (a * z)) sum ∙ (members-append p (a * z) (d * z) (e * z) ∙ ap (λ s. members p (a * z) (d * z) ++ members p s (e * z)) next)
+
+-- The positions of layer l from one on before another, which lie in different words: those of the first word, those of the words between, which are positions of the layer above, and those of the last word.
+module _ (p : ℕ → Bool) (l from to first last : ℕ) (apart : from / 64 < (to - 1) / 64) (first-is : first ≡ (from + 63) / 64) (last-is : last ≡ to / 64) where
+  parts_of_row : members p (from * 64 ^ l) ((to - from) * 64 ^ l)
+      ≡ members p (from * 64 ^ l) ((64 * first - from) * 64 ^ l) ++ (members p (first * 64 ^ (l + 1)) ((last - first) * 64 ^ (l + 1)) ++ members p (64 * last * 64 ^ l) ((to - 64 * last) * 64 ^ l))
+  parts_of_row =
+      let z : ℕ = 64 ^ l in
+      let d : ℕ = 64 * first - from in
+      let e : ℕ = 64 * (last - first) in
+      let f : ℕ = to - 64 * last in
+      let order : first ≤ last = omega (arith, apart, first-is, last-is) in
+      let whole : to - from ≡ d + (e + f) = omega (arith, apart, first-is, last-is, order) in
+      let begins : from + d ≡ 64 * first = omega (arith, first-is) in
+      let ends : 64 * first + e ≡ 64 * last = omega (arith, order) in
+      let size : 64 ^ (l + 1) ≡ z * 64 = (let s : l + 1 ≡ suc l = omega arith in ap (λ k. 64 ^ k) s ∙ pow-suc 64 l) in
+      let over : 64 * first * z ≡ first * 64 ^ (l + 1) = (let poly : 64 * first * z ≡ first * (z * 64) = omega arith in poly ∙ ap (λ y. first * y) (sym size)) in
+      let count : e * z ≡ (last - first) * 64 ^ (l + 1) = (let g : ℕ = last - first in let poly : 64 * g * z ≡ g * (z * 64) = omega arith in poly ∙ ap (λ y. g * y) (sym size)) in
+      ap (λ m. members p (from * z) (m * z)) whole
+      ∙ (cut_row p z from d (e + f)
+      ∙ ap (λ xs. members p (from * z) (d * z) ++ xs)
+      (ap (λ s. members p (s * z) ((e + f) * z)) begins
+      ∙ (cut_row p z (64 * first) e f ∙ ap₂ (λ xs s. xs ++ members p (s * z) (f * z)) (ap₂ (members p) over count) ends)))
+
+  pub row_counted : length (members p (from * 64 ^ l) ((to - from) * 64 ^ l))
+      ≡ length (members p (from * 64 ^ l) ((64 * first - from) * 64 ^ l)) + length (members p (64 * last * 64 ^ l) ((to - 64 * last) * 64 ^ l)) + length (members p (first * 64 ^ (l + 1)) ((last - first) * 64 ^ (l + 1)))
+  row_counted =
+      let xs : List ℕ = members p (from * 64 ^ l) ((64 * first - from) * 64 ^ l) in
+      let ys : List ℕ = members p (first * 64 ^ (l + 1)) ((last - first) * 64 ^ (l + 1)) in
+      let zs : List ℕ = members p (64 * last * 64 ^ l) ((to - 64 * last) * 64 ^ l) in
+      let whole = ap length parts_of_row in
+      let one = length-append xs (ys ++ zs) in
+      let two = length-append ys zs in
+      omega (arith, whole, one, two)
 
 -- The element at a place of a list, by the lists that it is put together of.
 get_front : (xs ys : List ℕ) (k : ℕ) → k < length xs → slice_get (xs ++ ys) k ≡ slice_get xs k

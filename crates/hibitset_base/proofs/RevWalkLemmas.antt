@@ -1,24 +1,29 @@
 -- Walks from the last member down.
-use Rattle.std.proofs.Common.{◌≡◌, ◌≢◌, ℕ, zero, suc, ◌+◌, ◌-◌, ◌*◌, ◌/◌, ◌%◌, ◌^◌, ◌<◌, ◌≤◌, Bool, true, false, cond, ◌==◌, List, [], ◌∷◌, ◌++◌, length, reverse, refl, sym, ◌∙◌, ap, arith, append_assoc, inl, inr}
-use Rattle.std.specs.Int.{bit_at}
+use Rattle.std.proofs.Common.{◌≡◌, ◌≢◌, ℕ, zero, suc, ◌+◌, ◌-◌, ◌*◌, ◌/◌, ◌%◌, ◌^◌, ◌<◌, ◌≤◌, Bool, true, cond, ◌==◌, List, [], ◌∷◌, ◌++◌, length, get_or, reverse, Option, None, Some, MatchOption, refl, sym, ◌∙◌, ap, arith, length-append, inl, inr}
+use Rattle.std.specs.Int.{bit_at, trailing_zeros, w64}
 use Rattle.std.specs.Iterator.Runs.{YieldsInOrder}
 use Rattle.std.proofs.iter.runs.Sources.{from_front, as_is}
-use Rattle.std.proofs.Math.Nat.{pow-suc}
+use Rattle.std.proofs.Math.Nat.{pow-succ'}
 use Rattle.std.proofs.lemmas.Bool.{cases_lt}
+use Rattle.std.proofs.lemmas.Grind.{flat_map-append}
 use Rattle.std.proofs.lemmas.List.{append-nil, reverse-append, length-reverse}
-use Rattle.std.proofs.lemmas.Nat.Bits.{bit_at-lt, bit_at-zero}
-use Rattle.hibitset_base.specs.RevWalk.{members_up_to, rev_items_left, RevWalkSteps}
-use Rattle.hibitset_base.specs.First.{IsLast, HasNone}
+use Rattle.std.proofs.lemmas.List.Elements.{All-append, All-pop}
+use Rattle.std.proofs.lemmas.Nat.Bits.{bit_at-lt}
+use mathlib.Core.List.{reverse_aux, reverse_aux-append}
 use Rattle.hibitset_base.specs.Members.{members, members_below}
-use Rattle.hibitset_base.specs.Sets.{IsLawful, bit_of}
-use Rattle.hibitset_base.specs.Places.{places_in, bits_from, items_of}
-use Rattle.hibitset_base.specs.Ranks.{HasHead}
+use Rattle.hibitset_base.specs.Sets.{IsLawful, IsExact}
+use Rattle.hibitset_base.specs.Places.{Place, places_in, bits_from, items_under, items_of}
+use Rattle.hibitset_base.specs.Reading.{words_under, words_of, Stands, AllStand, depth}
+use Rattle.hibitset_base.specs.RevPlaces.{rev_places, GoesBack}
+use Rattle.hibitset_base.specs.RevCursor.{rev_left}
+use Rattle.hibitset_base.specs.RevWalk.{rev_set_of, rev_items_left, RevKeepsOn, RevWalkSteps}
+use Rattle.hibitset_base.specs.declared.rev_iter.BitRevIter.{BitRevIter}
+use Rattle.hibitset_base.specs.declared.util.TheConstants.{LAYERS}
+use Rattle.hibitset_base.proofs.Descending.{drawn_from_word, fewer_after}
+use Rattle.hibitset_base.proofs.Layers.{one_member, read_word}
+use Rattle.hibitset_base.proofs.Left.{eq_one, eq_none, bits-first}
+use Rattle.hibitset_base.proofs.Masks.{takes_first}
 use Rattle.hibitset_base.proofs.Members.{members-none, members-same, members-append, members-length}
-use Rattle.hibitset_base.proofs.Blocks.{word_listed}
-use Rattle.hibitset_base.proofs.Counting.{items_in_word}
-use Rattle.hibitset_base.proofs.HeadLemmas.{items_of_head}
-use Rattle.hibitset_base.proofs.Layers.{one_member, zero_or_above}
-use Rattle.hibitset_base.proofs.Left.{eq_one, eq_none, bits-none}
 
 one_alone : (t : Bool) (x : ℕ) → t ≡ true → cond t (x ∷ []) [] ≡ x ∷ []
 one_alone t x e = rw e refl
@@ -80,81 +85,147 @@ module _ (s m r b : ℕ) (small : b < 64) (on : bit_at m b ≡ 1) (last : (c : �
       ∙ (ap (λ xs. members (test m) s b ++ xs) (append-nil (members (test m) (s + b) 1) ∙ one)
       ∙ ap (λ xs. xs ++ ((s + b) ∷ [])) (lower ∙ sym rest_is)))
 
--- places of layer 0 stand for themselves
-listed : (p : ℕ → Bool) (xs : List ℕ) → items_of p (places_in 0 xs) ≡ xs
-listed p xs = ap (items_of p) (sym (append-nil (places_in 0 xs))) ∙ (items_in_word p xs [] ∙ append-nil xs)
+-- several reads
+module _ {n : ℕ} {holds : ℕ → Bool} {word : ℕ → ℕ → ℕ} where
+  pub stays_back : (r : ℕ) (ps : List Place) → GoesBack n holds word r ps r ps
+  stays_back r ps = record { items = refl; count = refl; drawn = λ h. h; few = λ exact drawn. omega arith; some = λ exact drawn some. some }
 
--- The words of layer 0 of a set, and the members before them.
-module _ (n : ℕ) (p : ℕ → Bool) (w : ℕ → ℕ → ℕ) (lawful : IsLawful n p w) (some_layer : 0 < n) where
-  size_is : 64 ^ n ≡ 64 ^ (n - 1) * 64
-  size_is = let s : n ≡ suc (n - 1) = omega (arith, some_layer) in ap (λ k. 64 ^ k) s ∙ pow-suc 64 (n - 1)
+  pub both_back : {r s t : ℕ} {ps qs xs : List Place} → GoesBack n holds word r ps s qs → GoesBack n holds word s qs t xs → GoesBack n holds word r ps t xs
+  both_back a b = record {
+    items = b.items ∙ a.items;
+    count = b.count ∙ a.count;
+    drawn = λ h. b.drawn (a.drawn h);
+    few = λ exact drawn. let h = a.few exact drawn in let k = b.few exact (a.drawn drawn) in omega (arith, h, k);
+    some = λ exact drawn some. b.some exact (a.drawn drawn) (a.some exact drawn some);
+  }
 
-  word_inside : (x : ℕ) → x < 64 ^ n → x / 64 < 64 ^ (n - 1)
-  word_inside x within = let size = size_is in omega (arith, size, within)
+-- a list with an element is not empty
+some_behind : (xs : List Place) (y : Place) (ys : List Place) → xs ++ (y ∷ ys) ≢ []
+some_behind [] y ys e = cc
+some_behind (x ∷ xs) y ys e = cc
 
-  -- The last member before a word lies in the last word before it that has a bit.
-  module _ (start x v : ℕ) (aligned : start % 64 ≡ 0) (within : start ≤ 64 ^ n) (last : IsLast start p x) (read : v ≡ w 0 (x / 64)) where
-    inside : x / 64 < 64 ^ (n - 1)
-    inside = word_inside x (let h = last.within in omega (arith, h, within))
+-- the last place of a row of places lies in their layer
+depth_of_row : (l y : ℕ) (ys : List ℕ) (zs : List Place) → depth (reverse_aux (places_in l (y ∷ ys)) zs) ≡ l
+depth_of_row l y [] zs = refl
+depth_of_row l y (x ∷ ys) zs = depth_of_row l x ys ((record { layer = l; position = y }) ∷ zs)
 
-    pub up_to_word : members_below start p ≡ members_below (64 * (x / 64)) p ++ bits_from (64 * (x / 64)) v
-    up_to_word =
-        let q : ℕ = x / 64 in
-        let s : ℕ = 64 * q in
-        let before = last.within in
-        let ends : s + 64 ≤ start = omega (arith, before, aligned) in
-        let d : ℕ = start - (s + 64) in
-        let whole : start ≡ s + (64 + d) = omega (arith, ends) in
-        let first : 0 + s ≡ s = omega arith in
-        let parts : members_below start p ≡ members_below s p ++ members p s (64 + d) = ap (λ b. members_below b p) whole ∙ (members-append p 0 s (64 + d) ∙ ap (λ a. members_below s p ++ members p a (64 + d)) first) in
-        let none : members p (s + 64) d ≡ [] = members-none p (s + 64) d (λ i from below. last.none_after i (omega (arith, from)) (omega (arith, below, ends))) in
-        let word : members p s 64 ≡ bits_from s v = (let e : s ≡ q * 64 = omega arith in ap (λ a. members p a 64) e ∙ (word_listed n p w lawful some_layer q inside ∙ (ap (λ a. bits_from a (w 0 q)) (sym e) ∙ ap (bits_from s) (sym read)))) in
-        let rest : members p s (64 + d) ≡ bits_from s v = members-append p s 64 d ∙ (ap (λ xs. members p s 64 ++ xs) none ∙ (append-nil (members p s 64) ∙ word)) in
-        parts ∙ ap (λ xs. members_below s p ++ xs) rest
+depth_of_places : (l most : ℕ) (ys : List ℕ) (zs : List Place) → l ≤ most → depth zs ≤ most → depth (reverse_aux (places_in l ys) zs) ≤ most
+depth_of_places l most [] zs here rest = rest
+depth_of_places l most (y ∷ ys) zs here rest = let e = depth_of_row l y ys zs in omega (arith, e, here)
 
-    pub some_bit_there : 0 < v
-    some_bit_there = elim (zero_or_above v) [
-      | inr some ↦ some
-      | inl none ↦ absurd (
-          let whole : 64 * (x / 64) + x % 64 ≡ x = omega arith in
-          let law = lawful.members (x / 64) (x % 64) inside (omega arith) in
-          let on : bit_at (w 0 (x / 64)) (x % 64) ≡ 1 = law ∙ (ap (λ i. bit_of (p i)) whole ∙ ap bit_of last.stands) in
-          let off : bit_at (w 0 (x / 64)) (x % 64) ≡ 0 = ap (λ y. bit_at y (x % 64)) (sym read ∙ none) ∙ bit_at-zero (x % 64) in
-          omega (arith, on, off))
-    ]
+-- the next place of a walk down lies in one of its layers
+deep : (m s : ℕ → ℕ) (n most : ℕ) (zs : List Place) → n ≤ suc most → depth zs ≤ most → depth (reverse_aux (rev_places m s n) zs) ≤ most
+unfolding rev_places
+deep m s zero most zs upto rest = rest
+deep m s (suc l) most zs upto rest =
+    let row : List Place = places_in l (bits_from (s l) (m l)) in
+    let e = ap depth (reverse_aux-append row (rev_places m s l) zs) in
+    let h = deep m s l most (reverse_aux row zs) (omega (arith, upto)) (depth_of_places l most (bits_from (s l) (m l)) zs (omega (arith, upto)) rest) in
+    omega (arith, e, h)
 
-  -- the members before an index are those before its word, and the bits of that word before its own
-  pub up_to_index : (end v head : ℕ) → end < 64 ^ n → v ≡ w 0 (end / 64) → HasHead v (end % 64) head → members_below end p ≡ members_up_to p (64 * (end / 64)) head
-  up_to_index end v head within read has =
-      let q : ℕ = end / 64 in
-      let s : ℕ = 64 * q in
-      let c : ℕ = end % 64 in
-      let here : HasHead (w 0 q) c head = rw read at has in
-      let layers : 0 + (n - 1) + 1 ≡ n = omega (arith, some_layer) in
-      let items = items_of_head n p w lawful 0 (n - 1) q c head layers (word_inside end within) here in
-      let first : 64 * q * 64 ^ 0 ≡ s = omega arith in
-      let count : c * 64 ^ 0 ≡ c = omega arith in
-      let bits : bits_from s head ≡ members p s c = sym (listed p (bits_from s head)) ∙ (items ∙ (ap (λ a. members p a (c * 64 ^ 0)) first ∙ ap (members p s) count)) in
-      let whole : end ≡ s + c = omega arith in
-      let zero_more : 0 + s ≡ s = omega arith in
-      let parts : members_below end p ≡ members_below s p ++ members p s c = ap (λ b. members_below b p) whole ∙ (members-append p 0 s c ∙ ap (λ a. members_below s p ++ members p a c) zero_more) in
-      parts ∙ ap (λ xs. members_below s p ++ xs) (sym bits)
+pub few_layers_back : (m s : ℕ → ℕ) (d : ℕ) → depth (reverse (rev_places m s (suc d))) ≤ d
+few_layers_back m s d = deep m s (suc d) d [] (omega arith) (omega arith)
 
--- no member before a number
-pub none_below_it : (p : ℕ → Bool) (bound : ℕ) → HasNone bound p → members_below bound p ≡ []
-none_below_it p bound none = members-none p 0 bound (λ i from below. none i (omega (arith, below)))
+-- the depth of a list with a last place
+depth_last : (rest : List Place) (place : Place) → depth (reverse (rest ++ (place ∷ []))) ≡ place.layer
+depth_last rest place = ap depth (reverse-append rest (place ∷ []))
 
--- a word without bits has nothing more to give
-pub no_bits_left : (p : ℕ → Bool) (start word : ℕ) → word ≡ 0 → members_up_to p start word ≡ members_below start p
-no_bits_left p start word none = ap (λ xs. members_below start p ++ xs) (bits-none start word none) ∙ append-nil (members_below start p)
+depth_behind : (rest : List Place) (l y : ℕ) (ys : List ℕ) → depth (reverse (rest ++ places_in l (y ∷ ys))) ≡ l
+depth_behind rest l y ys = ap depth (reverse_aux-append rest (places_in l (y ∷ ys)) []) ∙ depth_of_row l y ys (reverse_aux rest [])
 
--- The last of a list is the first of the list reversed.
-pub step_back : (xs ys zs : List ℕ) (x : ℕ) → ys ≡ zs ++ (x ∷ []) → reverse (xs ++ ys) ≡ x ∷ reverse (xs ++ zs)
-step_back xs ys zs x last = ap (λ l. reverse (xs ++ l)) last ∙ (ap reverse (sym (append_assoc xs zs (x ∷ []))) ∙ reverse-append (xs ++ zs) (x ∷ []))
+-- Of a lawful set, the word under the last place is read, and its bits are put in the place's stead.
+module _ (n : ℕ) (p : ℕ → Bool) (w : ℕ → ℕ → ℕ) (lawful : IsLawful n p w) (l q : ℕ) (layer : l + 1 < n) (within : q < 64 ^ (n - (l + 1))) (fits : w l q < 2 ^ 64) (rest : List Place) where
+  abbrev place : Place
+  place = record { layer = suc l; position = q }
+
+  abbrev under : List Place
+  under = places_in l (bits_from (64 * q) (w l q))
+
+  same_items : items_of p (rest ++ under) ≡ items_of p (rest ++ (place ∷ []))
+  same_items =
+      flat_map-append (λ x. items_under p x.layer x.position) rest under
+      ∙ (ap (λ ys. items_of p rest ++ ys) (read_word n p w lawful l (n - (l + 1)) q (omega arith) within ∙ sym (append-nil (items_under p (suc l) q)))
+      ∙ sym (flat_map-append (λ x. items_under p x.layer x.position) rest (place ∷ [])))
+
+  one_word : (r : ℕ) → r + 1 + length (words_of w (rest ++ under)) ≡ r + length (words_of w (rest ++ (place ∷ [])))
+  one_word r =
+      let a = ap length (flat_map-append (λ x. words_under w x.layer x.position) rest under) in
+      let b = ap length (flat_map-append (λ x. words_under w x.layer x.position) rest (place ∷ [])) in
+      let la = length-append (words_of w rest) (words_of w under) in
+      let lb = length-append (words_of w rest) (words_of w (place ∷ [])) in
+      let more = fewer_after w l q [] in
+      let same = ap (λ ys. length (words_of w ys)) (append-nil under) in
+      omega (arith, a, b, la, lb, more, same)
+
+  some_bit : IsExact n w → Stands w place → 0 < w l q
+  some_bit exact stands =
+      let k : ℕ = n - 2 - l in
+      let k-is : n - (l + 1) ≡ suc k = omega arith in
+      let ss : 64 ^ suc k ≡ 64 * 64 ^ k = pow-succ' 64 k in
+      let within_here : q < 64 ^ suc k = rw k-is at within in
+      let above : q / 64 < 64 ^ k = omega arith in
+      let one : l + 1 ≡ suc l = omega arith in
+      let here : bit_at (w (l + 1) (q / 64)) (q % 64) ≡ 1 = rw one stands in
+      let some : 0 < w l (64 * (q / 64) + q % 64) = (exact.exact l (q / 64) (q % 64) layer above (omega arith)).0 here in
+      let whole : 64 * (q / 64) + q % 64 ≡ q = omega arith in
+      rw whole at some
+
+  -- the bits of a word that is not 0
+  some_place : 0 < w l q → (first : ℕ) × (more : List ℕ) × (bits_from (64 * q) (w l q) ≡ first ∷ more)
+  some_place some = (_, _, bits-first (64 * q) (w l q) (trailing_zeros w64 (w l q)) _ (takes_first (w l q) some fits))
+
+  pub goes_down_back : (r : ℕ) → GoesBack n p w r (rest ++ (place ∷ [])) (r + 1) (rest ++ under)
+  goes_down_back r = record {
+    items = same_items;
+    count = one_word r;
+    drawn = λ drawn. All-append (Stands w) rest under (All-pop (Stands w) (rest ++ (place ∷ [])) rest (Some place) refl drawn).0 (drawn_from_word w l q);
+    few = λ exact drawn.
+        let there = some_place (some_bit exact (All-pop (Stands w) (rest ++ (place ∷ [])) rest (Some place) refl drawn).1) in
+        let new : depth (reverse (rest ++ under)) ≡ l = ap (λ ys. depth (reverse (rest ++ places_in l ys))) there.2 ∙ depth_behind rest l there.0 there.1 in
+        let old = depth_last rest place in
+        omega (arith, new, old);
+    some = λ exact drawn _ none.
+        let there = some_place (some_bit exact (All-pop (Stands w) (rest ++ (place ∷ [])) rest (Some place) refl drawn).1) in
+        some_behind rest (record { layer = l; position = there.0 }) (places_in l there.1) (ap (λ ys. rest ++ places_in l ys) (sym there.2) ∙ none);
+  }
+
+-- an item behind others is the first of the list reversed
+pub last_item : (p : ℕ → Bool) (rest : List Place) (i : ℕ) → items_of p (rest ++ ((record { layer = 0; position = i }) ∷ [])) ≡ items_of p rest ++ (i ∷ [])
+last_item p rest i = flat_map-append (λ x. items_under p x.layer x.position) rest ((record { layer = 0; position = i }) ∷ [])
+
+last_words : (w : ℕ → ℕ → ℕ) (rest : List Place) (i : ℕ) → words_of w (rest ++ ((record { layer = 0; position = i }) ∷ [])) ≡ words_of w rest
+last_words w rest i = flat_map-append (λ x. words_under w x.layer x.position) rest ((record { layer = 0; position = i }) ∷ []) ∙ append-nil (words_of w rest)
+
+-- What a step shows of its cursor is what the walk's users see.
+module _ {T : Type 0} (holds : T → ℕ → Bool) (word : T → ℕ → ℕ → ℕ) (old new : BitRevIter T) (set : new.set ≡ old.set) where
+  keeps_back : {qs : List Place} → GoesBack LAYERS (holds old.set) (word old.set) old.reads.count (rev_left old.cursor) new.reads.count qs
+      → words_of (word old.set) qs ≡ words_of (word old.set) (rev_left new.cursor) → (AllStand (word old.set) qs → AllStand (word old.set) (rev_left new.cursor)) → RevKeepsOn word old new
+  unfolding rev_set_of
+  keeps_back goes same drawn = record {
+    set = set;
+    count = (let all = goes.count in let e = ap length same in let f = ap (λ s. length (words_of (word s) (rev_left new.cursor))) set in omega (arith, all, e, f));
+    drawn = λ before. rw set (drawn (goes.drawn before));
+    few = λ exact before. let few = goes.few exact before in let most = few_layers_back (λ l. get_or old.cursor.masks l 0) (λ l. get_or old.cursor.starts l 0) (LAYERS - 1) in omega (arith, few, most);
+  }
+
+  pub steps_back : (r : Option ℕ) → (r ≡ None → rev_left new.cursor ≡ [])
+      → MatchOption r (GoesBack LAYERS (holds old.set) (word old.set) old.reads.count (rev_left old.cursor) new.reads.count (rev_left new.cursor))
+      (λ i. GoesBack LAYERS (holds old.set) (word old.set) old.reads.count (rev_left old.cursor) new.reads.count (rev_left new.cursor ++ ((record { layer = 0; position = i }) ∷ [])))
+      → RevWalkSteps holds word old r new
+  unfolding rev_items_left
+  steps_back None end goes =
+      let none : rev_left new.cursor ≡ [] = end refl in
+      let items : rev_items_left holds new ≡ [] = ap (λ ps. reverse (items_of (holds new.set) ps)) none in
+      ((ap reverse (sym goes.items ∙ ap (items_of (holds old.set)) none), items), keeps_back goes refl (λ h. h))
+  steps_back (Some i) end goes =
+      let last = last_item (holds old.set) (rev_left new.cursor) i in
+      let turned : reverse (items_of (holds old.set) (rev_left old.cursor)) ≡ i ∷ reverse (items_of (holds old.set) (rev_left new.cursor)) =
+      ap reverse (sym goes.items ∙ last) ∙ reverse-append (items_of (holds old.set) (rev_left new.cursor)) (i ∷ []) in
+      (turned ∙ ap (λ s. i ∷ reverse (items_of (holds s) (rev_left new.cursor))) (sym set), keeps_back goes (last_words (word old.set) (rev_left new.cursor) i) (λ h. (All-pop (Stands (word old.set)) _ (rev_left new.cursor) (Some (record { layer = 0; position = i })) refl h).0))
 
 -- each run of such a walk gives what was left, in order
-pub back_runs : {T : Type 0} (holds : T → ℕ → Bool) → YieldsInOrder (RevWalkSteps holds) (rev_items_left holds)
-back_runs holds p s = as_is p (rev_items_left holds p.from) (from_front (RevWalkSteps holds) (λ x. x) (rev_items_left holds) (λ t u h. ap length h.0.0) (λ t x u h. h.0) p s)
+pub back_runs : {T : Type 0} (holds : T → ℕ → Bool) (word : T → ℕ → ℕ → ℕ) → YieldsInOrder (RevWalkSteps holds word) (rev_items_left holds)
+back_runs holds word p s = as_is p (rev_items_left holds p.from) (from_front (RevWalkSteps holds word) (λ x. x) (rev_items_left holds) (λ t u h. ap length h.0.0) (λ t x u h. h.0) p s)
 
 pub few_back : (p : ℕ → Bool) (bound : ℕ) {xs : List ℕ} → xs ≡ reverse (members_below bound p) → length xs ≤ bound
 few_back p bound e = let few = members-length p 0 bound in let same = ap length e in let turned = length-reverse (members_below bound p) in omega (arith, few, same, turned)

@@ -1,5 +1,5 @@
 -- A range of numbers as a set, a word at a time.
-use Rattle.std.specs.Prelude.{◌≡◌, ℕ, ◌+◌, ◌-◌, ◌*◌, ◌/◌, ◌%◌, ◌^◌, ◌<◌, ◌≤◌, Bool, true, false, ◌&&◌, nat_le, nat_lt, min, refl}
+use Rattle.std.specs.Prelude.{◌≡◌, ℕ, ◌+◌, ◌-◌, ◌*◌, ◌/◌, ◌%◌, ◌^◌, ◌<◌, ◌≤◌, Bool, true, false, ◌&&◌, nat_le, nat_lt, min}
 use Rattle.std.specs.Int.{bit_at}
 use Rattle.std.proofs.Common.{suc, arith, ap, ap₂, sym, ◌∙◌, inl, inr, lit<}
 use Rattle.std.proofs.Math.Nat.{pow-suc, pow-le-pow_right, one-le-pow, div-div-eq-div-mul, le-div_iff_mul-le}

@@ -1,13 +1,12 @@
 -- What a contract sees of a walk from the last member down.
-use Rattle.std.specs.Prelude.{◌≡◌, ℕ, Bool, List, ◌++◌, reverse, Option}
+use Rattle.std.specs.Prelude.{◌≡◌, ℕ, ◌+◌, ◌-◌, ◌≤◌, Bool, List, length, reverse, Option}
 use Rattle.std.specs.Iterator.{YieldsFirst}
-use Rattle.hibitset_base.specs.Members.{members_below}
-use Rattle.hibitset_base.specs.Places.{bits_from}
+use Rattle.hibitset_base.specs.Sets.{IsExact}
+use Rattle.hibitset_base.specs.Places.{Place, items_of}
+use Rattle.hibitset_base.specs.Reading.{words_of, AllStand}
+use Rattle.hibitset_base.specs.RevCursor.{rev_left}
 use Rattle.hibitset_base.specs.declared.rev_iter.BitRevIter.{BitRevIter}
-
--- the members before a word, and the bits that are left of it, ascending
-abbrev pub members_up_to : (ℕ → Bool) → ℕ → ℕ → List ℕ
-members_up_to holds start word = members_below start holds ++ bits_from start word
+use Rattle.hibitset_base.specs.declared.util.TheConstants.{LAYERS}
 
 module _ {T : Type 0} where
   -- the set that is walked over
@@ -16,8 +15,27 @@ module _ {T : Type 0} where
 
   -- the items that the walk has still to give, in order
   unfoldable pub rev_items_left : (T → ℕ → Bool) → BitRevIter T → List ℕ
-  rev_items_left holds walk = reverse (members_up_to (holds walk.set) walk.start walk.word)
+  rev_items_left holds walk = reverse (items_of (holds walk.set) (rev_left walk.cursor))
 
-  -- a step gives the first item that is left, and keeps the set
-  abbrev pub RevWalkSteps : (T → ℕ → Bool) → BitRevIter T → Option ℕ → BitRevIter T → Type 0
-  RevWalkSteps holds old item new = YieldsFirst (rev_items_left holds) old item new × (rev_set_of new ≡ rev_set_of old)
+  -- how many words the walk has read
+  abbrev pub rev_words_read : BitRevIter T → ℕ
+  rev_words_read walk = walk.reads.count
+
+  -- the words that the walk has still to read, in the order in which a walk up reads them
+  abbrev pub rev_words_ahead : (T → ℕ → ℕ → ℕ) → BitRevIter T → List Place
+  rev_words_ahead word walk = words_of (word walk.set) (rev_left walk.cursor)
+
+  -- the bits that the walk has left stand in its set's own words
+  abbrev pub IsRevDrawn : (T → ℕ → ℕ → ℕ) → BitRevIter T → Type 0
+  IsRevDrawn word walk = AllStand (word walk.set) (rev_left walk.cursor)
+
+  -- What a walk down keeps at each step: its set, how many words it reads in all, that it is drawn, and over exact summaries few reads.
+  pub record RevKeepsOn (word : T → ℕ → ℕ → ℕ) (old new : BitRevIter T) : Type 0 where
+    pub set : rev_set_of new ≡ rev_set_of old
+    pub count : rev_words_read new + length (rev_words_ahead word new) ≡ rev_words_read old + length (rev_words_ahead word old)
+    pub drawn : IsRevDrawn word old → IsRevDrawn word new
+    pub few : IsExact LAYERS (word (rev_set_of old)) → IsRevDrawn word old → rev_words_read new ≤ rev_words_read old + (LAYERS - 1)
+
+  -- a step gives the first item that is left
+  abbrev pub RevWalkSteps : (T → ℕ → Bool) → (T → ℕ → ℕ → ℕ) → BitRevIter T → Option ℕ → BitRevIter T → Type 0
+  RevWalkSteps holds word old item new = YieldsFirst (rev_items_left holds) old item new × RevKeepsOn word old new

@@ -8,7 +8,7 @@ use crate::util::{Index, LAYERS, SHIFT1, SHIFT2, SHIFT3, SHIFT4};
 
 // A word whose lowest `count` bits are set.
 #[inline]
-fn low_ones(count: usize) -> usize
+pub(crate) fn low_ones(count: usize) -> usize
     requires { count ≤ 64 }
     ensures { result ≡ 2 ^ count - 1 }
 {

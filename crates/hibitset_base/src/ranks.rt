@@ -1,16 +1,17 @@
-//! How many members come before an index, and which one stands at a place of their list.
-ghost use Rattle.std.specs.Prelude.{◌≡◌, ℕ, ◌+◌, ◌-◌, ◌*◌, ◌%◌, ◌/◌, ◌^◌, ◌<◌, ◌≤◌, [], false, length, min, slice_get};
+//! How many members lie between two indices, and which one is at a position of the list of all.
+ghost use Rattle.std.specs.Prelude.{◌≡◌, ℕ, ◌+◌, ◌-◌, ◌*◌, ◌%◌, ◌/◌, ◌^◌, ◌<◌, ◌≤◌, length, slice_get};
 ghost use Rattle.hibitset_base.specs.Members.{members, members_below};
 ghost use Rattle.hibitset_base.specs.Places.{places_in, bits_from, items_of};
-ghost use Rattle.hibitset_base.specs.Ranks.{HasHead, start_over};
+ghost use Rattle.hibitset_base.specs.Ranks.{HasHead, HasPart};
 ghost use Rattle.hibitset_base.specs.declared.util.TheConstants.{LAYERS, MAX_EID};
 
 use crate::cursor::Cursor;
 use crate::iter::{read, start};
 use crate::like::BitSetLike;
+use crate::range::low_ones;
 use crate::reads::Reads;
-use crate::util::{BITS, Index, LAYERS, MAX_EID};
-use crate::words::{count_left, count_members, count_under, step_block, take_bit, take_under};
+use crate::util::{Index, LAYERS};
+use crate::words::{count_left, count_under, step_block, take_bit, take_under};
 
 // The bits of a word before a bit.
 #[inline]
@@ -19,6 +20,19 @@ pub(crate) fn head(word: usize, bit: u32) -> usize
     ensures { HasHead word bit result }
 {
     word & ((1usize << bit) - 1)
+}
+
+// The bits of a word from one bit on before another.
+#[inline]
+fn part(word: usize, from: u32, to: u32) -> usize
+    requires order { from ≤ to }
+    requires few { to ≤ 64 }
+    ensures { HasPart word from to result }
+{
+    let upto = low_ones(to as usize);
+    let before = low_ones(from as usize);
+    let ones = upto - before;
+    word & ones
 }
 
 // How many members lie under the bits of a word of a layer, where the first bit lies at `start`.
@@ -39,45 +53,47 @@ fn count_bits<T: BitSetLike>(set: &T, layer: usize, start: u32, word: usize) -> 
     count_left(set, &mut cursor, &mut Reads::none())
 }
 
-// How many members lie under the bits before that over an index, in its word of a layer, and whether the bit over the index stands.
+// How many members lie at the positions of a layer from one on before another, all in one word. It reads no word if there is no such position.
 #[inline]
-fn count_beside<T: BitSetLike>(set: &T, layer: usize, end: Index) -> (usize, bool)
+fn count_part<T: BitSetLike>(set: &T, layer: usize, from: u32, to: u32) -> usize
     requires layer { layer < LAYERS }
-    requires within { end < MAX_EID }
-    ensures count { result.0 ≡ length (members (T.holds set.now) (start_over end (layer + 1)) (start_over end layer - start_over end (layer + 1))) }
-    ensures clear { result.1 ≡ false → members (T.holds set.now) (start_over end layer) (64 ^ layer) ≡ [] }
+    requires one_word { to ≤ 64 * (from / 64) + 64 }
+    requires within { to ≤ 64 ^ (LAYERS - layer) }
+    ensures { result ≡ length (members (T.holds set.now) (from * 64 ^ layer) ((to - from) * 64 ^ layer)) }
 {
-    let place = end >> (BITS * layer);
-    let word = read(set, &mut Reads::none(), layer, place >> BITS);
-    let count = count_bits(set, layer, place >> BITS << BITS, head(word, place % 64));
-    (count, word >> (place % 64) & 1 == 1)
+    if to <= from {
+        return 0;
+    }
+    let position = from / 64;
+    let word = read(set, &mut Reads::none(), layer, position);
+    let start = 64 * position;
+    count_bits(set, layer, start, part(word, from % 64, to - start))
 }
 
-// How many members lie before an index. It goes from the top layer down, as long as a bit stands over the index.
-fn count_before<T: BitSetLike>(set: &T, end: Index) -> usize
-    requires { end < MAX_EID }
-    ensures { result ≡ length (members_below end (T.holds set.now)) }
+// How many members lie from `start` on before `end`. In each layer it counts what is left of the words at the two ends, and leaves the words between them to the layer above.
+pub(crate) fn count_range<T: BitSetLike>(set: &T, start: Index, end: Index) -> usize
+    requires { end ≤ MAX_EID }
+    ensures { result ≡ length (members (T.holds set.now) start (end - start)) }
 {
     let mut count = 0;
-    'layers: for depth in 0..LAYERS {
-        let (more, stands) = count_beside(set, LAYERS - 1 - depth, end);
-        count += more;
-        if !stands {
+    let mut from = start;
+    let mut to = end;
+    'layers: for layer in 0..LAYERS {
+        if to <= from {
             return count;
         }
+        if from / 64 == (to - 1) / 64 {
+            return count + count_part(set, layer, from, to);
+        }
+        let first = (from + 63) / 64;
+        let last = to / 64;
+        let lower = count_part(set, layer, from, 64 * first);
+        let upper = count_part(set, layer, 64 * last, to);
+        count += lower + upper;
+        from = first;
+        to = last;
     }
     count
-}
-
-// How many members lie before a number.
-#[inline]
-pub(crate) fn count_below<T: BitSetLike>(set: &T, end: Index) -> usize
-    ensures { result ≡ length (members_below (min end MAX_EID) (T.holds set.now)) }
-{
-    if end as usize >= MAX_EID {
-        return count_members(set);
-    }
-    count_before(set, end)
 }
 
 // The index of the bit at a place of a word, where its bits are counted from the lowest up.

@@ -1,127 +1,194 @@
-//! Walks from the last member down.
+//! Walks over a set, in descending order.
 #![tactic(auto, unfolding(crate::specs::RevWalk::rev_items_left, crate::specs::RevWalk::rev_set_of))]
 
-ghost use Rattle.std.specs.Prelude.{◌≡◌, ℕ, ◌+◌, ◌-◌, ◌*◌, ◌/◌, ◌%◌, ◌^◌, ◌<◌, ◌≤◌, ◌++◌, ◌∷◌, [], true, false, length, reverse, min, MatchOption, IfSome};
+ghost use Rattle.std.specs.Prelude.{◌≡◌, ℕ, ◌+◌, ◌-◌, ◌*◌, ◌^◌, ◌<◌, ◌≤◌, ◌++◌, ◌∷◌, [], Bool, true, false, None, length, reverse, min, MatchOption};
 ghost use Rattle.std.specs.Iterator.{item_count};
 ghost use Rattle.std.specs.Iterator.Runs.{YieldsInOrder};
-ghost use Rattle.hibitset_base.specs.Members.{members_below};
-ghost use Rattle.hibitset_base.specs.Places.{bits_from};
+ghost use Rattle.hibitset_base.specs.Members.{members, members_below};
+ghost use Rattle.hibitset_base.specs.Places.{places_in, items_of};
+ghost use Rattle.hibitset_base.specs.Ranks.{start_over};
+ghost use Rattle.hibitset_base.specs.Reading.{words_under, words_of, AllStand, Encloses, IsBoundBy};
+ghost use Rattle.hibitset_base.specs.RevCursor.{rev_left, rev_mask, IsRevEmptyBelow};
+ghost use Rattle.hibitset_base.specs.RevPlaces.{GoesBack};
+ghost use Rattle.hibitset_base.specs.RevWalk.{rev_set_of, rev_items_left, rev_words_read, rev_words_ahead, IsRevDrawn, RevWalkSteps};
 ghost use Rattle.hibitset_base.specs.declared.util.TheConstants.{LAYERS, MAX_EID};
 
-use crate::bits::take_last_bit;
-use crate::last::find_last_below;
+use crate::iter::read;
 use crate::like::BitSetLike;
 use crate::ranks::head;
-use crate::util::{Index, MAX_EID};
+use crate::reads::Reads;
+use crate::rev_cursor::RevCursor;
+use crate::util::{BITS, Index, LAYERS, MAX_EID};
 
 /// A walk over the members of a set, in descending order.
-///
-/// It keeps the bits of one word of layer 0 that it has still to give, and looks for the word before it when there are none.
 #[derive(Debug, Drop)]
 pub struct BitRevIter<T> {
     pub(crate) set: T,
-    // Where the word begins: all members before it are left.
-    pub(crate) start: Index,
-    pub(crate) word: usize,
-    ghost aligned: { start % 64 ≡ 0 },
-    ghost within: { start ≤ MAX_EID },
+    pub(crate) cursor: RevCursor<LAYERS>,
+    pub(crate) reads: Reads,
 }
 
-// The last word of layer 0 that has a bit, of those before the one that begins at `start`: where it begins, and the word.
+// Reads the top word of a set, and returns where a walk down begins.
 #[inline]
-fn word_before<T: BitSetLike>(set: &T, start: Index) -> Option<(Index, usize)>
-    requires aligned { start % 64 ≡ 0 }
-    requires within { start ≤ MAX_EID }
-    ensures found { MatchOption result (members_below start (T.holds set.now) ≡ []) (λ found. members_below start (T.holds set.now) ≡ members_below found.0 (T.holds set.now) ++ bits_from found.0 found.1) }
-    ensures some { IfSome result (λ found. (0 < found.1) × (found.0 % 64 ≡ 0) × (found.0 < start)) }
+pub(crate) fn start_at_end<T: BitSetLike>(set: &T, reads: &mut Reads) -> RevCursor<LAYERS>
+    ensures reads { reads.new.count ≡ reads.old.count + 1 }
+    ensures items { items_of (T.holds set.now) (rev_left result) ≡ members_below MAX_EID (T.holds set.now) }
+    ensures drawn { AllStand (T.word set.now) (rev_left result) }
+    ensures bound { (p : ℕ → Bool) (a : ℕ → ℕ → ℕ) → Encloses LAYERS p a (T.word set.now) → IsBoundBy LAYERS p (words_of (T.word set.now) (rev_left result)) }
+    ensures ahead { words_under (T.word set.now) LAYERS 0 ≡ (record { layer = LAYERS - 1; position = 0 }) ∷ words_of (T.word set.now) (rev_left result) }
 {
-    let Some(last) = find_last_below(set, start) else {
-        return None;
-    };
-    let place = last / 64;
-    Some((64 * place, set.layer0(place as usize)))
+    let word = read(set, reads, LAYERS - 1, 0);
+    let mut cursor = RevCursor::<LAYERS>::empty();
+    cursor.put(LAYERS - 1, 0, word);
+    cursor
 }
 
-// Takes the last bit of a word whose first bit is at `start`, and answers its index.
+// Reads the word over an index in a layer, leaves its bits before the index to the walk, and returns whether the bit over the index is set.
 #[inline]
-fn take_last(start: Index, rest: &mut usize) -> Index
-    requires some { 0 < rest.old }
-    requires within { start ≤ MAX_EID }
-    ensures { bits_from start rest.old ≡ bits_from start rest.new ++ (result ∷ []) }
+pub(crate) fn put_head<T: BitSetLike>(
+    set: &T,
+    cursor: &mut RevCursor<LAYERS>,
+    reads: &mut Reads,
+    layer: usize,
+    end: Index,
+) -> bool
+    requires layer { layer < LAYERS }
+    requires within { end < MAX_EID }
+    requires lowest { IsRevEmptyBelow cursor.old (layer + 1) }
+    ensures items { items_of (T.holds set.now) (rev_left cursor.new) ≡ items_of (T.holds set.now) (rev_left cursor.old) ++ members (T.holds set.now) (start_over end (layer + 1)) (start_over end layer - start_over end (layer + 1)) }
+    ensures drawn { AllStand (T.word set.now) (rev_left cursor.old) → AllStand (T.word set.now) (rev_left cursor.new) }
+    ensures clear { result ≡ false → members (T.holds set.now) (start_over end layer) (64 ^ layer) ≡ [] }
+    ensures reads { reads.new.count ≡ reads.old.count + 1 }
+    ensures below { IsRevEmptyBelow cursor.new layer }
 {
-    start + take_last_bit(rest) as Index
+    let place = end >> (BITS * layer);
+    let word = read(set, reads, layer, place >> BITS);
+    cursor.put(layer, place >> BITS, head(word, place % 64));
+    word >> (place % 64) & 1 == 1
+}
+
+// Reads the words over an index from the top layer down, as long as the bit over the index is set, and returns where a walk down begins that gives the members before it.
+#[inline]
+fn start_before<T: BitSetLike>(set: &T, reads: &mut Reads, end: Index) -> RevCursor<LAYERS>
+    requires { end < MAX_EID }
+    ensures read { reads.new.count ≤ reads.old.count + LAYERS }
+    ensures items { items_of (T.holds set.now) (rev_left result) ≡ members_below end (T.holds set.now) }
+    ensures drawn { AllStand (T.word set.now) (rev_left result) }
+{
+    let mut cursor = RevCursor::<LAYERS>::empty();
+    'layers: for depth in 0..LAYERS {
+        if !put_head(set, &mut cursor, reads, LAYERS - 1 - depth, end) {
+            return cursor;
+        }
+    }
+    cursor
+}
+
+// Reads the word under the last bit of `layer`, to go on from there. False if no bit is left in `layer`.
+#[inline]
+fn descend_last<T: BitSetLike>(
+    set: &T,
+    cursor: &mut RevCursor<LAYERS>,
+    reads: &mut Reads,
+    layer: usize,
+) -> bool
+    requires layer { layer < LAYERS }
+    requires above { 0 < layer }
+    requires lowest { IsRevEmptyBelow cursor.old layer }
+    ensures none { result ≡ false → IsRevEmptyBelow cursor.new (layer + 1) }
+    ensures goes { GoesBack LAYERS (T.holds set.now) (T.word set.now) reads.old.count (rev_left cursor.old) reads.new.count (rev_left cursor.new) }
+    ensures same { result ≡ false → reads.new.count ≡ reads.old.count }
+    ensures more { result ≡ true → reads.old.count < reads.new.count }
+{
+    if cursor.is_empty(layer) {
+        return false;
+    }
+    let position = cursor.take_last(layer);
+    let word = read(set, reads, layer - 1, position);
+    cursor.put(layer - 1, position, word);
+    true
+}
+
+// Reads the word under the last place that is left, where none is left in layer 0. False if none is left.
+#[inline]
+fn refill_last<T: BitSetLike>(set: &T, cursor: &mut RevCursor<LAYERS>, reads: &mut Reads) -> bool
+    requires { IsRevEmptyBelow cursor.old 1 }
+    ensures none { result ≡ false → IsRevEmptyBelow cursor.new LAYERS }
+    ensures goes { GoesBack LAYERS (T.holds set.now) (T.word set.now) reads.old.count (rev_left cursor.old) reads.new.count (rev_left cursor.new) }
+    ensures more { result ≡ true → reads.old.count < reads.new.count }
+{
+    'layers: for layer in 1..LAYERS {
+        if descend_last(set, cursor, reads, layer) {
+            return true;
+        }
+    }
+    false
+}
+
+// The last index that is left, which is taken.
+#[inline(always)]
+pub(crate) fn step_last<T: BitSetLike>(
+    set: &T,
+    cursor: &mut RevCursor<LAYERS>,
+    reads: &mut Reads,
+) -> Option<Index>
+    ensures end { result ≡ None → (rev_left cursor.new ≡ []) }
+    ensures goes { MatchOption result (GoesBack LAYERS (T.holds set.now) (T.word set.now) reads.old.count (rev_left cursor.old) reads.new.count (rev_left cursor.new)) (λ i. GoesBack LAYERS (T.holds set.now) (T.word set.now) reads.old.count (rev_left cursor.old) reads.new.count (rev_left cursor.new ++ ((record { layer = 0; position = i }) ∷ []))) }
+{
+    'layers: while cursor.is_empty(0) {
+        if !refill_last(set, cursor, reads) {
+            return None;
+        }
+    }
+    Some(cursor.take_last(0))
 }
 
 impl<T: BitSetLike> BitRevIter<T> {
-    ghost use Rattle.hibitset_base.specs.RevWalk.{rev_set_of, rev_items_left, RevWalkSteps};
-
     // Starts at the end of the set.
     #[inline]
     pub(crate) fn from_end(set: T) -> Self
         ensures set { rev_set_of result ≡ set }
         ensures items { rev_items_left T.holds result ≡ reverse (members_below MAX_EID (T.holds set)) }
-        ensures runs { YieldsInOrder (RevWalkSteps T.holds) (rev_items_left T.holds) }
+        ensures drawn { IsRevDrawn T.word result }
+        ensures read { rev_words_read result ≡ 1 }
+        ensures bound { (p : ℕ → Bool) (a : ℕ → ℕ → ℕ) → Encloses LAYERS p a (T.word set) → IsBoundBy LAYERS p (rev_words_ahead T.word result) }
+        ensures ahead { words_under (T.word set) LAYERS 0 ≡ (record { layer = LAYERS - 1; position = 0 }) ∷ rev_words_ahead T.word result }
+        ensures runs { YieldsInOrder (RevWalkSteps T.holds T.word) (rev_items_left T.holds) }
         ensures fits { length (rev_items_left T.holds result) ≤ MAX_EID }
     {
-        BitRevIter {
-            set,
-            start: MAX_EID as Index,
-            word: 0,
-        }
+        let mut reads = Reads::none();
+        let cursor = start_at_end(&set, &mut reads);
+        BitRevIter { set, cursor, reads }
     }
 
-    // Starts before a number.
+    // Starts before an index.
     #[inline]
     pub(crate) fn from_before(set: T, end: Index) -> Self
         ensures set { rev_set_of result ≡ set }
         ensures items { rev_items_left T.holds result ≡ reverse (members_below (min end MAX_EID) (T.holds set)) }
-        ensures runs { YieldsInOrder (RevWalkSteps T.holds) (rev_items_left T.holds) }
+        ensures drawn { IsRevDrawn T.word result }
+        ensures read { rev_words_read result ≤ LAYERS }
+        ensures runs { YieldsInOrder (RevWalkSteps T.holds T.word) (rev_items_left T.holds) }
         ensures fits { length (rev_items_left T.holds result) ≤ min end MAX_EID }
     {
         if end as usize >= MAX_EID {
             return BitRevIter::from_end(set);
         }
-        let word = head(set.layer0(end as usize / 64), end % 64);
-        BitRevIter {
-            set,
-            start: 64 * (end / 64),
-            word,
-        }
-    }
-
-    // Sees to it that the word has a bit, where an item is left.
-    #[inline]
-    fn refill(&mut self) -> bool
-        ensures none { result ≡ false → (rev_items_left T.holds self.old ≡ []) × (rev_items_left T.holds self.new ≡ []) }
-        ensures some { result ≡ true → (0 < self.new.word) × (rev_items_left T.holds self.new ≡ rev_items_left T.holds self.old) }
-        ensures set { rev_set_of self.new ≡ rev_set_of self.old }
-    {
-        if self.word != 0 {
-            return true;
-        }
-        let Some((start, word)) = word_before(&self.set, self.start) else {
-            return false;
-        };
-        self.start = start;
-        self.word = word;
-        true
+        let mut reads = Reads::none();
+        let cursor = start_before(&set, &mut reads, end);
+        BitRevIter { set, cursor, reads }
     }
 }
 
 impl<T: BitSetLike> Iterator for BitRevIter<T> {
-    ghost use Rattle.hibitset_base.specs.RevWalk.{rev_items_left, RevWalkSteps};
-
     type Item = Index;
 
-    ghost next_gives = { RevWalkSteps T.holds };
+    ghost next_gives = { RevWalkSteps T.holds T.word };
 
     ghost remaining = { item_count (rev_items_left T.holds) };
 
     #[inline]
     fn next(&mut self) -> Option<Index> {
-        if !self.refill() {
-            return None;
-        }
-        Some(take_last(self.start, &mut self.word))
+        step_last(&self.set, &mut self.cursor, &mut self.reads)
     }
 }

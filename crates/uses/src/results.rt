@@ -1,5 +1,5 @@
 //! Rows that a search found: the middle one, pages of the list forth and back, and how many lie in each window.
-ghost use Rattle.std.specs.Prelude.{◌≡◌, ℕ, ◌-◌, ◌<◌, ◌≤◌, ◌&&◌, [], nat_le, take, drop, length, min, false, slice_index, IfOk, MatchOption, Some, slice_get};
+ghost use Rattle.std.specs.Prelude.{◌≡◌, ℕ, ◌-◌, ◌<◌, ◌≤◌, ◌&&◌, [], nat_le, take, drop, length, min, reverse, false, slice_index, IfOk, MatchOption, Some, slice_get};
 ghost use Rattle.hibitset_base.specs.Members.{members, members_below};
 ghost use Rattle.hibitset_base.specs.declared.util.TheConstants.{MAX_EID};
 ghost use Rattle.hibitset.specs.BitSet.{has, members_of};
@@ -55,6 +55,18 @@ pub fn page(
     }
 }
 
+// The last rows before a row, at most `count`, in descending order.
+fn last_rows(
+    alloc: Global,
+    found: &BitSet,
+    row: Index,
+    count: usize,
+) -> Result<Vec<Index>, AllocError>
+    ensures { IfOk result (λ rows. rows.items ≡ take count (reverse (members_below (min row MAX_EID) (has found.now)))) }
+{
+    found.iter_rev_before(row).take(count).collect(alloc)
+}
+
 /// The page before one that begins with `row`: the last rows before it, at most `count`, in ascending order.
 pub fn page_before(
     alloc: Global,
@@ -64,7 +76,7 @@ pub fn page_before(
 ) -> Result<Vec<Index>, AllocError>
     ensures { IfOk result (λ page. page.items ≡ drop (length (members_below (min row MAX_EID) (has found.now)) - count) (members_below (min row MAX_EID) (has found.now))) }
 {
-    let mut page: Vec<Index> = found.iter_rev_before(row).take(count).collect(alloc)?;
+    let mut page = last_rows(alloc, found, row, count)?;
     page.reverse();
     Ok(page)
 }

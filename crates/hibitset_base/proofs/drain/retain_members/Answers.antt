@@ -1,4 +1,4 @@
-use Rattle.std.proofs.Common.{◌≡◌, ◌≢◌, ℕ, Bool, ◌+◌, ◌∷◌, [], length, refl, sym, ◌∙◌, ap, arith}
+use Rattle.std.proofs.Common.{◌≡◌, ℕ, Bool, ◌+◌, ◌∷◌, [], length, refl, sym, ◌∙◌, ap, arith}
 use Rattle.hibitset_base.specs.Cursor.{left}
 use Rattle.hibitset_base.specs.Places.{items_of}
 use Rattle.hibitset_base.specs.declared.util.TheConstants.{LAYERS, MAX_EID}

@@ -1,4 +1,4 @@
-use Rattle.std.proofs.Common.{◌≡◌, ℕ, ◌+◌, ◌-◌, ◌*◌, ◌^◌, ◌<◌, ◌≤◌, min, ◌∙◌, ap₂, lit<, arith}
+use Rattle.std.proofs.Common.{◌≡◌, ℕ, ◌-◌, ◌*◌, ◌^◌, ◌<◌, ◌≤◌, min, ◌∙◌, ap₂, lit<, arith}
 use Rattle.std.proofs.Math.Nat.{one-le-pow}
 use Rattle.hibitset_base.specs.Ranges.{run_word}
 use Rattle.hibitset_base.proofs.range.bits_between.Goals as goal

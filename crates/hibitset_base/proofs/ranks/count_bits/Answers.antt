@@ -1,5 +1,4 @@
-use Rattle.std.proofs.Common.{◌≡◌, ℕ, ◌++◌, [], length, sym, ◌∙◌, ap, arith}
-use Rattle.std.specs.Int.RustNames.{count_ones}
+use Rattle.std.proofs.Common.{◌≡◌, [], length, sym, ◌∙◌, ap, arith}
 use Rattle.std.proofs.lemmas.List.{append-nil}
 use Rattle.hibitset_base.specs.Places.{places_in, bits_from, items_of}
 use Rattle.hibitset_base.proofs.Counting.{bits-count, items_in_word}

@@ -1,6 +1,5 @@
-use Rattle.std.proofs.Common.{◌≡◌, [], refl, sym, ◌∙◌, ap, arith}
+use Rattle.std.proofs.Common.{◌∙◌, ap, arith}
 use Rattle.std.specs.Prelude.{slice_get}
-use Rattle.hibitset_base.specs.Places.{places_in, bits_from, items_of}
 use Rattle.hibitset_base.specs.Cursor.{left}
 use Rattle.hibitset_base.proofs.Blocks.{takes_block, fewer_after_block}
 use Rattle.hibitset_base.proofs.RankLemmas.{in_front, in_rest}

@@ -1,5 +1,5 @@
 use Rattle.hibitset_base.proofs.Cutting.{cuts_at, lower_ones}
-use Rattle.hibitset_base.proofs.HeadLemmas.{head_cut}
+use Rattle.hibitset_base.proofs.PartLemmas.{head_cut}
 use Rattle.hibitset_base.proofs.ranks.head.Goals as goal
 
 pub returns : goal.returns

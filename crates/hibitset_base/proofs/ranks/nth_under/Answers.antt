@@ -1,4 +1,4 @@
-use Rattle.std.proofs.Common.{refl, sym, ◌∙◌, ap, arith}
+use Rattle.std.proofs.Common.{refl, sym, ◌∙◌, ap}
 use Rattle.std.specs.Prelude.{slice_get}
 use Rattle.hibitset_base.specs.Places.{places_in, bits_from, items_of}
 use Rattle.hibitset_base.proofs.Counting.{bits-count}
