@@ -14,6 +14,7 @@ pub mod Lengths
 pub mod Sizes
 pub mod Ranging
 pub mod Filling
+pub mod FlipLemmas
 pub mod Stepping
 pub mod Folding
 pub mod Differing

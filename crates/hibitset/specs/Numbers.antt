@@ -1,11 +1,8 @@
--- Tests of a number: whether it lies in a range, and whether its bit stands in a list of words; and words in which the bits of a range were set or cleared.
-use Rattle.std.specs.Prelude.{◌≡◌, ℕ, ◌+◌, ◌*◌, ◌/◌, ◌%◌, ◌<◌, ◌↔◌, Bool, true, false, ◌==◌, ◌&&◌, if◌then◌else◌, nat_le, nat_lt, List, get_or}
+-- Whether the bit of a number stands in a list of words, and words in which the bits of a range were set or cleared.
+use Rattle.std.specs.Prelude.{◌≡◌, ℕ, ◌+◌, ◌*◌, ◌/◌, ◌%◌, ◌<◌, ◌↔◌, Bool, true, false, ◌==◌, if◌then◌else◌, List, get_or}
 use Rattle.std.specs.Int.{bit_at}
 use Rattle.hibitset_base.specs.Sets.{bit_of}
-
--- the number lies from `start` on and before `end`
-abbrev pub in_range : ℕ → ℕ → ℕ → Bool
-in_range start end i = nat_le start i && nat_lt i end
+pub use Rattle.hibitset_base.specs.Ranges.{in_range}
 
 -- the bit of the number stands in these words of layer 0
 abbrev pub stands_in : List ℕ → ℕ → Bool

@@ -17,7 +17,7 @@ use hibitset_base::bits::{last_bit, take_bit, take_last_bit, with_bit};
 use hibitset_base::like::BitSetLike;
 use hibitset_base::util::{Index, LAYERS, MAX_EID};
 use std::alloc::AllocError;
-use std::ops::BitAndAssign;
+use std::ops::{BitAndAssign, SubAssign};
 
 // The set with no members, which is merged in where the other has no word.
 #[derive(Drop)]
@@ -328,5 +328,14 @@ impl<B: BitSetLike> BitAndAssign<&B> for BitSet {
 
     fn bitand_assign(&mut self, other: &B) {
         self.merge_with::<And, B>(other);
+    }
+}
+
+/// Takes out the members that are in the other set, as `subtract_assign` does. It takes no memory.
+impl<B: BitSetLike> SubAssign<&B> for BitSet {
+    ghost sub_assign_gives = { λ old other new. IsDifference (has old) (B.holds other.now) (has new) × (slice_len new 0 ≡ slice_len old 0) };
+
+    fn sub_assign(&mut self, other: &B) {
+        self.subtract_assign(other);
     }
 }

@@ -19,8 +19,8 @@ pub use hibitset_atomic::{
     World, atomic, ops as atomic_ops, path, shared, steps,
 };
 pub use hibitset_base::{
-    BitIter, BitParIter, BitProducer, BitSetAll, BitSetAnd, BitSetLike, BitSetNot, BitSetOr,
-    BitSetXor, DrainBitIter, DrainableBitSet, Index, LAYERS, MAX_EID, drain, iter, like, parallel,
-    virt,
+    BitIter, BitParIter, BitProducer, BitRevIter, BitSetAll, BitSetAnd, BitSetLike, BitSetNot,
+    BitSetOr, BitSetRange, BitSetXor, DrainBitIter, DrainableBitSet, Index, LAYERS, MAX_EID, drain,
+    iter, like, parallel, virt,
 };
 pub use set::BitSet;

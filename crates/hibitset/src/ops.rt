@@ -1,6 +1,6 @@
-//! Operators over the sets that keep their words: `!`, `&`, `|` and `^` make a virtual set of their operands, and `into_iter` a walk.
+//! Operators over the sets that keep their words: `!`, `&`, `|`, `^` and `-` make a virtual set of their operands, and `into_iter` a walk.
 ghost use Rattle.std.specs.Prelude.{◌≡◌};
-ghost use Rattle.hibitset_base.specs.Connectives.{IsComplement, IsIntersection, IsUnion, IsExclusive};
+ghost use Rattle.hibitset_base.specs.Connectives.{IsComplement, IsDifference, IsExclusive, IsIntersection, IsUnion};
 ghost use Rattle.hibitset_base.specs.Walk.{Starts};
 ghost use Rattle.hibitset.specs.BitSet.{has, word_of};
 
@@ -9,7 +9,7 @@ use hibitset_base::iter::BitIter;
 use hibitset_base::like::BitSetLike;
 use hibitset_base::util::Index;
 use hibitset_base::virt::{BitSetAnd, BitSetNot, BitSetOr, BitSetXor};
-use std::ops::{BitAnd, BitOr, BitXor, Not};
+use std::ops::{BitAnd, BitOr, BitXor, Not, Sub};
 
 impl Not for BitSet {
     type Output = BitSetNot<Self>;
@@ -52,6 +52,17 @@ impl<T: BitSetLike> BitXor<T> for BitSet {
     #[inline]
     fn bitxor(self, rhs: T) -> BitSetXor<Self, T> {
         BitSetXor(self, rhs)
+    }
+}
+
+impl<T: BitSetLike> Sub<T> for BitSet {
+    type Output = BitSetAnd<Self, BitSetNot<T>>;
+
+    ghost sub_gives = { λ set other result. (result.0 ≡ set) × (result.1.0 ≡ other) × IsDifference (has set) (T.holds other) (⟦<Self::Output as BitSetLike>⟧.holds result) };
+
+    #[inline]
+    fn sub(self, rhs: T) -> BitSetAnd<Self, BitSetNot<T>> {
+        BitSetAnd(self, BitSetNot(rhs))
     }
 }
 
@@ -109,6 +120,17 @@ impl<'a, T: BitSetLike> BitXor<T> for &'a BitSet {
     #[inline]
     fn bitxor(self, rhs: T) -> BitSetXor<Self, T> {
         BitSetXor(self, rhs)
+    }
+}
+
+impl<'a, T: BitSetLike> Sub<T> for &'a BitSet {
+    type Output = BitSetAnd<Self, BitSetNot<T>>;
+
+    ghost sub_gives = { λ set other result. (result.0 ≡ set) × (result.1.0 ≡ other) × IsDifference (has set.now) (T.holds other) (⟦<Self::Output as BitSetLike>⟧.holds result) };
+
+    #[inline]
+    fn sub(self, rhs: T) -> BitSetAnd<Self, BitSetNot<T>> {
+        BitSetAnd(self, BitSetNot(rhs))
     }
 }
 

@@ -1,10 +1,11 @@
-//! Ranges of indices, added and taken out by whole words.
+//! Ranges of indices, added, taken out and flipped by whole words.
 #![tactic(auto, unfolding(crate::specs::BitSet::has, crate::specs::BitSet::word_of))]
 
 ghost use Rattle.std.specs.Prelude.{◌≡◌, ◌≢◌, ◌⊎◌, ℕ, ◌+◌, ◌-◌, ◌*◌, ◌/◌, ◌%◌, ◌^◌, ◌<◌, ◌≤◌, ◌==◌, ◌||◌, ◌&&◌, not, if◌then◌else◌, true, false, nat_lt, OnOk, OnErr, IsOk, max};
 ghost use Rattle.std.specs.Int.{bit_at};
 ghost use Rattle.hibitset_base.specs.Sets.{bit_of};
 ghost use Rattle.hibitset_base.specs.declared.util.TheConstants.{LAYERS, MAX_EID};
+ghost use Rattle.hibitset_base.specs.Virtual.{differ};
 ghost use Rattle.hibitset_base.specs.Words.{IsSummed};
 ghost use Rattle.hibitset.specs.BitSet.{has, word_of, slice_len};
 ghost use Rattle.hibitset.specs.Layers.{word_in, len_in};
@@ -12,6 +13,7 @@ ghost use Rattle.hibitset.specs.Numbers.{in_range, PutsRange};
 
 use crate::layers::Layers;
 use crate::set::BitSet;
+use hibitset_base::range::BitSetRange;
 use hibitset_base::util::{Index, LAYERS, MAX_EID};
 use std::alloc::AllocError;
 
@@ -219,5 +221,23 @@ impl BitSet {
         if (start as usize) < end {
             self.layers.blank(start as usize, end);
         }
+    }
+
+    /// Flips the indices from `start` on before `end`, which is at most `MAX_EID`: those in the set are taken out, and the others are added. If `end` is not above `start` nothing changes. If memory is refused the members stay.
+    ///
+    /// It makes one request for memory at most, and none where the word of `end - 1` lies in `layer0_as_slice`. Else it makes the slices as long as `add` of `end - 1` does; refused, it leaves the length of layer 0.
+    pub fn flip_range(&mut self, start: Index, end: Index) -> Result<(), AllocError>
+        requires { end ≤ MAX_EID }
+        ensures flipped { OnOk result ((i : ℕ) → has self.new i ≡ differ (has self.old i) (in_range start end i)) }
+        ensures refused { OnErr result ((i : ℕ) → has self.new i ≡ has self.old i) }
+        ensures room { end ≤ 64 * slice_len self.old 0 → IsOk result }
+        ensures none { end ≤ start → IsOk result }
+        ensures keeps { slice_len self.old 0 ≤ slice_len self.new 0 }
+        ensures most { slice_len self.new 0 ≤ max (slice_len self.old 0) ((end - 1) / 64 + 1) }
+        ensures above { (l : ℕ) → l < LAYERS - 1 → slice_len self.new l ≤ max (slice_len self.old l) ((end - 1) / 64 ^ (l + 1) + 1) }
+        ensures same { end ≤ start → slice_len self.new 0 ≡ slice_len self.old 0 }
+        ensures stays { OnErr result (slice_len self.new 0 ≡ slice_len self.old 0) }
+    {
+        self.bitxor_assign(&BitSetRange { start, end })
     }
 }

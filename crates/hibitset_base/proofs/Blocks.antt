@@ -22,7 +22,7 @@ use Rattle.hibitset_base.proofs.Members.{members-append, members-blocks, members
 -- The words of layer 0 of a set, and the members in their ranges.
 module _ (n : ℕ) (p : ℕ → Bool) (w : ℕ → ℕ → ℕ) (lawful : IsLawful n p w) (some_layer : 0 < n) where
   -- the members in a word's range are its bits
-  word_listed : (q : ℕ) → q < 64 ^ (n - 1) → members p (q * 64) 64 ≡ bits_from (q * 64) (w 0 q)
+  pub word_listed : (q : ℕ) → q < 64 ^ (n - 1) → members p (q * 64) 64 ≡ bits_from (q * 64) (w 0 q)
   word_listed q within =
       let places : List Place = places_in 0 (bits_from (64 * q) (w 0 q)) in
       sym (read_word n p w lawful 0 (n - 1) q (omega arith) within)

@@ -1,4 +1,5 @@
 -- For callers: what the list of a set's members says of the set, and what is left of it after a step.
+pub use Rattle.hibitset_base.proofs.RangeLemmas.{members_in_range, nth_is, list_from_nth, list_at_member, member_at}
 use Rattle.std.proofs.Common.{◌≡◌, ◌⊎◌, ◌↔◌, inl, inr, ℕ, zero, suc, ◌+◌, ◌-◌, ◌<◌, ◌≤◌, Bool, true, false, not, ◌==◌, ◌&&◌, List, [], ◌∷◌, Contains, slice_index, Option, Some, None, MatchOption, refl, sym, ◌∙◌, subst, arith}
 use Rattle.std.specs.Prelude.{nat_le}
 use Rattle.std.specs.List.{All}

@@ -1,7 +1,6 @@
 pub mod Answers
 pub mod Members
 pub mod Firsts
-pub mod Lasts
 pub mod Placing
 pub mod Masks
 pub mod Ones
@@ -23,9 +22,14 @@ pub mod Descending
 pub mod Stepping
 pub mod Beginning
 pub mod Draining
+pub mod PartLemmas
+pub mod RankLemmas
 pub mod Bounds
 pub mod Passing
 pub mod Running
+pub mod RevPlaceLemmas
+pub mod RevWalkLemmas
+pub mod LastLemmas
 pub mod Splitting
 pub mod Folding
 pub mod Filling
@@ -34,4 +38,6 @@ pub mod Given
 pub mod Mending
 pub mod Holding
 pub mod Building
+pub mod RangeLemmas
+pub mod RetainLemmas
 pub mod CallerLemmas

@@ -1,8 +1,11 @@
 -- A walk begins at the top.
-use Rattle.std.proofs.Common.{◌≡◌, ℕ, zero, suc, ◌-◌, ◌^◌, ◌<◌, List, ◌∷◌, ◌++◌, length, get_or, refl, ◌∙◌, ap, arith, replicate, inl, inr}
+use Rattle.std.proofs.Common.{◌≡◌, ◌≢◌, ℕ, zero, suc, ◌-◌, ◌%◌, ◌^◌, ◌<◌, List, ◌∷◌, ◌++◌, length, get_or, refl, ◌∙◌, ap, arith, replicate, inl, inr}
+use Rattle.std.specs.Int.{bit_at}
 use Rattle.std.proofs.lemmas.Bool.{cases_lt}
+use Rattle.std.proofs.lemmas.Nat.Bits.{bit_at-zero}
 use Rattle.std.proofs.lemmas.List.{get_or-set_other, length-replicate, append-nil}
 use Rattle.std.proofs.Math.ListN.{set}
+use Rattle.hibitset_base.specs.Deciding.{same_or_not}
 use Rattle.hibitset_base.specs.Places.{IsWellFormed, places_in, places_left, bits_from}
 use Rattle.hibitset_base.proofs.Left.{left-put, left-none}
 
@@ -48,3 +51,21 @@ top_left n d v e =
     let same : set zeros d 0 ≡ zeros = set_none n d in
     let h2 = rw (same, left-none 0 zeros zeros (λ j _. none j)) at h in
     h2 ∙ append-nil _
+
+-- masks of which one alone has bits, those of a word within the set
+pub alone_formed : (n l : ℕ) (ms ps : List ℕ) → ((j : ℕ) → j ≢ l → get_or ms j 0 ≡ 0) → length ms ≡ n → get_or ps l 0 % 64 ≡ 0 → get_or ps l 0 < 64 ^ (n - l) → IsWellFormed n ms ps
+alone_formed n l ms ps others long aligned within = record {
+  long = long;
+  aligned = λ a inside some. elim (same_or_not a l) [
+    | inl is ↦ rw is (aligned, within)
+    | inr other ↦ absurd (let z = others a other in omega (arith, z, some))
+  ];
+  nested = λ a m lower inside some above. elim (same_or_not a l) [
+    | inl is ↦ absurd (let z = others m (omega (arith, is, lower)) in omega (arith, z, above))
+    | inr other ↦ absurd (let z = others a other in omega (arith, z, some))
+  ];
+  before = λ a m b lower inside some small stands. elim (same_or_not a l) [
+    | inl is ↦ absurd (let z = others m (omega (arith, is, lower)) in let off = bit_at-zero b in let e : bit_at (get_or ms m 0) b ≡ bit_at 0 b = ap (λ x. bit_at x b) z in omega (arith, e, off, stands))
+    | inr other ↦ absurd (let z = others a other in omega (arith, z, some))
+  ];
+}

@@ -1,9 +1,10 @@
 //! Walks that take out of their set what they give.
 #![tactic(auto, unfolding(crate::specs::Drain::items_to_drain))]
 
-ghost use Rattle.std.specs.Prelude.{◌≡◌, ℕ, ◌≤◌, length, Bool};
+ghost use Rattle.std.specs.Prelude.{◌≡◌, ◌≢◌, ℕ, ◌<◌, ◌≤◌, length, Bool, true, false};
 ghost use Rattle.std.specs.Iterator.{item_count};
 ghost use Rattle.std.specs.Iterator.Runs.{YieldsInOrder};
+ghost use Rattle.hibitset_base.specs.Connectives.{is_member};
 ghost use Rattle.hibitset_base.specs.Members.{members_below};
 ghost use Rattle.hibitset_base.specs.Places.{places_left, items_of, IsWellFormed};
 ghost use Rattle.hibitset_base.specs.Drain.{items_to_drain, drained, lender, DrainSteps};
@@ -72,5 +73,34 @@ impl<'a, T: DrainableBitSet> Iterator for DrainBitIter<'a, T> {
         let index = step(&*self.set, &mut self.cursor, &mut self.reads)?;
         self.set.remove(index);
         Some(index)
+    }
+}
+
+// Takes an index out of a set, unless it is to stay.
+#[inline]
+fn keep_or_remove<T: DrainableBitSet, F: Fn(Index) -> bool>(set: &mut T, index: Index, keep: &F)
+    requires { F.IsAlwaysCallable keep.now }
+    ensures answer { T.holds set.old index ≡ true → F.post keep.now index (T.holds set.new index) }
+    ensures others { (i : ℕ) → i ≢ index → T.holds set.new i ≡ T.holds set.old i }
+    ensures room { T.keeps_room set.old set.new }
+{
+    if keep(index) {
+        return;
+    }
+    set.remove(index);
+}
+
+// Takes out each member that is not to stay, in ascending order.
+#[inline]
+pub(crate) fn retain_members<T: DrainableBitSet, F: Fn(Index) -> bool>(set: &mut T, keep: &F)
+    requires { F.IsAlwaysCallable keep.now }
+    ensures kept { (i : ℕ) → i < MAX_EID → T.holds set.old i ≡ true → F.post keep.now i (T.holds set.new i) }
+    ensures others { (i : ℕ) → is_member (T.holds set.old) i ≡ false → T.holds set.new i ≡ T.holds set.old i }
+    ensures room { T.keeps_room set.old set.new }
+{
+    let mut reads = Reads::none();
+    let mut cursor = start(&*set, &mut reads);
+    'items: while let Some(index) = step(&*set, &mut cursor, &mut reads) {
+        keep_or_remove(set, index, keep);
     }
 }

@@ -1,13 +1,14 @@
-//! Operators over the virtual sets: `!`, `&`, `|` and `^` make a virtual set of their operands, and `into_iter` a walk.
+//! Operators over the virtual sets: `!`, `&`, `|`, `^` and `-` make a virtual set of their operands, and `into_iter` a walk.
 ghost use Rattle.std.specs.Prelude.{◌≡◌};
-ghost use Rattle.hibitset_base.specs.Connectives.{IsComplement, IsIntersection, IsUnion, IsExclusive};
+ghost use Rattle.hibitset_base.specs.Connectives.{IsComplement, IsDifference, IsExclusive, IsIntersection, IsUnion};
 ghost use Rattle.hibitset_base.specs.Walk.{Starts};
 
 use crate::iter::BitIter;
 use crate::like::BitSetLike;
+use crate::range::BitSetRange;
 use crate::util::Index;
 use crate::virt::{BitSetAll, BitSetAnd, BitSetNot, BitSetOr, BitSetXor};
-use std::ops::{BitAnd, BitOr, BitXor, Not};
+use std::ops::{BitAnd, BitOr, BitXor, Not, Sub};
 
 impl<A: BitSetLike> Not for BitSetNot<A> {
     type Output = BitSetNot<Self>;
@@ -50,6 +51,17 @@ impl<A: BitSetLike, T: BitSetLike> BitXor<T> for BitSetNot<A> {
     #[inline]
     fn bitxor(self, rhs: T) -> BitSetXor<Self, T> {
         BitSetXor(self, rhs)
+    }
+}
+
+impl<A: BitSetLike, T: BitSetLike> Sub<T> for BitSetNot<A> {
+    type Output = BitSetAnd<Self, BitSetNot<T>>;
+
+    ghost sub_gives = { λ set other result. (result.0 ≡ set) × (result.1.0 ≡ other) × IsDifference (⟦<Self as BitSetLike>⟧.holds set) (T.holds other) (⟦<Self::Output as BitSetLike>⟧.holds result) };
+
+    #[inline]
+    fn sub(self, rhs: T) -> BitSetAnd<Self, BitSetNot<T>> {
+        BitSetAnd(self, BitSetNot(rhs))
     }
 }
 
@@ -110,6 +122,17 @@ impl<'a, A: BitSetLike, T: BitSetLike> BitXor<T> for &'a BitSetNot<A> {
     }
 }
 
+impl<'a, A: BitSetLike, T: BitSetLike> Sub<T> for &'a BitSetNot<A> {
+    type Output = BitSetAnd<Self, BitSetNot<T>>;
+
+    ghost sub_gives = { λ set other result. (result.0 ≡ set) × (result.1.0 ≡ other) × IsDifference (⟦<Self as BitSetLike>⟧.holds set) (T.holds other) (⟦<Self::Output as BitSetLike>⟧.holds result) };
+
+    #[inline]
+    fn sub(self, rhs: T) -> BitSetAnd<Self, BitSetNot<T>> {
+        BitSetAnd(self, BitSetNot(rhs))
+    }
+}
+
 impl<'a, A: BitSetLike> IntoIterator for &'a BitSetNot<A> {
     type Item = Index;
 
@@ -164,6 +187,17 @@ impl<A: BitSetLike, B: BitSetLike, T: BitSetLike> BitXor<T> for BitSetAnd<A, B> 
     #[inline]
     fn bitxor(self, rhs: T) -> BitSetXor<Self, T> {
         BitSetXor(self, rhs)
+    }
+}
+
+impl<A: BitSetLike, B: BitSetLike, T: BitSetLike> Sub<T> for BitSetAnd<A, B> {
+    type Output = BitSetAnd<Self, BitSetNot<T>>;
+
+    ghost sub_gives = { λ set other result. (result.0 ≡ set) × (result.1.0 ≡ other) × IsDifference (⟦<Self as BitSetLike>⟧.holds set) (T.holds other) (⟦<Self::Output as BitSetLike>⟧.holds result) };
+
+    #[inline]
+    fn sub(self, rhs: T) -> BitSetAnd<Self, BitSetNot<T>> {
+        BitSetAnd(self, BitSetNot(rhs))
     }
 }
 
@@ -224,6 +258,17 @@ impl<'a, A: BitSetLike, B: BitSetLike, T: BitSetLike> BitXor<T> for &'a BitSetAn
     }
 }
 
+impl<'a, A: BitSetLike, B: BitSetLike, T: BitSetLike> Sub<T> for &'a BitSetAnd<A, B> {
+    type Output = BitSetAnd<Self, BitSetNot<T>>;
+
+    ghost sub_gives = { λ set other result. (result.0 ≡ set) × (result.1.0 ≡ other) × IsDifference (⟦<Self as BitSetLike>⟧.holds set) (T.holds other) (⟦<Self::Output as BitSetLike>⟧.holds result) };
+
+    #[inline]
+    fn sub(self, rhs: T) -> BitSetAnd<Self, BitSetNot<T>> {
+        BitSetAnd(self, BitSetNot(rhs))
+    }
+}
+
 impl<'a, A: BitSetLike, B: BitSetLike> IntoIterator for &'a BitSetAnd<A, B> {
     type Item = Index;
 
@@ -278,6 +323,17 @@ impl<A: BitSetLike, B: BitSetLike, T: BitSetLike> BitXor<T> for BitSetOr<A, B> {
     #[inline]
     fn bitxor(self, rhs: T) -> BitSetXor<Self, T> {
         BitSetXor(self, rhs)
+    }
+}
+
+impl<A: BitSetLike, B: BitSetLike, T: BitSetLike> Sub<T> for BitSetOr<A, B> {
+    type Output = BitSetAnd<Self, BitSetNot<T>>;
+
+    ghost sub_gives = { λ set other result. (result.0 ≡ set) × (result.1.0 ≡ other) × IsDifference (⟦<Self as BitSetLike>⟧.holds set) (T.holds other) (⟦<Self::Output as BitSetLike>⟧.holds result) };
+
+    #[inline]
+    fn sub(self, rhs: T) -> BitSetAnd<Self, BitSetNot<T>> {
+        BitSetAnd(self, BitSetNot(rhs))
     }
 }
 
@@ -338,6 +394,17 @@ impl<'a, A: BitSetLike, B: BitSetLike, T: BitSetLike> BitXor<T> for &'a BitSetOr
     }
 }
 
+impl<'a, A: BitSetLike, B: BitSetLike, T: BitSetLike> Sub<T> for &'a BitSetOr<A, B> {
+    type Output = BitSetAnd<Self, BitSetNot<T>>;
+
+    ghost sub_gives = { λ set other result. (result.0 ≡ set) × (result.1.0 ≡ other) × IsDifference (⟦<Self as BitSetLike>⟧.holds set) (T.holds other) (⟦<Self::Output as BitSetLike>⟧.holds result) };
+
+    #[inline]
+    fn sub(self, rhs: T) -> BitSetAnd<Self, BitSetNot<T>> {
+        BitSetAnd(self, BitSetNot(rhs))
+    }
+}
+
 impl<'a, A: BitSetLike, B: BitSetLike> IntoIterator for &'a BitSetOr<A, B> {
     type Item = Index;
 
@@ -392,6 +459,17 @@ impl<A: BitSetLike, B: BitSetLike, T: BitSetLike> BitXor<T> for BitSetXor<A, B> 
     #[inline]
     fn bitxor(self, rhs: T) -> BitSetXor<Self, T> {
         BitSetXor(self, rhs)
+    }
+}
+
+impl<A: BitSetLike, B: BitSetLike, T: BitSetLike> Sub<T> for BitSetXor<A, B> {
+    type Output = BitSetAnd<Self, BitSetNot<T>>;
+
+    ghost sub_gives = { λ set other result. (result.0 ≡ set) × (result.1.0 ≡ other) × IsDifference (⟦<Self as BitSetLike>⟧.holds set) (T.holds other) (⟦<Self::Output as BitSetLike>⟧.holds result) };
+
+    #[inline]
+    fn sub(self, rhs: T) -> BitSetAnd<Self, BitSetNot<T>> {
+        BitSetAnd(self, BitSetNot(rhs))
     }
 }
 
@@ -452,6 +530,17 @@ impl<'a, A: BitSetLike, B: BitSetLike, T: BitSetLike> BitXor<T> for &'a BitSetXo
     }
 }
 
+impl<'a, A: BitSetLike, B: BitSetLike, T: BitSetLike> Sub<T> for &'a BitSetXor<A, B> {
+    type Output = BitSetAnd<Self, BitSetNot<T>>;
+
+    ghost sub_gives = { λ set other result. (result.0 ≡ set) × (result.1.0 ≡ other) × IsDifference (⟦<Self as BitSetLike>⟧.holds set) (T.holds other) (⟦<Self::Output as BitSetLike>⟧.holds result) };
+
+    #[inline]
+    fn sub(self, rhs: T) -> BitSetAnd<Self, BitSetNot<T>> {
+        BitSetAnd(self, BitSetNot(rhs))
+    }
+}
+
 impl<'a, A: BitSetLike, B: BitSetLike> IntoIterator for &'a BitSetXor<A, B> {
     type Item = Index;
 
@@ -506,6 +595,17 @@ impl<T: BitSetLike> BitXor<T> for BitSetAll {
     #[inline]
     fn bitxor(self, rhs: T) -> BitSetXor<Self, T> {
         BitSetXor(self, rhs)
+    }
+}
+
+impl<T: BitSetLike> Sub<T> for BitSetAll {
+    type Output = BitSetAnd<Self, BitSetNot<T>>;
+
+    ghost sub_gives = { λ set other result. (result.0 ≡ set) × (result.1.0 ≡ other) × IsDifference (⟦<Self as BitSetLike>⟧.holds set) (T.holds other) (⟦<Self::Output as BitSetLike>⟧.holds result) };
+
+    #[inline]
+    fn sub(self, rhs: T) -> BitSetAnd<Self, BitSetNot<T>> {
+        BitSetAnd(self, BitSetNot(rhs))
     }
 }
 
@@ -566,7 +666,154 @@ impl<'a, T: BitSetLike> BitXor<T> for &'a BitSetAll {
     }
 }
 
+impl<'a, T: BitSetLike> Sub<T> for &'a BitSetAll {
+    type Output = BitSetAnd<Self, BitSetNot<T>>;
+
+    ghost sub_gives = { λ set other result. (result.0 ≡ set) × (result.1.0 ≡ other) × IsDifference (⟦<Self as BitSetLike>⟧.holds set) (T.holds other) (⟦<Self::Output as BitSetLike>⟧.holds result) };
+
+    #[inline]
+    fn sub(self, rhs: T) -> BitSetAnd<Self, BitSetNot<T>> {
+        BitSetAnd(self, BitSetNot(rhs))
+    }
+}
+
 impl<'a> IntoIterator for &'a BitSetAll {
+    type Item = Index;
+
+    type IntoIter = BitIter<Self>;
+
+    ghost into_iter_gives = { Starts ⟦<Self as BitSetLike>⟧.holds ⟦<Self as BitSetLike>⟧.word };
+
+    #[inline]
+    fn into_iter(self) -> BitIter<Self> {
+        self.iter()
+    }
+}
+
+impl Not for BitSetRange {
+    type Output = BitSetNot<Self>;
+
+    ghost not_gives = { λ set result. (result.0 ≡ set) × IsComplement (⟦<Self as BitSetLike>⟧.holds set) (⟦<Self::Output as BitSetLike>⟧.holds result) };
+
+    #[inline]
+    fn not(self) -> BitSetNot<Self> {
+        BitSetNot(self)
+    }
+}
+
+impl<T: BitSetLike> BitAnd<T> for BitSetRange {
+    type Output = BitSetAnd<Self, T>;
+
+    ghost bitand_gives = { λ set other result. (result.0 ≡ set) × (result.1 ≡ other) × IsIntersection (⟦<Self as BitSetLike>⟧.holds set) (T.holds other) (⟦<Self::Output as BitSetLike>⟧.holds result) };
+
+    #[inline]
+    fn bitand(self, rhs: T) -> BitSetAnd<Self, T> {
+        BitSetAnd(self, rhs)
+    }
+}
+
+impl<T: BitSetLike> BitOr<T> for BitSetRange {
+    type Output = BitSetOr<Self, T>;
+
+    ghost bitor_gives = { λ set other result. (result.0 ≡ set) × (result.1 ≡ other) × IsUnion (⟦<Self as BitSetLike>⟧.holds set) (T.holds other) (⟦<Self::Output as BitSetLike>⟧.holds result) };
+
+    #[inline]
+    fn bitor(self, rhs: T) -> BitSetOr<Self, T> {
+        BitSetOr(self, rhs)
+    }
+}
+
+impl<T: BitSetLike> BitXor<T> for BitSetRange {
+    type Output = BitSetXor<Self, T>;
+
+    ghost bitxor_gives = { λ set other result. (result.0 ≡ set) × (result.1 ≡ other) × IsExclusive (⟦<Self as BitSetLike>⟧.holds set) (T.holds other) (⟦<Self::Output as BitSetLike>⟧.holds result) };
+
+    #[inline]
+    fn bitxor(self, rhs: T) -> BitSetXor<Self, T> {
+        BitSetXor(self, rhs)
+    }
+}
+
+impl<T: BitSetLike> Sub<T> for BitSetRange {
+    type Output = BitSetAnd<Self, BitSetNot<T>>;
+
+    ghost sub_gives = { λ set other result. (result.0 ≡ set) × (result.1.0 ≡ other) × IsDifference (⟦<Self as BitSetLike>⟧.holds set) (T.holds other) (⟦<Self::Output as BitSetLike>⟧.holds result) };
+
+    #[inline]
+    fn sub(self, rhs: T) -> BitSetAnd<Self, BitSetNot<T>> {
+        BitSetAnd(self, BitSetNot(rhs))
+    }
+}
+
+impl IntoIterator for BitSetRange {
+    type Item = Index;
+
+    type IntoIter = BitIter<Self>;
+
+    ghost into_iter_gives = { Starts ⟦<Self as BitSetLike>⟧.holds ⟦<Self as BitSetLike>⟧.word };
+
+    #[inline]
+    fn into_iter(self) -> BitIter<Self> {
+        self.iter()
+    }
+}
+
+impl<'a> Not for &'a BitSetRange {
+    type Output = BitSetNot<Self>;
+
+    ghost not_gives = { λ set result. (result.0 ≡ set) × IsComplement (⟦<Self as BitSetLike>⟧.holds set) (⟦<Self::Output as BitSetLike>⟧.holds result) };
+
+    #[inline]
+    fn not(self) -> BitSetNot<Self> {
+        BitSetNot(self)
+    }
+}
+
+impl<'a, T: BitSetLike> BitAnd<T> for &'a BitSetRange {
+    type Output = BitSetAnd<Self, T>;
+
+    ghost bitand_gives = { λ set other result. (result.0 ≡ set) × (result.1 ≡ other) × IsIntersection (⟦<Self as BitSetLike>⟧.holds set) (T.holds other) (⟦<Self::Output as BitSetLike>⟧.holds result) };
+
+    #[inline]
+    fn bitand(self, rhs: T) -> BitSetAnd<Self, T> {
+        BitSetAnd(self, rhs)
+    }
+}
+
+impl<'a, T: BitSetLike> BitOr<T> for &'a BitSetRange {
+    type Output = BitSetOr<Self, T>;
+
+    ghost bitor_gives = { λ set other result. (result.0 ≡ set) × (result.1 ≡ other) × IsUnion (⟦<Self as BitSetLike>⟧.holds set) (T.holds other) (⟦<Self::Output as BitSetLike>⟧.holds result) };
+
+    #[inline]
+    fn bitor(self, rhs: T) -> BitSetOr<Self, T> {
+        BitSetOr(self, rhs)
+    }
+}
+
+impl<'a, T: BitSetLike> BitXor<T> for &'a BitSetRange {
+    type Output = BitSetXor<Self, T>;
+
+    ghost bitxor_gives = { λ set other result. (result.0 ≡ set) × (result.1 ≡ other) × IsExclusive (⟦<Self as BitSetLike>⟧.holds set) (T.holds other) (⟦<Self::Output as BitSetLike>⟧.holds result) };
+
+    #[inline]
+    fn bitxor(self, rhs: T) -> BitSetXor<Self, T> {
+        BitSetXor(self, rhs)
+    }
+}
+
+impl<'a, T: BitSetLike> Sub<T> for &'a BitSetRange {
+    type Output = BitSetAnd<Self, BitSetNot<T>>;
+
+    ghost sub_gives = { λ set other result. (result.0 ≡ set) × (result.1.0 ≡ other) × IsDifference (⟦<Self as BitSetLike>⟧.holds set) (T.holds other) (⟦<Self::Output as BitSetLike>⟧.holds result) };
+
+    #[inline]
+    fn sub(self, rhs: T) -> BitSetAnd<Self, BitSetNot<T>> {
+        BitSetAnd(self, BitSetNot(rhs))
+    }
+}
+
+impl<'a> IntoIterator for &'a BitSetRange {
     type Item = Index;
 
     type IntoIter = BitIter<Self>;

@@ -47,7 +47,7 @@ fn step_word<T: BitSetLike>(
 
 // All places of the first word of layer 1 that has any left, where none is left in layer 0: the position of the word's first bit, and the word. They are taken.
 #[inline]
-fn step_block<T: BitSetLike>(
+pub(crate) fn step_block<T: BitSetLike>(
     set: &T,
     cursor: &mut Cursor<LAYERS>,
     reads: &mut Reads,
@@ -84,7 +84,7 @@ fn count_block<T: BitSetLike>(set: &T, start: u32) -> usize
 
 // Takes the first bit of a word of layer 1, whose own first bit is at `start`, and reads the word of layer 0 under it: the position of that word's first bit, and the word.
 #[inline]
-fn take_under<T: BitSetLike>(set: &T, start: u32, rest: &mut usize) -> (Index, usize)
+pub(crate) fn take_under<T: BitSetLike>(set: &T, start: u32, rest: &mut usize) -> (Index, usize)
     requires some { 0 < rest.old }
     requires aligned { start % 64 ≡ 0 }
     requires within { start < 64 ^ (LAYERS - 1) }
@@ -100,7 +100,7 @@ fn take_under<T: BitSetLike>(set: &T, start: u32, rest: &mut usize) -> (Index, u
 
 // How many members lie in the words of layer 0 under the bits of a word of layer 1, whose first bit is at `start`. Where all bits stand, the words are gone over one after the other.
 #[inline]
-fn count_under<T: BitSetLike>(set: &T, start: u32, word: usize) -> usize
+pub(crate) fn count_under<T: BitSetLike>(set: &T, start: u32, word: usize) -> usize
     requires aligned { start % 64 ≡ 0 }
     requires within { start < 64 ^ (LAYERS - 1) }
     ensures { result ≡ length (items_of (T.holds set.now) (places_in 1 (bits_from start word))) }
@@ -562,7 +562,7 @@ pub(crate) fn count_walk<T: BitSetLike>(walk: &BitIter<T>) -> usize
 
 // Takes the first bit of a word whose own first bit is at `start`, and answers its index.
 #[inline]
-fn take_bit(start: Index, rest: &mut usize) -> Index
+pub(crate) fn take_bit(start: Index, rest: &mut usize) -> Index
     requires some { 0 < rest.old }
     requires aligned { start % 64 ≡ 0 }
     ensures taken { bits_from start rest.old ≡ result ∷ bits_from start rest.new }

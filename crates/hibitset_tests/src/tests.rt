@@ -8,6 +8,7 @@ mod indices;
 mod life;
 mod made;
 mod operators;
+mod order;
 mod parallel;
 mod ranges;
 mod splits;

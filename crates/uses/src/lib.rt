@@ -5,8 +5,10 @@ pub mod budget;
 pub mod filter;
 pub mod ids;
 pub mod lists;
+
 pub mod pages;
 pub mod ready;
+pub mod results;
 pub mod room;
 pub mod shared_ids;
 pub mod walks;

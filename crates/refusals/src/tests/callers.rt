@@ -15,6 +15,7 @@ use uses::ids::Ids;
 use uses::lists;
 use uses::pages::Pages;
 use uses::ready::Ready;
+use uses::results::{both_within, histogram, page, page_before, page_from};
 use uses::room::{saved, with_one_more};
 use uses::shared_ids::take_many;
 use uses::walks::indices;
@@ -389,5 +390,103 @@ fn lists_by_workers(rt: HostRuntime) -> Result<(), Fail> {
             assert_has(&rt, &settled(&rt, shared, seat), &[5, 7, 70_000]);
         }
     }
+    Ok(())
+}
+
+const ROWS: [Index; 5] = [1, 2, 3, 5_000, 70_000];
+
+fn page_of(alloc: Global, found: &BitSet) -> Result<Vec<Index>, AllocError> {
+    page(alloc, found, 1, 2)
+}
+
+#[test]
+fn page_at_a_position(rt: HostRuntime) -> Result<(), Fail> {
+    let found = set_of(rt.alloc(), &ROWS)?;
+    ask(&rt)?;
+    let first = page_of(rt.alloc(), &found);
+    say(&rt, first.is_err())?;
+    ask(&rt)?;
+    let made = match first {
+        Ok(made) => made,
+        Err(_) => page_of(rt.alloc(), &found)?,
+    };
+    assert_indices(&rt, made.as_slice(), &[2, 3]);
+    Ok(())
+}
+
+fn page_here(alloc: Global, found: &BitSet) -> Result<Vec<Index>, AllocError> {
+    page_from(alloc, found, 3, 2)
+}
+
+#[test]
+fn page_from_a_row(rt: HostRuntime) -> Result<(), Fail> {
+    let found = set_of(rt.alloc(), &ROWS)?;
+    ask(&rt)?;
+    let first = page_here(rt.alloc(), &found);
+    say(&rt, first.is_err())?;
+    ask(&rt)?;
+    let made = match first {
+        Ok(made) => made,
+        Err(_) => page_here(rt.alloc(), &found)?,
+    };
+    assert_indices(&rt, made.as_slice(), &[3, 5_000]);
+    Ok(())
+}
+
+fn page_there(alloc: Global, found: &BitSet) -> Result<Vec<Index>, AllocError> {
+    page_before(alloc, found, 5_000, 2)
+}
+
+#[test]
+fn page_before_a_row(rt: HostRuntime) -> Result<(), Fail> {
+    let found = set_of(rt.alloc(), &ROWS)?;
+    ask(&rt)?;
+    let first = page_there(rt.alloc(), &found);
+    say(&rt, first.is_err())?;
+    ask(&rt)?;
+    let made = match first {
+        Ok(made) => made,
+        Err(_) => page_there(rt.alloc(), &found)?,
+    };
+    assert_indices(&rt, made.as_slice(), &[2, 3]);
+    Ok(())
+}
+
+fn counts_of(alloc: Global, found: &BitSet) -> Result<Vec<usize>, AllocError> {
+    histogram(alloc, found, 6_000, 3_000)
+}
+
+#[test]
+fn windows(rt: HostRuntime) -> Result<(), Fail> {
+    let found = set_of(rt.alloc(), &ROWS)?;
+    ask(&rt)?;
+    let first = counts_of(rt.alloc(), &found);
+    say(&rt, first.is_err())?;
+    ask(&rt)?;
+    let made = match first {
+        Ok(made) => made,
+        Err(_) => counts_of(rt.alloc(), &found)?,
+    };
+    assert!(rt; made.as_slice() == [3usize, 1].as_slice());
+    Ok(())
+}
+
+fn rows_of(alloc: Global, found: &BitSet, other: &BitSet) -> Result<Vec<Index>, AllocError> {
+    both_within(alloc, found, other, 2, 6_000)
+}
+
+#[test]
+fn rows_of_both(rt: HostRuntime) -> Result<(), Fail> {
+    let found = set_of(rt.alloc(), &ROWS)?;
+    let other = set_of(rt.alloc(), &[1, 3, 5_000, 5_001])?;
+    ask(&rt)?;
+    let first = rows_of(rt.alloc(), &found, &other);
+    say(&rt, first.is_err())?;
+    ask(&rt)?;
+    let made = match first {
+        Ok(made) => made,
+        Err(_) => rows_of(rt.alloc(), &found, &other)?,
+    };
+    assert_indices(&rt, made.as_slice(), &[3, 5_000]);
     Ok(())
 }

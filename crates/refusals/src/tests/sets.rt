@@ -152,6 +152,25 @@ fn add_range(rt: HostRuntime) -> Result<(), Fail> {
     Ok(())
 }
 
+fn with_flipped_range(set: &mut BitSet) -> Result<(), AllocError> {
+    set.flip_range(FAR - 1, FAR + 1)
+}
+
+#[test]
+fn flip_range(rt: HostRuntime) -> Result<(), Fail> {
+    let mut set = set_of(rt.alloc(), &[5])?;
+    ask(&rt)?;
+    let flipped = with_flipped_range(&mut set);
+    say(&rt, flipped.is_err())?;
+    ask(&rt)?;
+    if flipped.is_err() {
+        assert_way(&rt, &set, &[5], FAR, UPPER);
+        with_flipped_range(&mut set)?;
+    }
+    assert_has(&rt, &set, &[5, 4_999_999, FAR]);
+    Ok(())
+}
+
 fn of_words(alloc: Global) -> Result<BitSet, AllocError> {
     BitSet::from_words(alloc, [0, 8, 1].as_slice())
 }

@@ -1,4 +1,4 @@
-//! Which words are read for the last member, the first gap, and a look for a common member.
+//! Which words are read for the last member, the last before an index, the members before one, a walk down, the first gap, and a look for a common member.
 use crate::tests::words::Logging;
 use crate::tests::{assert_count, assert_index};
 use hibitset::{BitSetAnd, BitSetLike};
@@ -65,4 +65,114 @@ fn a_subset(rt: HostRuntime) -> Result<(), AllocError> {
     b.assert_read(&rt, &[(0, 1), (0, 4_687)])?;
     assert!(rt; !b.is_subset(&a));
     a.assert_read(&rt, &[(0, 1)])
+}
+
+// The way up and the way down again.
+#[test]
+fn the_last_before(rt: HostRuntime) -> Result<(), AllocError> {
+    let set = Logging::over(rt.alloc(), &[64, 300_000])?;
+    assert_index(&rt, set.last_before(66), Some(64));
+    set.assert_read(&rt, &[(0, 1)])?;
+    assert_index(&rt, set.last_before(300_000), Some(64));
+    set.assert_read(
+        &rt,
+        &[(0, 4_687), (1, 73), (2, 1), (3, 0), (2, 0), (1, 0), (0, 1)],
+    )?;
+    assert_index(&rt, set.last_before(64), None);
+    set.assert_read(&rt, &[(0, 1), (1, 0), (2, 0), (3, 0), (4, 0)])
+}
+
+// Nine words at most, where no summary bit stands over a word that is 0.
+#[test]
+fn the_last_before_a_far_one(rt: HostRuntime) -> Result<(), AllocError> {
+    let set = Logging::over(rt.alloc(), &[64, 16_777_216])?;
+    assert_index(&rt, set.last_before(16_777_216), Some(64));
+    set.assert_read(
+        &rt,
+        &[
+            (0, 262_144),
+            (1, 4_096),
+            (2, 64),
+            (3, 1),
+            (4, 0),
+            (3, 0),
+            (2, 0),
+            (1, 0),
+            (0, 1),
+        ],
+    )
+}
+
+// No word that begins at the index or after it is read, and none twice.
+#[test]
+fn the_members_before(rt: HostRuntime) -> Result<(), AllocError> {
+    let set = Logging::over(rt.alloc(), &[64, 300_000])?;
+    assert_count(&rt, set.rank(65), 1);
+    set.assert_read(&rt, &[(0, 1), (1, 0)])?;
+    assert_count(&rt, set.rank(300_001), 2);
+    set.assert_read(
+        &rt,
+        &[(0, 4_687), (1, 73), (2, 1), (3, 0), (2, 0), (1, 0), (0, 1)],
+    )?;
+    assert_count(&rt, set.rank(0), 0);
+    set.assert_read(&rt, &[])
+}
+
+// Only words that have an index of the range are read, and none twice.
+#[test]
+fn the_members_of_a_range(rt: HostRuntime) -> Result<(), AllocError> {
+    let set = Logging::over(rt.alloc(), &[64, 300_000])?;
+    assert_count(&rt, set.len_range(64, 70), 1);
+    set.assert_read(&rt, &[(0, 1)])?;
+    assert_count(&rt, set.len_range(65, 300_000), 0);
+    set.assert_read(
+        &rt,
+        &[(0, 1), (0, 4_687), (1, 0), (1, 73), (2, 0), (2, 1)],
+    )?;
+    assert_count(&rt, set.len_range(70, 70), 0);
+    set.assert_read(&rt, &[])
+}
+
+#[test]
+fn the_member_at_a_place(rt: HostRuntime) -> Result<(), AllocError> {
+    let set = Logging::over(rt.alloc(), &[64, 300_000])?;
+    assert_index(&rt, set.select(1), Some(300_000));
+    set.assert_read(
+        &rt,
+        &[
+            (4, 0),
+            (3, 0),
+            (2, 0),
+            (1, 0),
+            (0, 1),
+            (2, 1),
+            (1, 73),
+            (0, 4_687),
+            (0, 4_687),
+        ],
+    )
+}
+
+#[test]
+fn a_walk_down(rt: HostRuntime) -> Result<(), AllocError> {
+    let set = Logging::over(rt.alloc(), &[64, 130, 300_000])?;
+    let mut walk = (&set).iter_rev();
+    set.assert_read(&rt, &[(4, 0)])?;
+    assert_index(&rt, walk.next(), Some(300_000));
+    set.assert_read(&rt, &[(3, 0), (2, 1), (1, 73), (0, 4_687)])?;
+    assert_index(&rt, walk.next(), Some(130));
+    set.assert_read(&rt, &[(2, 0), (1, 0), (0, 2)])?;
+    assert_index(&rt, walk.next(), Some(64));
+    set.assert_read(&rt, &[(0, 1)])?;
+    assert_index(&rt, walk.next(), None);
+    set.assert_read(&rt, &[])
+}
+
+#[test]
+fn a_walk_down_from_an_index(rt: HostRuntime) -> Result<(), AllocError> {
+    let set = Logging::over(rt.alloc(), &[64, 130, 300_000])?;
+    let mut walk = (&set).iter_rev_before(300_000);
+    set.assert_read(&rt, &[(4, 0), (3, 0), (2, 1), (1, 73), (0, 4_687)])?;
+    assert_index(&rt, walk.next(), Some(130));
+    set.assert_read(&rt, &[(2, 0), (1, 0), (0, 2)])
 }

@@ -1,0 +1,32 @@
+use Rattle.std.proofs.Common.{◌≡◌, ℕ, ◌+◌, ◌-◌, ◌*◌, ◌/◌, ◌^◌, ◌≤◌, max, ◌∙◌, ap, arith, inl, inr}
+use Rattle.std.proofs.lemmas.Result.{on_ok_weaker}
+use Rattle.hibitset_base.specs.Virtual.{differ}
+use Rattle.hibitset.specs.BitSet.{has, slice_len}
+use Rattle.hibitset.proofs.FlipLemmas.{range_members, no_words, covers_end}
+use Rattle.hibitset.proofs.set.BitSet.flip_range.Goals as goal
+
+pub returns-clause-flipped : goal.returns-clause-flipped
+returns-clause-flipped c =
+    on_ok_weaker c.bitxor_assign.result (λ each i. each i ∙ ap (differ (has c.args.self.now i)) (range_members c.args.start c.args.end i c.requires)) c.bitxor_assign.ensures.members
+
+pub returns-clause-room : goal.returns-clause-room
+returns-clause-room c = λ room. c.bitxor_assign.ensures.room (no_words c.args.start c.args.end (slice_len c.args.self.now 0) (inl room))
+
+pub returns-clause-none : goal.returns-clause-none
+returns-clause-none c = λ empty. c.bitxor_assign.ensures.room (no_words c.args.start c.args.end (slice_len c.args.self.now 0) (inr empty))
+
+pub returns-clause-most : goal.returns-clause-most
+returns-clause-most c =
+    let most : ℕ = max (slice_len c.args.self.now 0) ((c.args.end - 1) / 64 + 1) in
+    c.bitxor_assign.ensures.most most (omega arith) (no_words c.args.start c.args.end most (inl (omega arith)))
+
+pub returns-clause-above : goal.returns-clause-above
+returns-clause-above c = λ l below.
+    let most : ℕ = max (slice_len c.args.self.now l) ((c.args.end - 1) / 64 ^ (l + 1) + 1) in
+    c.bitxor_assign.ensures.above l most below (omega arith) (no_words c.args.start c.args.end (64 ^ l * most) (inl (covers_end c.args.end l most (omega arith))))
+
+pub returns-clause-same : goal.returns-clause-same
+returns-clause-same c = λ empty.
+    let keeps = c.bitxor_assign.ensures.keeps in
+    let most = c.bitxor_assign.ensures.most (slice_len c.args.self.now 0) (omega arith) (no_words c.args.start c.args.end (slice_len c.args.self.now 0) (inr empty)) in
+    omega (arith, keeps, most)

@@ -1,0 +1,6 @@
+use Rattle.std.proofs.Common.{refl}
+use Rattle.hibitset_base.proofs.RevWalkLemmas.{steps_back}
+use Rattle.hibitset_base.proofs.rev_iter.BitRevIterIterator.next.Goals as goal
+
+pub returns-clause-steps : goal.returns-clause-steps
+returns-clause-steps g c = steps_back g.T.BitSetLike.holds g.T.BitSetLike.word c.args.self.now _ refl c.step_last.result c.step_last.ensures.end c.step_last.ensures.goes

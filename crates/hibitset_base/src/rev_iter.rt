@@ -1,0 +1,194 @@
+//! Walks over a set, in descending order.
+#![tactic(auto, unfolding(crate::specs::RevWalk::rev_items_left, crate::specs::RevWalk::rev_set_of))]
+
+ghost use Rattle.std.specs.Prelude.{◌≡◌, ℕ, ◌+◌, ◌-◌, ◌*◌, ◌^◌, ◌<◌, ◌≤◌, ◌++◌, ◌∷◌, [], Bool, true, false, None, length, reverse, min, MatchOption};
+ghost use Rattle.std.specs.Iterator.{item_count};
+ghost use Rattle.std.specs.Iterator.Runs.{YieldsInOrder};
+ghost use Rattle.hibitset_base.specs.Members.{members, members_below};
+ghost use Rattle.hibitset_base.specs.Places.{places_in, items_of};
+ghost use Rattle.hibitset_base.specs.Ranks.{start_over};
+ghost use Rattle.hibitset_base.specs.Reading.{words_under, words_of, AllStand, Encloses, IsBoundBy};
+ghost use Rattle.hibitset_base.specs.RevCursor.{rev_left, rev_mask, IsRevEmptyBelow};
+ghost use Rattle.hibitset_base.specs.RevPlaces.{GoesBack};
+ghost use Rattle.hibitset_base.specs.RevWalk.{rev_set_of, rev_items_left, rev_words_read, rev_words_ahead, IsRevDrawn, RevWalkSteps};
+ghost use Rattle.hibitset_base.specs.declared.util.TheConstants.{LAYERS, MAX_EID};
+
+use crate::iter::read;
+use crate::like::BitSetLike;
+use crate::ranks::head;
+use crate::reads::Reads;
+use crate::rev_cursor::RevCursor;
+use crate::util::{BITS, Index, LAYERS, MAX_EID};
+
+/// A walk over the members of a set, in descending order.
+#[derive(Debug, Drop)]
+pub struct BitRevIter<T> {
+    pub(crate) set: T,
+    pub(crate) cursor: RevCursor<LAYERS>,
+    pub(crate) reads: Reads,
+}
+
+// Reads the top word of a set, and returns where a walk down begins.
+#[inline]
+pub(crate) fn start_at_end<T: BitSetLike>(set: &T, reads: &mut Reads) -> RevCursor<LAYERS>
+    ensures reads { reads.new.count ≡ reads.old.count + 1 }
+    ensures items { items_of (T.holds set.now) (rev_left result) ≡ members_below MAX_EID (T.holds set.now) }
+    ensures drawn { AllStand (T.word set.now) (rev_left result) }
+    ensures bound { (p : ℕ → Bool) (a : ℕ → ℕ → ℕ) → Encloses LAYERS p a (T.word set.now) → IsBoundBy LAYERS p (words_of (T.word set.now) (rev_left result)) }
+    ensures ahead { words_under (T.word set.now) LAYERS 0 ≡ (record { layer = LAYERS - 1; position = 0 }) ∷ words_of (T.word set.now) (rev_left result) }
+{
+    let word = read(set, reads, LAYERS - 1, 0);
+    let mut cursor = RevCursor::<LAYERS>::empty();
+    cursor.put(LAYERS - 1, 0, word);
+    cursor
+}
+
+// Reads the word over an index in a layer, leaves its bits before the index to the walk, and returns whether the bit over the index is set.
+#[inline]
+pub(crate) fn put_head<T: BitSetLike>(
+    set: &T,
+    cursor: &mut RevCursor<LAYERS>,
+    reads: &mut Reads,
+    layer: usize,
+    end: Index,
+) -> bool
+    requires layer { layer < LAYERS }
+    requires within { end < MAX_EID }
+    requires lowest { IsRevEmptyBelow cursor.old (layer + 1) }
+    ensures items { items_of (T.holds set.now) (rev_left cursor.new) ≡ items_of (T.holds set.now) (rev_left cursor.old) ++ members (T.holds set.now) (start_over end (layer + 1)) (start_over end layer - start_over end (layer + 1)) }
+    ensures drawn { AllStand (T.word set.now) (rev_left cursor.old) → AllStand (T.word set.now) (rev_left cursor.new) }
+    ensures clear { result ≡ false → members (T.holds set.now) (start_over end layer) (64 ^ layer) ≡ [] }
+    ensures reads { reads.new.count ≡ reads.old.count + 1 }
+    ensures below { IsRevEmptyBelow cursor.new layer }
+{
+    let place = end >> (BITS * layer);
+    let word = read(set, reads, layer, place >> BITS);
+    cursor.put(layer, place >> BITS, head(word, place % 64));
+    word >> (place % 64) & 1 == 1
+}
+
+// Reads the words over an index from the top layer down, as long as the bit over the index is set, and returns where a walk down begins that gives the members before it.
+#[inline]
+fn start_before<T: BitSetLike>(set: &T, reads: &mut Reads, end: Index) -> RevCursor<LAYERS>
+    requires { end < MAX_EID }
+    ensures read { reads.new.count ≤ reads.old.count + LAYERS }
+    ensures items { items_of (T.holds set.now) (rev_left result) ≡ members_below end (T.holds set.now) }
+    ensures drawn { AllStand (T.word set.now) (rev_left result) }
+{
+    let mut cursor = RevCursor::<LAYERS>::empty();
+    'layers: for depth in 0..LAYERS {
+        if !put_head(set, &mut cursor, reads, LAYERS - 1 - depth, end) {
+            return cursor;
+        }
+    }
+    cursor
+}
+
+// Reads the word under the last bit of `layer`, to go on from there. False if no bit is left in `layer`.
+#[inline]
+fn descend_last<T: BitSetLike>(
+    set: &T,
+    cursor: &mut RevCursor<LAYERS>,
+    reads: &mut Reads,
+    layer: usize,
+) -> bool
+    requires layer { layer < LAYERS }
+    requires above { 0 < layer }
+    requires lowest { IsRevEmptyBelow cursor.old layer }
+    ensures none { result ≡ false → IsRevEmptyBelow cursor.new (layer + 1) }
+    ensures goes { GoesBack LAYERS (T.holds set.now) (T.word set.now) reads.old.count (rev_left cursor.old) reads.new.count (rev_left cursor.new) }
+    ensures same { result ≡ false → reads.new.count ≡ reads.old.count }
+    ensures more { result ≡ true → reads.old.count < reads.new.count }
+{
+    if cursor.is_empty(layer) {
+        return false;
+    }
+    let position = cursor.take_last(layer);
+    let word = read(set, reads, layer - 1, position);
+    cursor.put(layer - 1, position, word);
+    true
+}
+
+// Reads the word under the last place that is left, where none is left in layer 0. False if none is left.
+#[inline]
+fn refill_last<T: BitSetLike>(set: &T, cursor: &mut RevCursor<LAYERS>, reads: &mut Reads) -> bool
+    requires { IsRevEmptyBelow cursor.old 1 }
+    ensures none { result ≡ false → IsRevEmptyBelow cursor.new LAYERS }
+    ensures goes { GoesBack LAYERS (T.holds set.now) (T.word set.now) reads.old.count (rev_left cursor.old) reads.new.count (rev_left cursor.new) }
+    ensures more { result ≡ true → reads.old.count < reads.new.count }
+{
+    'layers: for layer in 1..LAYERS {
+        if descend_last(set, cursor, reads, layer) {
+            return true;
+        }
+    }
+    false
+}
+
+// The last index that is left, which is taken.
+#[inline(always)]
+pub(crate) fn step_last<T: BitSetLike>(
+    set: &T,
+    cursor: &mut RevCursor<LAYERS>,
+    reads: &mut Reads,
+) -> Option<Index>
+    ensures end { result ≡ None → (rev_left cursor.new ≡ []) }
+    ensures goes { MatchOption result (GoesBack LAYERS (T.holds set.now) (T.word set.now) reads.old.count (rev_left cursor.old) reads.new.count (rev_left cursor.new)) (λ i. GoesBack LAYERS (T.holds set.now) (T.word set.now) reads.old.count (rev_left cursor.old) reads.new.count (rev_left cursor.new ++ ((record { layer = 0; position = i }) ∷ []))) }
+{
+    'layers: while cursor.is_empty(0) {
+        if !refill_last(set, cursor, reads) {
+            return None;
+        }
+    }
+    Some(cursor.take_last(0))
+}
+
+impl<T: BitSetLike> BitRevIter<T> {
+    // Starts at the end of the set.
+    #[inline]
+    pub(crate) fn from_end(set: T) -> Self
+        ensures set { rev_set_of result ≡ set }
+        ensures items { rev_items_left T.holds result ≡ reverse (members_below MAX_EID (T.holds set)) }
+        ensures drawn { IsRevDrawn T.word result }
+        ensures read { rev_words_read result ≡ 1 }
+        ensures bound { (p : ℕ → Bool) (a : ℕ → ℕ → ℕ) → Encloses LAYERS p a (T.word set) → IsBoundBy LAYERS p (rev_words_ahead T.word result) }
+        ensures ahead { words_under (T.word set) LAYERS 0 ≡ (record { layer = LAYERS - 1; position = 0 }) ∷ rev_words_ahead T.word result }
+        ensures runs { YieldsInOrder (RevWalkSteps T.holds T.word) (rev_items_left T.holds) }
+        ensures fits { length (rev_items_left T.holds result) ≤ MAX_EID }
+    {
+        let mut reads = Reads::none();
+        let cursor = start_at_end(&set, &mut reads);
+        BitRevIter { set, cursor, reads }
+    }
+
+    // Starts before an index.
+    #[inline]
+    pub(crate) fn from_before(set: T, end: Index) -> Self
+        ensures set { rev_set_of result ≡ set }
+        ensures items { rev_items_left T.holds result ≡ reverse (members_below (min end MAX_EID) (T.holds set)) }
+        ensures drawn { IsRevDrawn T.word result }
+        ensures read { rev_words_read result ≤ LAYERS }
+        ensures runs { YieldsInOrder (RevWalkSteps T.holds T.word) (rev_items_left T.holds) }
+        ensures fits { length (rev_items_left T.holds result) ≤ min end MAX_EID }
+    {
+        if end as usize >= MAX_EID {
+            return BitRevIter::from_end(set);
+        }
+        let mut reads = Reads::none();
+        let cursor = start_before(&set, &mut reads, end);
+        BitRevIter { set, cursor, reads }
+    }
+}
+
+impl<T: BitSetLike> Iterator for BitRevIter<T> {
+    type Item = Index;
+
+    ghost next_gives = { RevWalkSteps T.holds T.word };
+
+    ghost remaining = { item_count (rev_items_left T.holds) };
+
+    #[inline]
+    fn next(&mut self) -> Option<Index> {
+        step_last(&self.set, &mut self.cursor, &mut self.reads)
+    }
+}

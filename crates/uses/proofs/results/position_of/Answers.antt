@@ -1,0 +1,16 @@
+use Rattle.std.proofs.Common.{◌≡◌, ◌<◌, true, min, length, sym, ◌∙◌, ap, arith}
+use Rattle.std.specs.Prelude.{slice_get}
+use Rattle.hibitset_base.specs.Members.{members_below}
+use Rattle.hibitset_base.specs.declared.util.TheConstants.{MAX_EID}
+use Rattle.hibitset_base.proofs.CallerLemmas.{member_at}
+use Rattle.hibitset.specs.BitSet.{has, members_of}
+use Rattle.hibitset.proofs.CallerLemmas.{has_within}
+use Rattle.uses.proofs.results.position_of.Goals as goal
+
+pub returns : goal.returns
+returns c =
+    let set = c.args.found.now in
+    let on : has set c.args.row ≡ true = sym c.contains.ensures ∙ c.if-not-contains.false in
+    let within : c.args.row < MAX_EID = has_within set c.args.row on in
+    let same : min c.args.row MAX_EID ≡ c.args.row = omega (arith, within) in
+    ap (slice_get (members_of set)) (c.rank.ensures ∙ ap (λ b. length (members_below b (has set))) same) ∙ member_at MAX_EID (has set) c.args.row within on
