@@ -1,8 +1,12 @@
 //! Sets made of the items of an iterator, or extended by them.
 
-use crate::error::AllocError;
-use crate::set::BitSet;
+use crate::error::{out_of_memory, AllocError};
+use crate::raw;
+use crate::set::{out_of_range, words_below, BitSet};
 use crate::Index;
+
+// How many items are handed to the library at once.
+const BATCH_LEN: usize = 256;
 
 impl BitSet {
     /// Adds the items of an iterator, up to the first one whose allocation fails.
@@ -32,14 +36,33 @@ impl BitSet {
         }
         Ok(())
     }
+
+    /// Adds indices in order. It panics at the first one that is out of range.
+    fn add_batch(&mut self, indices: &[Index]) {
+        let (added, status) = raw::add_many(self.raw_mut(), indices);
+        match status {
+            raw::OK => {}
+            raw::NO_MEMORY => out_of_memory(words_below(indices[added] as usize + 1)),
+            _ => out_of_range(indices[added]),
+        }
+    }
 }
 
-/// Adds the items. It panics at one that is not below [`MAX_EID`](crate::MAX_EID).
+/// Adds the items, in batches. It panics at one that is not below [`MAX_EID`](crate::MAX_EID), once those before it are
+/// added. If the iterator itself panics, the last 255 items before may be missing.
 impl Extend<Index> for BitSet {
     fn extend<I: IntoIterator<Item = Index>>(&mut self, iter: I) {
+        let mut batch = [0; BATCH_LEN];
+        let mut len = 0;
         iter.into_iter().for_each(|index| {
-            self.add(index);
+            batch[len] = index;
+            len += 1;
+            if len == BATCH_LEN {
+                self.add_batch(&batch);
+                len = 0;
+            }
         });
+        self.add_batch(&batch[..len]);
     }
 }
 

@@ -7,11 +7,11 @@ use std::slice;
 
 use crate::{Index, LAYERS};
 
-/// The call is done; of `hibitset_add`: the index was no member.
-pub(crate) const DONE: u32 = 0;
-/// The index was a member.
-pub(crate) const THERE: u32 = 1;
-/// An allocation failed, and the members are as they were.
+/// The call is done; of `hibitset_add`: the index was no member before.
+pub(crate) const OK: u32 = 0;
+/// Of `hibitset_add`: the index was a member before.
+pub(crate) const PRESENT: u32 = 1;
+/// An allocation failed.
 pub(crate) const NO_MEMORY: u32 = 2;
 
 /// A layer without words begins here.
@@ -80,6 +80,7 @@ unsafe extern "C" {
     pub(crate) safe fn hibitset_free(set: &mut Set);
     pub(crate) safe fn hibitset_with_capacity(set: &mut Set, max: Index) -> u32;
     pub(crate) safe fn hibitset_add(set: &mut Set, index: Index) -> u32;
+    fn hibitset_add_many(set: &mut Set, indices: *const Index, len: usize, added: &mut usize) -> u32;
     pub(crate) safe fn hibitset_remove(set: &mut Set, index: Index) -> bool;
     pub(crate) safe fn hibitset_clear(set: &mut Set);
     pub(crate) safe fn hibitset_add_range(set: &mut Set, start: Index, end: Index) -> u32;
@@ -112,6 +113,14 @@ unsafe extern "C" {
     fn hibitset_or_next_many(a: &Set, b: &Set, start: Index, buffer: *mut Index, len: usize) -> usize;
     fn hibitset_xor_next_many(a: &Set, b: &Set, start: Index, buffer: *mut Index, len: usize) -> usize;
     fn hibitset_andnot_next_many(a: &Set, b: &Set, start: Index, buffer: *mut Index, len: usize) -> usize;
+}
+
+/// Adds the indices in order, up to the first that fails. Returns how many were added, and what the call returns.
+pub(crate) fn add_many(set: &mut Set, indices: &[Index]) -> (usize, u32) {
+    let mut added = 0;
+    // SAFETY: the indices are lent for the call, which reads them alone.
+    let status = unsafe { hibitset_add_many(set, indices.as_ptr(), indices.len(), &mut added) };
+    (added, status)
 }
 
 /// Makes it the set whose words of layer 0 are these.

@@ -44,7 +44,7 @@ pub struct BitSet {
 /// A panic for an index past the range.
 #[cold]
 #[inline(never)]
-fn out_of_range(id: Index) -> ! {
+pub(crate) fn out_of_range(id: Index) -> ! {
     panic!("the index {id} is out of range: a set has indices below {MAX_EID}")
 }
 
@@ -56,15 +56,15 @@ fn bound_out_of_range(bound: u64) -> ! {
 }
 
 /// How many words layer 0 needs for the indices below a bound.
-fn words_below(bound: usize) -> usize {
+pub(crate) fn words_below(bound: usize) -> usize {
     bound.div_ceil(BitSet::BITS_PER_USIZE)
 }
 
 /// The result of a call that has no other error than a failed allocation.
 #[inline]
-pub(crate) fn done(answer: u32) -> Result<(), AllocError> {
-    match answer {
-        raw::DONE => Ok(()),
+pub(crate) fn done(status: u32) -> Result<(), AllocError> {
+    match status {
+        raw::OK => Ok(()),
         raw::NO_MEMORY => Err(AllocError),
         _ => unreachable!("the range was checked"),
     }
@@ -177,8 +177,8 @@ impl BitSet {
     #[inline]
     pub fn add(&mut self, id: Index) -> bool {
         match raw::hibitset_add(&mut self.set, id) {
-            raw::DONE => false,
-            raw::THERE => true,
+            raw::OK => false,
+            raw::PRESENT => true,
             raw::NO_MEMORY => out_of_memory(words_below(id as usize + 1)),
             _ => out_of_range(id),
         }
@@ -196,8 +196,8 @@ impl BitSet {
     #[inline]
     pub fn try_add(&mut self, id: Index) -> Result<bool, AllocError> {
         match raw::hibitset_add(&mut self.set, id) {
-            raw::DONE => Ok(false),
-            raw::THERE => Ok(true),
+            raw::OK => Ok(false),
+            raw::PRESENT => Ok(true),
             raw::NO_MEMORY => Err(AllocError),
             _ => out_of_range(id),
         }
@@ -259,7 +259,7 @@ impl BitSet {
         raw::hibitset_remove_range(&mut self.set, start.min(max) as Index, end.min(max) as Index);
     }
 
-    /// Removes all members. It keeps the memory for members to come.
+    /// Removes all members. It keeps the memory for members to come, but [`capacity`](BitSet::capacity) is 0.
     pub fn clear(&mut self) {
         raw::hibitset_clear(&mut self.set);
     }
@@ -296,6 +296,18 @@ impl BitSet {
     /// Returns the number of members. It counts whole words.
     pub fn len(&self) -> usize {
         raw::hibitset_len(&self.set)
+    }
+
+    /// Returns a number below which each index can be added without an allocation.
+    ///
+    /// ```
+    /// use hibitset::BitSet;
+    ///
+    /// assert!(BitSet::with_capacity(1000).capacity() >= 1000);
+    /// assert_eq!(BitSet::new().capacity(), 0);
+    /// ```
+    pub fn capacity(&self) -> usize {
+        self.layer0_as_slice().len() * BitSet::BITS_PER_USIZE
     }
 
     /// Returns whether the set has no member.

@@ -75,9 +75,15 @@ fn a_layer_above_the_top_panics() {
 }
 
 #[test]
-fn a_panic_in_the_items_keeps_what_was_added() {
+fn items_before_a_panic_are_added() {
     let mut set = BitSet::new();
-    let items = (0..10).inspect(|i| assert!(*i < 5, "no more"));
-    assert!(catch_unwind(AssertUnwindSafe(|| set.extend(items))).is_err());
-    assert_eq!(set.to_vec(), [0, 1, 2, 3, 4]);
+    for len in [0, 1, 255, 256, 257, 1000] {
+        let items = (0..len).chain([Index::MAX, 5_000]);
+        assert!(message_of(&mut set, |set| set.extend(items)).contains("out of range"));
+        assert!(set.iter().eq(0..len));
+    }
+    let mut set = BitSet::new();
+    let items = (0..1000).inspect(|i| assert!(*i < 600, "no more of {i} items"));
+    assert!(message_of(&mut set, |set| set.extend(items)).contains("no more"));
+    assert!((600 - 255..=600).contains(&set.len()) && set.iter().eq(0..set.len() as Index));
 }
