@@ -14,7 +14,10 @@ fn named_folder() -> Option<PathBuf> {
     println!("cargo:rerun-if-env-changed=HIBITSET_LIB_DIR");
     let folder = PathBuf::from(env::var_os("HIBITSET_LIB_DIR")?);
     if !folder.join(LIBRARY).is_file() {
-        fail(&format!("HIBITSET_LIB_DIR is {}, which has no {LIBRARY}", folder.display()));
+        fail(&format!(
+            "HIBITSET_LIB_DIR is {}, which has no {LIBRARY}",
+            folder.display()
+        ));
     }
     Some(folder)
 }
@@ -23,13 +26,28 @@ fn named_folder() -> Option<PathBuf> {
 fn installed_folder() -> Option<PathBuf> {
     println!("cargo:rerun-if-env-changed=PKG_CONFIG_PATH");
     let answer = |question: &str| {
-        let output = Command::new("pkg-config").args([question, "hibitset"]).stderr(Stdio::null()).output().ok()?;
-        output.status.success().then(|| String::from_utf8_lossy(&output.stdout).trim().to_owned())
+        let output = Command::new("pkg-config")
+            .args([question, "hibitset"])
+            .stderr(Stdio::null())
+            .output()
+            .ok()?;
+        output
+            .status
+            .success()
+            .then(|| String::from_utf8_lossy(&output.stdout).trim().to_owned())
     };
-    let named = answer("--variable=libdir")?;
-    let searched = answer("--libs-only-L")?;
-    let folders = searched.split_whitespace().filter_map(|word| word.strip_prefix("-L"));
-    folders.chain([named.as_str()]).map(PathBuf::from).find(|folder| folder.join(LIBRARY).is_file())
+    let mut folders = vec![answer("--variable=libdir")?];
+    let flags = answer("--libs-only-L")?;
+    folders.extend(
+        flags
+            .split_whitespace()
+            .filter_map(|flag| flag.strip_prefix("-L"))
+            .map(str::to_owned),
+    );
+    folders
+        .into_iter()
+        .map(PathBuf::from)
+        .find(|folder| folder.join(LIBRARY).is_file())
 }
 
 /// The folder beside this crate, whose library is built first if the toolchain is there.
@@ -38,7 +56,10 @@ fn built_folder() -> PathBuf {
     let manifest = env::var("CARGO_MANIFEST_DIR").expect("cargo sets CARGO_MANIFEST_DIR");
     let beside = Path::new(&manifest).join("../c");
     let toolchain = env::var("RT").unwrap_or_else(|_| "rt".to_owned());
-    let has_toolchain = Command::new(&toolchain).arg("version").output().is_ok_and(|output| output.status.success());
+    let has_toolchain = Command::new(&toolchain)
+        .arg("version")
+        .output()
+        .is_ok_and(|output| output.status.success());
     if has_toolchain && beside.join("Makefile").is_file() {
         make(&beside);
     }
@@ -69,7 +90,9 @@ fn fail(line: &str) -> ! {
 }
 
 fn main() {
-    let folder = named_folder().or_else(installed_folder).unwrap_or_else(built_folder);
+    let folder = named_folder()
+        .or_else(installed_folder)
+        .unwrap_or_else(built_folder);
     println!("cargo:rerun-if-changed={}", folder.join(LIBRARY).display());
     println!("cargo:rustc-link-search=native={}", folder.display());
     println!("cargo:rustc-link-lib=static=hibitset");

@@ -14,7 +14,10 @@ struct Component<T> {
 
 impl<T: Clone + Default> Component<T> {
     fn new() -> Component<T> {
-        Component { mask: BitSet::new(), values: Vec::new() }
+        Component {
+            mask: BitSet::new(),
+            values: Vec::new(),
+        }
     }
 
     fn insert(&mut self, entity: Index, value: T) {
@@ -48,7 +51,10 @@ impl World {
 
     /// Makes an entity of the least number that is free.
     fn create(&mut self) -> Index {
-        let entity = self.alive.first_gap(0).expect("fewer entities than a set has indices");
+        let entity = self
+            .alive
+            .first_gap(0)
+            .expect("fewer entities than a set has indices");
         self.alive.add(entity);
         entity
     }
@@ -74,7 +80,12 @@ impl World {
 
     /// Takes the dead out of every mask, whole words at a time.
     fn bury(&mut self) -> usize {
-        let masks = [&mut self.alive, &mut self.positions.mask, &mut self.speeds.mask, &mut self.frozen];
+        let masks = [
+            &mut self.alive,
+            &mut self.positions.mask,
+            &mut self.speeds.mask,
+            &mut self.frozen,
+        ];
         for mask in masks {
             *mask -= &self.dead;
         }
@@ -94,12 +105,24 @@ fn main() {
             world.frozen.add(entity);
         }
     }
-    println!("{} entities, {} of them move", world.alive.len(), world.step(5.0));
-    println!("{} are still: {:?} ..", still(&world).len(), &still(&world).to_vec()[..5]);
+    println!(
+        "{} entities, {} of them move",
+        world.alive.len(),
+        world.step(5.0)
+    );
+    println!(
+        "{} are still: {:?} ..",
+        still(&world).len(),
+        &still(&world).to_vec()[..5]
+    );
 
     world.find_dead();
     println!("{} have left the field", world.bury());
-    println!("{} are left, and the next one is number {}", world.alive.len(), world.create());
+    println!(
+        "{} are left, and the next one is number {}",
+        world.alive.len(),
+        world.create()
+    );
     assert!(world.positions.mask.is_subset(&world.alive));
 }
 

@@ -18,7 +18,10 @@ impl BitSet {
     /// # Errors
     ///
     /// [`AllocError`] if an allocation fails. The members are as they were.
-    pub fn try_bitor_assign<B: BitSetLike + ?Sized>(&mut self, other: &B) -> Result<(), AllocError> {
+    pub fn try_bitor_assign<B: BitSetLike + ?Sized>(
+        &mut self,
+        other: &B,
+    ) -> Result<(), AllocError> {
         match other.form() {
             Form::Set(other) => done(raw::hibitset_raw_or_assign(self.raw_mut(), other.raw())),
             _ => self.take_in(other.try_to_bit_set()?, BitSet::try_bitor_assign),
@@ -30,7 +33,10 @@ impl BitSet {
     /// # Errors
     ///
     /// [`AllocError`] if an allocation fails. The members are as they were.
-    pub fn try_bitxor_assign<B: BitSetLike + ?Sized>(&mut self, other: &B) -> Result<(), AllocError> {
+    pub fn try_bitxor_assign<B: BitSetLike + ?Sized>(
+        &mut self,
+        other: &B,
+    ) -> Result<(), AllocError> {
         match other.form() {
             Form::Set(other) => done(raw::hibitset_raw_xor_assign(self.raw_mut(), other.raw())),
             _ => self.take_in(other.try_to_bit_set()?, BitSet::try_bitxor_assign),
@@ -123,14 +129,16 @@ impl<B: BitSetLike + ?Sized> BitAndAssign<&B> for BitSet {
 /// ```
 impl<B: BitSetLike + ?Sized> BitOrAssign<&B> for BitSet {
     fn bitor_assign(&mut self, other: &B) {
-        self.try_bitor_assign(other).unwrap_or_else(|_| out_of_memory(1));
+        self.try_bitor_assign(other)
+            .unwrap_or_else(|_| out_of_memory(1));
     }
 }
 
 /// Adds the members of the other set that this one lacks, and removes those that both have.
 impl<B: BitSetLike + ?Sized> BitXorAssign<&B> for BitSet {
     fn bitxor_assign(&mut self, other: &B) {
-        self.try_bitxor_assign(other).unwrap_or_else(|_| out_of_memory(1));
+        self.try_bitxor_assign(other)
+            .unwrap_or_else(|_| out_of_memory(1));
     }
 }
 

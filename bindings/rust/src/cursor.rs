@@ -16,14 +16,20 @@ pub(crate) struct Cursor {
 impl Cursor {
     /// Has all that the set has.
     pub(crate) fn at_top<T: BitSetLike + ?Sized>(set: &T) -> Cursor {
-        let mut cursor = Cursor { masks: [0; LAYERS], prefix: [0; LAYERS - 1] };
+        let mut cursor = Cursor {
+            masks: [0; LAYERS],
+            prefix: [0; LAYERS - 1],
+        };
         cursor.masks[LAYERS - 1] = set.layer4();
         cursor
     }
 
     /// Has what the set has from an index on.
     pub(crate) fn from_index<T: BitSetLike + ?Sized>(set: &T, start: Index) -> Cursor {
-        let mut cursor = Cursor { masks: [0; LAYERS], prefix: [0; LAYERS - 1] };
+        let mut cursor = Cursor {
+            masks: [0; LAYERS],
+            prefix: [0; LAYERS - 1],
+        };
         if start as usize >= MAX_EID {
             return cursor;
         }
@@ -119,7 +125,9 @@ pub(crate) fn try_words<T: BitSetLike + ?Sized>(set: &T) -> Result<Vec<usize>, A
     let mut cursor = Cursor::at_top(set);
     while let Some((index, word)) = cursor.next_word(set) {
         let position = (index >> BITS) as usize;
-        words.try_reserve(position + 1 - words.len()).map_err(|_| AllocError)?;
+        words
+            .try_reserve(position + 1 - words.len())
+            .map_err(|_| AllocError)?;
         words.resize(position, 0);
         words.push(word);
     }

@@ -16,12 +16,20 @@ pub struct DrainBitIter<'a, T: 'a> {
 impl<'a, T: DrainableBitSet> DrainBitIter<'a, T> {
     /// Returns an iterator that has the bits in `masks` still to visit, as [`BitIter::new`] does. A call of
     /// [`DrainableBitSet::drain`] is the usual way to one.
-    pub fn new(set: &'a mut T, masks: [usize; LAYERS], prefix: [u32; LAYERS - 1]) -> DrainBitIter<'a, T> {
-        DrainBitIter { iter: BitIter::new(set, masks, prefix) }
+    pub fn new(
+        set: &'a mut T,
+        masks: [usize; LAYERS],
+        prefix: [u32; LAYERS - 1],
+    ) -> DrainBitIter<'a, T> {
+        DrainBitIter {
+            iter: BitIter::new(set, masks, prefix),
+        }
     }
 
     pub(crate) fn at_top(set: &'a mut T) -> DrainBitIter<'a, T> {
-        DrainBitIter { iter: BitSetLike::iter(set) }
+        DrainBitIter {
+            iter: BitSetLike::iter(set),
+        }
     }
 }
 
@@ -40,6 +48,8 @@ impl<T: DrainableBitSet> FusedIterator for DrainBitIter<'_, T> {}
 
 impl<T: Debug> Debug for DrainBitIter<'_, T> {
     fn fmt(&self, f: &mut Formatter<'_>) -> fmt::Result {
-        f.debug_struct("DrainBitIter").field("set", &self.iter.set).finish_non_exhaustive()
+        f.debug_struct("DrainBitIter")
+            .field("set", &self.iter.set)
+            .finish_non_exhaustive()
     }
 }

@@ -16,7 +16,6 @@ use std::fmt::{self, Display, Formatter};
 /// # assert!(mark(&mut BitSet::new(), 3).is_ok());
 /// ```
 #[derive(Clone, Copy, Debug, PartialEq, Eq)]
-#[non_exhaustive]
 pub struct AllocError;
 
 impl Display for AllocError {

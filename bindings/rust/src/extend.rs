@@ -6,7 +6,7 @@ use crate::set::{out_of_range, words_below, BitSet};
 use crate::Index;
 
 // How many items are handed to the library at once.
-const BATCH_LEN: usize = 256;
+const BATCH_LEN: usize = 128;
 
 impl BitSet {
     /// Adds the items of an iterator, up to the first one whose allocation fails.
@@ -49,7 +49,7 @@ impl BitSet {
 }
 
 /// Adds the items, in batches. It panics at one that is not below [`MAX_EID`](crate::MAX_EID), once those before it are
-/// added. If the iterator itself panics, the last 255 items before may be missing.
+/// added. If the iterator itself panics, the last 127 items before may be missing.
 impl Extend<Index> for BitSet {
     fn extend<I: IntoIterator<Item = Index>>(&mut self, iter: I) {
         let mut batch = [0; BATCH_LEN];

@@ -43,7 +43,13 @@ struct Batches {
 
 impl Batches {
     fn from_index(start: Index) -> Batches {
-        Batches { members: [0; BATCH_LEN], position: 0, len: 0, next_start: start, next_len: FIRST_BATCH_LEN }
+        Batches {
+            members: [0; BATCH_LEN],
+            position: 0,
+            len: 0,
+            next_start: start,
+            next_len: FIRST_BATCH_LEN,
+        }
     }
 
     /// What is left of the batch.
@@ -63,7 +69,11 @@ impl Batches {
             return false;
         };
         self.next_start = last + 1;
-        self.next_len = if self.len < room.len() { 0 } else { (4 * room.len()).min(BATCH_LEN) };
+        self.next_len = if self.len < room.len() {
+            0
+        } else {
+            (4 * room.len()).min(BATCH_LEN)
+        };
         true
     }
 
@@ -92,7 +102,10 @@ impl<T> BitIter<T> {
     /// assert_eq!(rest.collect::<Vec<_>>(), [65, 200]);
     /// ```
     pub fn new(set: T, masks: [usize; LAYERS], prefix: [u32; LAYERS - 1]) -> BitIter<T> {
-        BitIter { set, source: Source::Words(Cursor { masks, prefix }) }
+        BitIter {
+            set,
+            source: Source::Words(Cursor { masks, prefix }),
+        }
     }
 }
 
@@ -152,6 +165,8 @@ impl<T: BitSetLike> FusedIterator for BitIter<T> {}
 
 impl<T: Debug> Debug for BitIter<T> {
     fn fmt(&self, f: &mut Formatter<'_>) -> fmt::Result {
-        f.debug_struct("BitIter").field("set", &self.set).finish_non_exhaustive()
+        f.debug_struct("BitIter")
+            .field("set", &self.set)
+            .finish_non_exhaustive()
     }
 }

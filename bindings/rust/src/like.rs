@@ -122,7 +122,9 @@ pub trait BitSetLike {
 
     /// Returns the least member.
     fn first(&self) -> Option<Index> {
-        self.form().first_from(0).unwrap_or_else(|| cursor::Cursor::at_top(self).next(self))
+        self.form()
+            .first_from(0)
+            .unwrap_or_else(|| cursor::Cursor::at_top(self).next(self))
     }
 
     /// Returns the greatest member.

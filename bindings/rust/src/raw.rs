@@ -46,8 +46,16 @@ unsafe impl Sync for Set {}
 impl Set {
     /// The empty set, which has no memory.
     pub(crate) const fn new() -> Set {
-        const NONE: Layer = Layer { words: NO_WORD, len: 0 };
-        Set { layers: [NONE; LAYERS - 1], top: 0, block: null_mut(), made: false }
+        const NONE: Layer = Layer {
+            words: NO_WORD,
+            len: 0,
+        };
+        Set {
+            layers: [NONE; LAYERS - 1],
+            top: 0,
+            block: null_mut(),
+            made: false,
+        }
     }
 
     /// Whether the set has memory, which is to be freed.
@@ -80,7 +88,12 @@ unsafe extern "C" {
     pub(crate) safe fn hibitset_free(set: &mut Set);
     pub(crate) safe fn hibitset_with_capacity(set: &mut Set, max: Index) -> u32;
     pub(crate) safe fn hibitset_add(set: &mut Set, index: Index) -> u32;
-    fn hibitset_add_many(set: &mut Set, indices: *const Index, len: usize, added: &mut usize) -> u32;
+    fn hibitset_add_many(
+        set: &mut Set,
+        indices: *const Index,
+        len: usize,
+        added: &mut usize,
+    ) -> u32;
     pub(crate) safe fn hibitset_remove(set: &mut Set, index: Index) -> bool;
     pub(crate) safe fn hibitset_clear(set: &mut Set);
     pub(crate) safe fn hibitset_add_range(set: &mut Set, start: Index, end: Index) -> u32;
@@ -109,10 +122,34 @@ unsafe extern "C" {
     pub(crate) safe fn hibitset_or_len(a: &Set, b: &Set) -> usize;
     pub(crate) safe fn hibitset_xor_len(a: &Set, b: &Set) -> usize;
     pub(crate) safe fn hibitset_andnot_len(a: &Set, b: &Set) -> usize;
-    fn hibitset_and_next_many(a: &Set, b: &Set, start: Index, buffer: *mut Index, len: usize) -> usize;
-    fn hibitset_or_next_many(a: &Set, b: &Set, start: Index, buffer: *mut Index, len: usize) -> usize;
-    fn hibitset_xor_next_many(a: &Set, b: &Set, start: Index, buffer: *mut Index, len: usize) -> usize;
-    fn hibitset_andnot_next_many(a: &Set, b: &Set, start: Index, buffer: *mut Index, len: usize) -> usize;
+    fn hibitset_and_next_many(
+        a: &Set,
+        b: &Set,
+        start: Index,
+        buffer: *mut Index,
+        len: usize,
+    ) -> usize;
+    fn hibitset_or_next_many(
+        a: &Set,
+        b: &Set,
+        start: Index,
+        buffer: *mut Index,
+        len: usize,
+    ) -> usize;
+    fn hibitset_xor_next_many(
+        a: &Set,
+        b: &Set,
+        start: Index,
+        buffer: *mut Index,
+        len: usize,
+    ) -> usize;
+    fn hibitset_andnot_next_many(
+        a: &Set,
+        b: &Set,
+        start: Index,
+        buffer: *mut Index,
+        len: usize,
+    ) -> usize;
 }
 
 /// Adds the indices in order, up to the first that fails. Returns how many were added, and what the call returns.

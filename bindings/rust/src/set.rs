@@ -6,7 +6,6 @@ use std::ops::{Bound, RangeBounds};
 use crate::drain::DrainBitIter;
 use crate::error::{out_of_memory, AllocError};
 use crate::form::Form;
-use crate::iter::BitIter;
 use crate::like::{BitSetLike, DrainableBitSet};
 use crate::raw::{self, Set};
 use crate::{Index, BITS, MAX_EID};
@@ -29,14 +28,20 @@ use crate::{Index, BITS, MAX_EID};
 ///
 /// assert!(set.remove(7));
 /// assert_eq!((set.len(), set.first(), set.last()), (4, Some(100), Some(103)));
-/// assert_eq!(set.iter_from(102).next(), Some(102));
 /// ```
 ///
-/// # `iter` and the trait
+/// # Iteration
 ///
-/// [`BitSetLike::iter`] takes its set. Where the trait is imported, `set.iter()` is that method, and moves `set`: write
-/// `(&set).iter()`, or `for index in &set`. Where it isn't, `set.iter()` is [`BitSet::iter`], which borrows. So it is
-/// with `iter_from`.
+/// `for index in &set` goes over the members, ascending. [`BitSetLike::iter`] takes its set, so it is
+/// called on a reference, and so is [`BitSetLike::iter_from`]:
+///
+/// ```
+/// use hibitset::{BitSet, BitSetLike};
+///
+/// let set = BitSet::from_iter([1, 20, 300]);
+/// assert_eq!((&set).iter().count(), 3);
+/// assert_eq!((&set).iter_from(2).next(), Some(20));
+/// ```
 pub struct BitSet {
     set: Set,
 }
@@ -153,7 +158,11 @@ impl BitSet {
     ///
     /// If there are more than 16,777,216 words.
     pub fn try_from_words(words: &[usize]) -> Result<BitSet, AllocError> {
-        assert!(words.len() <= words_below(MAX_EID), "layer 0 has at most {} words", words_below(MAX_EID));
+        assert!(
+            words.len() <= words_below(MAX_EID),
+            "layer 0 has at most {} words",
+            words_below(MAX_EID)
+        );
         let mut set = BitSet::new();
         done(raw::assign_words(&mut set.set, words))?;
         Ok(set)
@@ -256,7 +265,11 @@ impl BitSet {
         // No index from `MAX_EID` on is in a set.
         let (start, end) = limits(&range);
         let max = MAX_EID as u64;
-        raw::hibitset_remove_range(&mut self.set, start.min(max) as Index, end.min(max) as Index);
+        raw::hibitset_remove_range(
+            &mut self.set,
+            start.min(max) as Index,
+            end.min(max) as Index,
+        );
     }
 
     /// Removes all members. It keeps the memory for members to come, but [`capacity`](BitSet::capacity) is 0.
@@ -340,17 +353,6 @@ impl BitSet {
     pub fn first_gap(&self, start: Index) -> Option<Index> {
         let mut index = 0;
         raw::hibitset_first_gap(&self.set, start, &mut index).then_some(index)
-    }
-
-    /// Returns an iterator over the members, ascending. If [`BitSetLike`] is imported, `set.iter()` is the trait's method,
-    /// [which takes the set](BitSet#iter-and-the-trait).
-    pub fn iter(&self) -> BitIter<&BitSet> {
-        BitSetLike::iter(self)
-    }
-
-    /// Returns an iterator over the members from `start` on, ascending.
-    pub fn iter_from(&self, start: Index) -> BitIter<&BitSet> {
-        BitSetLike::iter_from(self, start)
     }
 
     /// Returns the members, ascending.
@@ -503,7 +505,8 @@ impl Default for BitSet {
 
 impl Clone for BitSet {
     fn clone(&self) -> BitSet {
-        self.try_clone().unwrap_or_else(|_| out_of_memory(self.layer0_as_slice().len()))
+        self.try_clone()
+            .unwrap_or_else(|_| out_of_memory(self.layer0_as_slice().len()))
     }
 }
 

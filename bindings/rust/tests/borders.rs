@@ -10,8 +10,20 @@ use hibitset::{BitSet, BitSetAll, BitSetAnd, BitSetLike, BitSetNot, BitSetOr, In
 const MAX: Index = MAX_EID as Index;
 
 /// The first and the last index of a word of each layer.
-const BORDERS: [Index; 12] =
-    [0, 63, 64, 4_095, 4_096, 262_143, 262_144, (1 << 24) - 1, 1 << 24, MAX / 2, MAX - 2, MAX - 1];
+const BORDERS: [Index; 12] = [
+    0,
+    63,
+    64,
+    4_095,
+    4_096,
+    262_143,
+    262_144,
+    (1 << 24) - 1,
+    1 << 24,
+    MAX / 2,
+    MAX - 2,
+    MAX - 1,
+];
 
 #[test]
 fn the_constants_are_those_of_five_layers() {
@@ -46,13 +58,19 @@ fn one_border_alone_is_found() {
     let mut set = BitSet::with_capacity(MAX);
     for index in BORDERS {
         set.add(index);
-        assert_eq!((set.first(), set.last(), set.len()), (Some(index), Some(index), 1));
+        assert_eq!(
+            (set.first(), set.last(), set.len()),
+            (Some(index), Some(index), 1)
+        );
         assert_eq!(set.to_vec(), [index]);
         assert_eq!(BitSetAnd(&set, BitSetAll).to_vec(), [index]);
         assert_eq!(BitSetAnd(&set, BitSetAll).last(), Some(index));
-        assert_eq!(set.iter_from(index).next(), Some(index));
-        assert_eq!(set.iter_from(index + 1).next(), None);
-        assert_eq!(BitSetAnd(&set, BitSetAll).iter_from(index).next(), Some(index));
+        assert_eq!((&set).iter_from(index).next(), Some(index));
+        assert_eq!((&set).iter_from(index + 1).next(), None);
+        assert_eq!(
+            BitSetAnd(&set, BitSetAll).iter_from(index).next(),
+            Some(index)
+        );
         assert_eq!(BitSetAnd(&set, BitSetAll).iter_from(index + 1).next(), None);
         assert_eq!(set.drain().collect::<Vec<_>>(), [index]);
     }
@@ -64,7 +82,10 @@ fn ranges_end_at_borders() {
         let mut set = BitSet::new();
         set.add_range(pair[0]..pair[1]);
         assert_eq!(set.len(), (pair[1] - pair[0]) as usize);
-        assert_eq!((set.first(), set.last()), (Some(pair[0]), Some(pair[1] - 1)));
+        assert_eq!(
+            (set.first(), set.last()),
+            (Some(pair[0]), Some(pair[1] - 1))
+        );
         assert_eq!(set.first_gap(pair[0]), Some(pair[1]));
         set.add_range(pair[0]..=pair[1]);
         assert_eq!(set.last(), Some(pair[1]));
@@ -97,8 +118,17 @@ fn all_kinds_of_ranges_are_taken() {
 fn the_whole_range_is_a_set() {
     let mut set = BitSet::new();
     set.add_range(..);
-    assert_eq!((set.len(), set.first(), set.last()), (MAX_EID, Some(0), Some(MAX - 1)));
-    assert_eq!((set.first_gap(0), set.iter_from(MAX - 2).collect::<Vec<_>>()), (None, vec![MAX - 2, MAX - 1]));
+    assert_eq!(
+        (set.len(), set.first(), set.last()),
+        (MAX_EID, Some(0), Some(MAX - 1))
+    );
+    assert_eq!(
+        (
+            set.first_gap(0),
+            (&set).iter_from(MAX - 2).collect::<Vec<_>>()
+        ),
+        (None, vec![MAX - 2, MAX - 1])
+    );
     set.remove(5);
     assert_eq!(BitSetNot(&set).to_vec(), [5]);
     assert_eq!((BitSetNot(&set).len(), set.first_gap(0)), (1, Some(5)));
@@ -113,12 +143,24 @@ fn indices_past_the_range_are_in_no_set() {
     for index in [MAX, MAX + 1, Index::MAX] {
         assert!(!set.contains(index) && !BitSetOr(&set, &set).contains(index));
         assert!(BitSetAll.contains(index) && BitSetNot(&set).contains(index));
-        assert_eq!((set.iter_from(index).next(), set.first_gap(index)), (None, None));
-        assert_eq!((BitSetAll.iter_from(index).next(), BitSetNot(&set).iter_from(index).next()), (None, None));
+        assert_eq!(
+            ((&set).iter_from(index).next(), set.first_gap(index)),
+            (None, None)
+        );
+        assert_eq!(
+            (
+                BitSetAll.iter_from(index).next(),
+                BitSetNot(&set).iter_from(index).next()
+            ),
+            (None, None)
+        );
         assert!(!set.clone().remove(index));
     }
     assert_eq!(BitSetAll.iter_from(MAX - 1).collect::<Vec<_>>(), [MAX - 1]);
-    assert_eq!(BitSetNot(&set).iter_from(MAX - 1).collect::<Vec<_>>(), [MAX - 1]);
+    assert_eq!(
+        BitSetNot(&set).iter_from(MAX - 1).collect::<Vec<_>>(),
+        [MAX - 1]
+    );
     assert_eq!(BitSetNot(&set).last(), Some(MAX - 1));
 }
 
@@ -128,6 +170,12 @@ fn words_of_every_number_are_taken() {
         let words: Vec<usize> = (0..len).map(|i| if i % 3 == 0 { i } else { 0 }).collect();
         let set = BitSet::from_words(&words);
         assert_eq!(set.layer0_as_slice(), words);
-        assert_eq!(set.len(), words.iter().map(|word| word.count_ones() as usize).sum::<usize>());
+        assert_eq!(
+            set.len(),
+            words
+                .iter()
+                .map(|word| word.count_ones() as usize)
+                .sum::<usize>()
+        );
     }
 }

@@ -78,7 +78,11 @@ fn refuse_each(start: &BitSet, call: impl Fn(&mut BitSet) -> Result<(), AllocErr
 }
 
 fn sets() -> [BitSet; 3] {
-    [BitSet::new(), BitSet::from_iter([5, 70]), (0..5_000).filter(|i| i % 3 == 0).collect()]
+    [
+        BitSet::new(),
+        BitSet::from_iter([5, 70]),
+        (0..5_000).filter(|i| i % 3 == 0).collect(),
+    ]
 }
 
 #[test]
@@ -89,7 +93,11 @@ fn a_refused_change_leaves_the_members() {
         assert!(refuse_each(&set, |set| set.try_add_range(4_000..70_000)) > 0);
         assert!(refuse_each(&set, |set| set.try_bitor_assign(&other)) > 0);
         assert!(refuse_each(&set, |set| set.try_bitxor_assign(&other)) > 0);
-        assert!(refuse_each(&set, |set| set.try_bitor_assign(&(&other & !(&other & !&other)))) > 0);
+        assert!(
+            refuse_each(&set, |set| set
+                .try_bitor_assign(&(&other & !(&other & !&other))))
+                > 0
+        );
         assert!(refuse_each(&set, |set| set.try_bitxor_assign(&(&other | &other))) > 0);
     }
 }
@@ -118,7 +126,10 @@ fn a_refused_item_ends_an_extension() {
     let refused = set.try_extend(&mut items);
     REFUSED.set(-1);
     assert_eq!((refused, set.to_vec()), (Err(AllocError), vec![5, 6]));
-    assert_eq!((set.try_extend(items), set.to_vec()), (Ok(()), vec![5, 6, 8]));
+    assert_eq!(
+        (set.try_extend(items), set.to_vec()),
+        (Ok(()), vec![5, 6, 8])
+    );
 }
 
 #[test]
@@ -150,7 +161,7 @@ fn an_empty_set_takes_no_memory() {
     REFUSED.set(0);
     let set = BitSet::new();
     let copy = set.clone();
-    assert!(set == copy && set.layer0_as_slice().is_empty() && set.iter().next().is_none());
+    assert!(set == copy && set.layer0_as_slice().is_empty() && (&set).iter().next().is_none());
     drop((set, copy));
     assert_eq!(REFUSED.replace(-1), 0);
 }
@@ -167,7 +178,7 @@ fn call_refused(call: &str) {
     let other = BitSet::from_iter([70_000]);
     REFUSED.set(0);
     match call {
-        "add" => drop(set.add(70_000)),
+        "add" => _ = set.add(70_000),
         "add_range" => set.add_range(5..70_000),
         "or" => set |= &other,
         "xor" => set ^= &other,
@@ -184,13 +195,29 @@ fn a_call_without_an_error_ends_the_process() {
     if let Ok(call) = env::var("HIBITSET_REFUSED_CALL") {
         return call_refused(&call);
     }
-    for call in ["add", "add_range", "or", "xor", "clone", "with_capacity", "from_words", "to_bit_set"] {
+    for call in [
+        "add",
+        "add_range",
+        "or",
+        "xor",
+        "clone",
+        "with_capacity",
+        "from_words",
+        "to_bit_set",
+    ] {
         let child = Command::new(env::current_exe().expect("the test has a path"))
-            .args(["--exact", "a_call_without_an_error_ends_the_process", "--nocapture"])
+            .args([
+                "--exact",
+                "a_call_without_an_error_ends_the_process",
+                "--nocapture",
+            ])
             .env("HIBITSET_REFUSED_CALL", call)
             .output()
             .expect("the test runs");
         let text = String::from_utf8_lossy(&child.stderr);
-        assert!(!child.status.success() && text.contains("memory allocation of"), "{call}: {text}");
+        assert!(
+            !child.status.success() && text.contains("memory allocation of"),
+            "{call}: {text}"
+        );
     }
 }

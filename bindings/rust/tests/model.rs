@@ -5,7 +5,7 @@ mod common;
 use std::collections::BTreeSet;
 
 use common::{assert_at, assert_members, Numbers};
-use hibitset::{BitSet, Index};
+use hibitset::{BitSet, BitSetLike, Index};
 
 /// Makes one random change to both.
 fn change(numbers: &mut Numbers, bound: Index, set: &mut BitSet, model: &mut BTreeSet<Index>) {
@@ -119,10 +119,18 @@ fn slices_have_the_words() {
     let mut numbers = Numbers::new(7);
     let (set, model) = numbers.set_of(5_000, 1 << 20);
     let mut below: BTreeSet<Index> = model;
-    let layers =
-        [set.layer0_as_slice(), set.layer1_as_slice(), set.layer2_as_slice(), set.layer3_as_slice()];
+    let layers = [
+        set.layer0_as_slice(),
+        set.layer1_as_slice(),
+        set.layer2_as_slice(),
+        set.layer3_as_slice(),
+    ];
     for words in layers {
-        let stands = |i: Index| words.get(i as usize / 64).is_some_and(|word| word >> (i % 64) & 1 == 1);
+        let stands = |i: Index| {
+            words
+                .get(i as usize / 64)
+                .is_some_and(|word| word >> (i % 64) & 1 == 1)
+        };
         assert!((0..1 << 20).all(|i| stands(i) == below.contains(&i)));
         below = below.iter().map(|i| i / 64).collect();
     }
@@ -130,7 +138,10 @@ fn slices_have_the_words() {
 
 #[test]
 fn debug_prints_the_members() {
-    assert_eq!(format!("{:?}", BitSet::from_iter([70_000, 5])), "{5, 70000}");
+    assert_eq!(
+        format!("{:?}", BitSet::from_iter([70_000, 5])),
+        "{5, 70000}"
+    );
     assert_eq!(format!("{:?}", BitSet::default()), "{}");
 }
 
@@ -142,7 +153,7 @@ fn a_drain_that_is_dropped_leaves_the_rest() {
             break;
         }
     }
-    assert!(set.iter().eq(500..1000));
+    assert!((&set).iter().eq(500..1000));
     assert_eq!(set.drain().count(), 500);
     assert!(set.is_empty());
 }
@@ -150,7 +161,7 @@ fn a_drain_that_is_dropped_leaves_the_rest() {
 #[test]
 fn an_iterator_is_cloned_where_it_is() {
     let set: BitSet = (0..1000).map(|i| 3 * i).collect();
-    let mut iter = set.iter();
+    let mut iter = (&set).iter();
     for skipped in [0, 1, 7, 8, 9, 135, 136, 137, 999] {
         let mut iter = iter.by_ref().clone().skip(skipped);
         let rest = iter.clone();
@@ -164,17 +175,17 @@ fn an_iterator_is_cloned_where_it_is() {
 #[test]
 fn an_iterator_stays_at_its_end() {
     let set: BitSet = (0..8).collect();
-    let mut iter = set.iter();
+    let mut iter = (&set).iter();
     assert_eq!(iter.by_ref().take(8).count(), 8);
     assert_eq!((iter.next(), iter.next()), (None, None));
-    assert_eq!(iter.fold(0, |sum, i| sum + i), 0);
+    assert_eq!(iter.sum::<Index>(), 0);
 }
 
 #[test]
 fn a_fold_goes_on_from_where_next_stopped() {
     let set: BitSet = (0..10_000).filter(|i| i % 7 < 3).collect();
     for taken in [0, 1, 7, 8, 9, 40, 41, 2000] {
-        let mut iter = set.iter();
+        let mut iter = (&set).iter();
         let head: Vec<Index> = iter.by_ref().take(taken).collect();
         let all = iter.fold(head, |mut all, index| {
             all.push(index);

@@ -17,15 +17,18 @@ fn an_index_past_the_range_panics() {
     let mut set = BitSet::from_iter([1, 2]);
     for index in [MAX, MAX + 1, Index::MAX] {
         let calls: [fn(&mut BitSet, Index); 5] = [
-            |set, index| drop(set.add(index)),
-            |set, index| drop(set.try_add(index)),
+            |set, index| _ = set.add(index),
+            |set, index| _ = set.try_add(index),
             |set, index| set.extend([2, index, 3]),
-            |set, index| drop(set.try_extend([2, index, 3])),
+            |set, index| _ = set.try_extend([2, index, 3]),
             |_, index| drop(BitSet::from_iter([2, index, 3])),
         ];
         for call in calls {
             let message = message_of(&mut set, |set| call(set, index));
-            assert!(message.contains(&format!("the index {index} is out of range")), "{message}");
+            assert!(
+                message.contains(&format!("the index {index} is out of range")),
+                "{message}"
+            );
             assert_eq!(set.to_vec(), [1, 2]);
         }
     }
@@ -40,7 +43,7 @@ fn a_bound_past_the_range_panics() {
         |set| set.add_range(5..MAX + 1),
         |set| set.add_range(MAX..=MAX),
         |set| set.add_range(0..=Index::MAX),
-        |set| drop(set.try_add_range(5..=MAX)),
+        |set| _ = set.try_add_range(5..=MAX),
     ];
     for call in calls {
         let message = message_of(&mut set, call);
@@ -77,13 +80,13 @@ fn a_layer_above_the_top_panics() {
 #[test]
 fn items_before_a_panic_are_added() {
     let mut set = BitSet::new();
-    for len in [0, 1, 255, 256, 257, 1000] {
+    for len in [0, 1, 127, 128, 129, 1000] {
         let items = (0..len).chain([Index::MAX, 5_000]);
         assert!(message_of(&mut set, |set| set.extend(items)).contains("out of range"));
-        assert!(set.iter().eq(0..len));
+        assert!((&set).iter().eq(0..len));
     }
     let mut set = BitSet::new();
     let items = (0..1000).inspect(|i| assert!(*i < 600, "no more of {i} items"));
     assert!(message_of(&mut set, |set| set.extend(items)).contains("no more"));
-    assert!((600 - 255..=600).contains(&set.len()) && set.iter().eq(0..set.len() as Index));
+    assert!((600 - 127..=600).contains(&set.len()) && (&set).iter().eq(0..set.len() as Index));
 }

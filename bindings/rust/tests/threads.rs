@@ -4,7 +4,9 @@ use std::panic::{RefUnwindSafe, UnwindSafe};
 use std::sync::{Arc, RwLock};
 use std::thread;
 
-use hibitset::{AllocError, BitIter, BitSet, BitSetAll, BitSetAnd, BitSetLike, BitSetNot, DrainBitIter};
+use hibitset::{
+    AllocError, BitIter, BitSet, BitSetAll, BitSetAnd, BitSetLike, BitSetNot, DrainBitIter,
+};
 
 #[test]
 fn types_go_to_other_threads() {
@@ -23,7 +25,7 @@ fn types_go_to_other_threads() {
 fn threads_read_one_set() {
     let set: BitSet = (0..100_000).filter(|i| i % 3 == 0).collect();
     let other: BitSet = (0..100_000).filter(|i| i % 5 == 0).collect();
-    let sum: u64 = set.iter().map(u64::from).sum();
+    let sum: u64 = (&set).iter().map(u64::from).sum();
     thread::scope(|scope| {
         for first in 0..4 {
             let (set, other) = (&set, &other);
@@ -55,7 +57,7 @@ fn a_set_is_changed_by_one_thread_after_another() {
         .join()
         .expect("the thread ended");
     }
-    assert!(set.iter().eq(0..8000));
+    assert!((&set).iter().eq(0..8000));
     let last = thread::spawn(move || set.len());
     assert_eq!(last.join().expect("the thread ended"), 8000);
 }
@@ -68,8 +70,14 @@ fn threads_share_a_set_behind_a_lock() {
             let shared = Arc::clone(&shared);
             thread::spawn(move || {
                 for i in 0..500 {
-                    assert!(!shared.write().expect("no thread panicked").add(4 * i + first));
-                    assert!(shared.read().expect("no thread panicked").contains(4 * i + first));
+                    assert!(!shared
+                        .write()
+                        .expect("no thread panicked")
+                        .add(4 * i + first));
+                    assert!(shared
+                        .read()
+                        .expect("no thread panicked")
+                        .contains(4 * i + first));
                 }
             })
         })
@@ -77,5 +85,8 @@ fn threads_share_a_set_behind_a_lock() {
     for thread in threads {
         thread.join().expect("the thread ended");
     }
-    assert_eq!(shared.read().expect("no thread panicked").to_vec(), (0..2000).collect::<Vec<_>>());
+    assert_eq!(
+        shared.read().expect("no thread panicked").to_vec(),
+        (0..2000).collect::<Vec<_>>()
+    );
 }

@@ -87,7 +87,10 @@ fn assignments_take_any_set() {
     assert_members(&changed(&|set| *set &= &BitSetAll), &x);
     assert_members(&changed(&|set| *set |= &(&b & &c)), &(&x | &(&y & &z)));
     assert_members(&changed(&|set| *set |= &(&b & !&c)), &(&x | &(&y - &z)));
-    assert_members(&changed(&|set| *set |= &(&b & &c & !&a)), &(&x | &(&(&y & &z) - &x)));
+    assert_members(
+        &changed(&|set| *set |= &(&b & &c & !&a)),
+        &(&x | &(&(&y & &z) - &x)),
+    );
     assert_members(&changed(&|set| *set ^= &(&b | &c)), &(&x ^ &(&y | &z)));
     assert_members(&changed(&|set| *set ^= &(&b ^ &c)), &(&x ^ &(&y ^ &z)));
     assert_members(&changed(&|set| *set -= &(&b | &c)), &(&x - &(&y | &z)));
@@ -113,29 +116,43 @@ fn with_nest(
         return then(numbers, leaf, has, false);
     }
     let kind = numbers.below(5);
-    with_nest(depth - 1, numbers, leaves, &mut |numbers, a, a_has, a_rest| {
-        if kind == 0 {
-            let not: Vec<bool> = a_has.iter().map(|has| !has).collect();
-            return then(numbers, &BitSetNot(a), &not, !a_rest);
-        }
-        let b_depth = numbers.below(depth);
-        with_nest(b_depth, numbers, leaves, &mut |numbers, b, b_has, b_rest| {
-            let holds: fn(bool, bool) -> bool = match kind {
-                1 => |a, b| a && b,
-                2 => |a, b| a || b,
-                3 => |a, b| a != b,
-                _ => |a, b| a && !b,
-            };
-            let has: Vec<bool> = a_has.iter().zip(b_has).map(|(a, b)| holds(*a, *b)).collect();
-            let rest = holds(a_rest, b_rest);
-            match kind {
-                1 => then(numbers, &BitSetAnd(a, b), &has, rest),
-                2 => then(numbers, &BitSetOr(a, b), &has, rest),
-                3 => then(numbers, &BitSetXor(a, b), &has, rest),
-                _ => then(numbers, &BitSetAnd(a, BitSetNot(b)), &has, rest),
+    with_nest(
+        depth - 1,
+        numbers,
+        leaves,
+        &mut |numbers, a, a_has, a_rest| {
+            if kind == 0 {
+                let not: Vec<bool> = a_has.iter().map(|has| !has).collect();
+                return then(numbers, &BitSetNot(a), &not, !a_rest);
             }
-        });
-    });
+            let b_depth = numbers.below(depth);
+            with_nest(
+                b_depth,
+                numbers,
+                leaves,
+                &mut |numbers, b, b_has, b_rest| {
+                    let holds: fn(bool, bool) -> bool = match kind {
+                        1 => |a, b| a && b,
+                        2 => |a, b| a || b,
+                        3 => |a, b| a != b,
+                        _ => |a, b| a && !b,
+                    };
+                    let has: Vec<bool> = a_has
+                        .iter()
+                        .zip(b_has)
+                        .map(|(a, b)| holds(*a, *b))
+                        .collect();
+                    let rest = holds(a_rest, b_rest);
+                    match kind {
+                        1 => then(numbers, &BitSetAnd(a, b), &has, rest),
+                        2 => then(numbers, &BitSetOr(a, b), &has, rest),
+                        3 => then(numbers, &BitSetXor(a, b), &has, rest),
+                        _ => then(numbers, &BitSetAnd(a, BitSetNot(b)), &has, rest),
+                    }
+                },
+            );
+        },
+    );
 }
 
 #[test]
@@ -149,30 +166,41 @@ fn random_nests_have_what_their_connectives_say() {
         })
         .into();
     for round in 0..300 {
-        with_nest(round % 5, &mut numbers, &leaves, &mut |numbers, set, has, rest| {
-            assert!((0..BOUND).all(|i| set.contains(i) == has[i as usize]));
-            assert_eq!(set.contains(BOUND + 5), rest);
-            let start = numbers.below(BOUND);
-            for start in [0, start] {
-                let members: Vec<Index> = (start..BOUND).filter(|i| has[*i as usize]).collect();
-                assert!(set.iter_from(start).take(members.len()).eq(members));
-                let gap = (start..BOUND).find(|i| !has[*i as usize]);
-                assert!(gap.is_none() || set.first_gap(start) == gap);
-            }
-            let first = (0..BOUND).find(|i| has[*i as usize]);
-            if first.is_some() || rest {
-                assert_eq!((set.first(), set.is_empty()), (first.or(Some(BOUND)), false));
-            }
-            assert_eq!(rest, rest && set.layer4() == usize::MAX);
-            // Where all summary bits are set, a whole walk reads each word of layer 0.
-            if set.layer4() != usize::MAX {
-                let members: Vec<Index> = (0..BOUND).filter(|i| has[*i as usize]).collect();
-                assert_eq!(set.to_vec(), members);
-                assert_eq!((set.len(), set.last()), (members.len(), members.last().copied()));
-                assert_eq!(set.is_empty(), members.is_empty());
-                assert!(set.to_bit_set().iter().eq(members));
-            }
-        });
+        with_nest(
+            round % 5,
+            &mut numbers,
+            &leaves,
+            &mut |numbers, set, has, rest| {
+                assert!((0..BOUND).all(|i| set.contains(i) == has[i as usize]));
+                assert_eq!(set.contains(BOUND + 5), rest);
+                let start = numbers.below(BOUND);
+                for start in [0, start] {
+                    let members: Vec<Index> = (start..BOUND).filter(|i| has[*i as usize]).collect();
+                    assert!(set.iter_from(start).take(members.len()).eq(members));
+                    let gap = (start..BOUND).find(|i| !has[*i as usize]);
+                    assert!(gap.is_none() || set.first_gap(start) == gap);
+                }
+                let first = (0..BOUND).find(|i| has[*i as usize]);
+                if first.is_some() || rest {
+                    assert_eq!(
+                        (set.first(), set.is_empty()),
+                        (first.or(Some(BOUND)), false)
+                    );
+                }
+                assert_eq!(rest, rest && set.layer4() == usize::MAX);
+                // Where all summary bits are set, a whole walk reads each word of layer 0.
+                if set.layer4() != usize::MAX {
+                    let members: Vec<Index> = (0..BOUND).filter(|i| has[*i as usize]).collect();
+                    assert_eq!(set.to_vec(), members);
+                    assert_eq!(
+                        (set.len(), set.last()),
+                        (members.len(), members.last().copied())
+                    );
+                    assert_eq!(set.is_empty(), members.is_empty());
+                    assert!(set.to_bit_set().iter().eq(members));
+                }
+            },
+        );
     }
 }
 
@@ -185,7 +213,10 @@ fn a_drain_removes_from_both() {
     assert!(drained.iter().all(|i| !a.contains(*i) && !b.contains(*i)));
     assert!(a.contains(600) && b.contains(600));
     assert!(BitSetOr(&mut a, &mut b).remove(2) && !BitSetOr(&mut a, &mut b).remove(2));
-    assert_eq!(BitSetOr(&mut a, &mut b).drain().count(), 500 + 334 - 167 - 100 - 1);
+    assert_eq!(
+        BitSetOr(&mut a, &mut b).drain().count(),
+        500 + 334 - 167 - 100 - 1
+    );
     assert!(a.is_empty() && b.is_empty());
 }
 
@@ -210,7 +241,9 @@ impl BitSetLike for Multiples {
     }
 
     fn layer0(&self, i: usize) -> usize {
-        (0..64).filter(|bit| self.contains(64 * i as Index + bit)).fold(0, |word, bit| word | 1 << bit)
+        (0..64)
+            .filter(|bit| self.contains(64 * i as Index + bit))
+            .fold(0, |word, bit| word | 1 << bit)
     }
 
     fn contains(&self, i: Index) -> bool {

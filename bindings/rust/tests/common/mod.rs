@@ -56,15 +56,28 @@ pub fn assert_members<T: BitSetLike + ?Sized>(set: &T, model: &BTreeSet<Index>) 
 /// Compares two lists, and shows where they part.
 fn assert_same<T: PartialEq + Debug>(left: &[T], right: &[T]) {
     let place = left.iter().zip(right).position(|(a, b)| a != b);
-    assert_eq!(place, None, "{:?} and {:?}", place.map(|at| &left[at]), place.map(|at| &right[at]));
+    assert_eq!(
+        place,
+        None,
+        "{:?} and {:?}",
+        place.map(|at| &left[at]),
+        place.map(|at| &right[at])
+    );
     assert_eq!(left.len(), right.len());
 }
 
 /// Compares what a set answers at one index.
 pub fn assert_at<T: BitSetLike + ?Sized>(set: &T, model: &BTreeSet<Index>, index: Index) {
-    assert_eq!(set.contains(index), model.contains(&index), "contains {index}");
+    assert_eq!(
+        set.contains(index),
+        model.contains(&index),
+        "contains {index}"
+    );
     let next: Vec<_> = set.iter_from(index).take(200).collect();
-    assert_same(&next, &model.range(index..).take(200).copied().collect::<Vec<_>>());
+    assert_same(
+        &next,
+        &model.range(index..).take(200).copied().collect::<Vec<_>>(),
+    );
     let gap = (index..MAX_EID as Index).find(|i| !model.contains(i));
     assert_eq!(set.first_gap(index), gap, "first_gap {index}");
 }
