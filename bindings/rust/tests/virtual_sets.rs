@@ -65,7 +65,8 @@ fn operands_are_owned_or_borrowed() {
     let both = &x & &y;
     assert_set(&(a.clone() & b.clone()), &both);
     assert_set(&(a.clone() & &b), &both);
-    assert_set(&(&(&a & &b) & &(&b & &a)), &both);
+    let (left, right) = (a.clone() & &b, b.clone() & &a);
+    assert_set(&(&left & &right), &both);
     let dynamic: &dyn BitSetLike = &a;
     assert_set(&BitSetAnd(dynamic, &b), &both);
     assert!((a & b).into_iter().eq(both));
@@ -104,12 +105,15 @@ fn assignments_take_any_set() {
     assert!(set.is_empty());
 }
 
-/// A random nest over the leaves, and beside it which indices below a bound it has, and whether it has those above.
+/// Is given a nest, which indices below a bound it has, and whether it has those above.
+type Check<'a> = dyn FnMut(&mut Numbers, &dyn BitSetLike, &[bool], bool) + 'a;
+
+/// Makes a random nest over the leaves.
 fn with_nest(
     depth: u32,
     numbers: &mut Numbers,
     leaves: &[(BitSet, Vec<bool>)],
-    then: &mut dyn FnMut(&mut Numbers, &dyn BitSetLike, &[bool], bool),
+    then: &mut Check<'_>,
 ) {
     let (leaf, has) = &leaves[numbers.below(leaves.len() as Index) as usize];
     if depth == 0 {

@@ -26,9 +26,10 @@ impl Numbers {
         (self.next() % u64::from(bound)) as Index
     }
 
+    /// A range of at most 10,000 indices.
     pub fn range_below(&mut self, bound: Index) -> Range<Index> {
-        let (a, b) = (self.below(bound), self.below(bound));
-        a.min(b)..a.max(b)
+        let start = self.below(bound);
+        start..start + self.below(10_000.min(bound - start))
     }
 
     /// A set of that many indices below a bound, or fewer, as two types.
