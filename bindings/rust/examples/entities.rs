@@ -59,7 +59,7 @@ impl World {
         entity
     }
 
-    /// Moves what has a position and a speed and is not frozen. The walk skips all others, 64 at a time and more.
+    /// Moves what has a position and a speed and is not frozen. The iteration skips all others, 64 at a time and more.
     fn step(&mut self, seconds: f32) -> usize {
         let mut moved = 0;
         for entity in &self.positions.mask & &self.speeds.mask & !&self.frozen {

@@ -8,7 +8,7 @@ use crate::form::Form;
 use crate::like::BitSetLike;
 use crate::{Index, LAYERS};
 
-// How many members the first batch of a walk has, and how many a later one has at most.
+// How many members the first batch of an iteration has, and how many a later one has at most.
 const FIRST_BATCH_LEN: usize = 8;
 const BATCH_LEN: usize = 128;
 

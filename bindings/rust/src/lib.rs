@@ -9,7 +9,7 @@
 //! let mut dirty: BitSet = [5, 70_000].into_iter().collect();
 //! let loaded: BitSet = [7, 70_000].into_iter().collect();
 //!
-//! // A virtual set: no index is copied, and the walk skips what either lacks.
+//! // A virtual set: no index is copied, and the iteration skips what either lacks.
 //! for page in &dirty & &loaded {
 //!     assert_eq!(page, 70_000);
 //! }
@@ -31,8 +31,8 @@
 //! |---|---|
 //! | all those of [`BitSet`] that name no other set | proved code |
 //! | assignments and comparisons of two [`BitSet`]s | proved code |
-//! | walks, `len` and `first` of a [`BitSet`], and of `&`, <code>&#124;</code>, `^`, `-` and `& !` of two; walks over `!a` | proved code |
-//! | of a virtual set that is nested deeper, or has another type's set in it: walks, `len` and its kin | this crate's Rust, over the words of the sets |
+//! | iteration, `len` and `first` of a [`BitSet`], of `!a`, and of `&`, <code>&#124;</code>, `^`, `-` and `& !` of two | proved code |
+//! | of a virtual set that is nested deeper, or has another type's set in it: iteration, `len` and its kin | this crate's Rust, over the words of the sets |
 //! | an assignment by such a set | this crate's Rust makes a copy of it, then proved code |
 //! | `contains` of a virtual set | proved `contains` of its operands, put together by this crate's Rust |
 //! | single words, as [`BitSetLike::layer0`] | this crate's Rust, which reads the words that the library made |
@@ -81,3 +81,8 @@ pub const MAX_EID: usize = 1 << (BITS * LAYERS);
 
 // The base two logarithm of the bits of a word.
 const BITS: usize = 6;
+
+// The examples of README are compiled with those of the documentation.
+#[cfg(doctest)]
+#[doc = include_str!("../README.md")]
+struct Readme;

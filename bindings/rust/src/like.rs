@@ -13,8 +13,8 @@ use crate::{Index, LAYERS};
 /// A set of indices that is kept, or made on demand, as words in five layers.
 ///
 /// Bit `b` of word `w` of layer 0 says whether index `64 * w + b` is in the set. A bit of layer 1, 2, 3 or 4 stands for
-/// one word of the layer below, and layer 4 is one word. **The bit above each nonzero word is set**: a walk looks nowhere
-/// else, so an implementation that breaks this loses members, and does no other harm. The bit above a word that is 0 may
+/// one word of the layer below, and layer 4 is one word. **The bit above each nonzero word is set**: an iteration looks
+/// nowhere else, so an implementation that breaks this loses members, and does no other harm. The bit above a word that is 0 may
 /// be set too.
 ///
 /// # Examples
@@ -94,7 +94,7 @@ pub trait BitSetLike {
     fn layer0(&self, i: usize) -> usize;
 
     /// Returns whether an index is in the set. A complement, and [`BitSetAll`](crate::BitSetAll), also have the indices
-    /// from [`MAX_EID`](crate::MAX_EID) on, which are no members: no walk gives them.
+    /// from [`MAX_EID`](crate::MAX_EID) on, which are no members: no iteration gives them.
     fn contains(&self, i: Index) -> bool;
 
     /// Returns an iterator over the members, ascending.

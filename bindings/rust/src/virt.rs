@@ -44,7 +44,7 @@ pub struct BitSetXor<A, B>(pub A, pub B);
 
 /// The complement of a set, which `!a` makes: the indices below [`MAX_EID`](crate::MAX_EID) that it lacks.
 ///
-/// All its summary bits are set, so a walk over a complement alone reads each word of layer 0. In `&a & !&b` the words of
+/// All its summary bits are set, so an iteration over a complement alone reads each word of layer 0. In `&a & !&b` the words of
 /// `a` say where to look.
 ///
 /// ```
