@@ -13,7 +13,8 @@ use crate::{Index, BITS, MAX_EID};
 /// A set of indices below [`MAX_EID`].
 ///
 /// It takes no memory until the first member. Then it has one bit for each index up to the greatest member that it has
-/// had, and 1/63 more.
+/// had, and 1/63 more. If there is no memory, a call that needs some ends the process, and its twin whose name begins
+/// with `try_` returns [`AllocError`].
 ///
 /// # Examples
 ///
@@ -32,8 +33,8 @@ use crate::{Index, BITS, MAX_EID};
 ///
 /// # Iteration
 ///
-/// `for index in &set` goes over the members, ascending. [`BitSetLike::iter`] takes its set, so it is
-/// called on a reference, and so is [`BitSetLike::iter_from`]:
+/// `for index in &set` goes over the members, ascending. [`BitSetLike::iter`] takes its set, so it is called on a
+/// reference, and so is [`BitSetLike::iter_from`]:
 ///
 /// ```
 /// use hibitset::{BitSet, BitSetLike};

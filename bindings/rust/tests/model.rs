@@ -107,11 +107,15 @@ fn sets_are_equal_whatever_their_capacity() {
     let mut wide = BitSet::with_capacity(100_000);
     wide.add(3);
     let narrow = BitSet::from_iter([3]);
+    assert!(wide.capacity() >= 100_000 && narrow.capacity() >= 4 && narrow.capacity() < 100_000);
     assert_eq!(wide, narrow);
     assert_eq!(wide.clone(), narrow);
     wide.remove(3);
     assert_eq!(wide, BitSet::new());
     assert_ne!(wide, narrow);
+    assert!(wide.capacity() >= 100_000);
+    wide.clear();
+    assert_eq!((wide.capacity(), BitSet::new().capacity()), (0, 0));
 }
 
 #[test]
