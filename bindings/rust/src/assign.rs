@@ -1,6 +1,6 @@
 //! Assignments: a set changed by any other.
 //!
-//! By one `BitSet`, and by two where it goes in place, the library's functions do all. By other sets this crate's Rust
+//! By a `BitSet`, or two of them under one operator, the library's functions do all. By other sets this crate's Rust
 //! makes a set of the words that matter, and the library goes on from there.
 
 use std::ops::{BitAndAssign, BitOrAssign, BitXorAssign, SubAssign};
@@ -10,7 +10,7 @@ use crate::form::Form;
 use crate::like::BitSetLike;
 use crate::raw;
 use crate::set::{done, BitSet};
-use crate::virt::BitSetAnd;
+use crate::virt::{BitSetAnd, BitSetOr};
 
 impl BitSet {
     /// Adds all members of the other set, as `|=` does.
@@ -73,14 +73,16 @@ impl BitSet {
                 raw::hibitset_raw_andnot_assign(self.raw_mut(), a.raw());
                 raw::hibitset_raw_andnot_assign(self.raw_mut(), b.raw());
             }
-            _ => {
-                let common = self.common(other);
-                raw::hibitset_raw_andnot_assign(self.raw_mut(), common.raw());
+            Form::And(..) | Form::AndNot(..) | Form::Xor(..) => {
+                let mut common = self.clone();
+                common &= other;
+                self.subtract_assign(&common);
             }
+            Form::Words => self.subtract_assign(&self.common(other)),
         }
     }
 
-    /// What the set and another have in common.
+    /// What the set and another have in common, by their words.
     fn common<B: BitSetLike + ?Sized>(&self, other: &B) -> BitSet {
         let common = BitSetAnd(self, other).try_to_bit_set();
         common.unwrap_or_else(|_| out_of_memory(self.layer0_as_slice().len()))
@@ -109,9 +111,18 @@ impl<B: BitSetLike + ?Sized> BitAndAssign<&B> for BitSet {
                 raw::hibitset_raw_and_assign(self.raw_mut(), a.raw());
                 raw::hibitset_raw_andnot_assign(self.raw_mut(), b.raw());
             }
-            _ => {
+            Form::Or(..) => {
+                let mut rest = self.clone();
+                rest.subtract_assign(other);
+                self.subtract_assign(&rest);
+            }
+            Form::Xor(a, b) => {
+                self.subtract_assign(&BitSetAnd(a, b));
+                *self &= &BitSetOr(a, b);
+            }
+            Form::Words => {
                 let common = self.common(other);
-                raw::hibitset_raw_and_assign(self.raw_mut(), common.raw());
+                *self &= &common;
             }
         }
     }

@@ -29,13 +29,12 @@
 //!
 //! | calls | run |
 //! |---|---|
-//! | all those of [`BitSet`] that name no other set | proved code |
-//! | assignments and comparisons of two [`BitSet`]s | proved code |
-//! | iteration, `len` and `first` of a [`BitSet`], of `!a`, and of `&`, <code>&#124;</code>, `^`, `-` and `& !` of two | proved code |
-//! | of a virtual set that is nested deeper, or has another type's set in it: iteration, `len` and its kin | this crate's Rust, over the words of the sets |
+//! | those of one [`BitSet`]; assignments and comparisons of two | proved code |
+//! | iteration, `len`, `first` and `is_empty` of `!a`, and of `&`, <code>&#124;</code>, `^`, `-` and `& !` of two [`BitSet`]s; an assignment by one of these | proved code |
+//! | `last` and `first_gap` of these; all of a virtual set that is nested deeper, or has another type's set in it | this crate's Rust, over the words of the sets |
 //! | an assignment by such a set | this crate's Rust makes a copy of it, then proved code |
 //! | `contains` of a virtual set | proved `contains` of its operands, put together by this crate's Rust |
-//! | single words, as [`BitSetLike::layer0`] | this crate's Rust, which reads the words that the library made |
+//! | single words, as [`BitSetLike::layer0`], and slices | this crate's Rust, which reads the words that the library made |
 //!
 //! Between the two lies the one file that declares the library's functions. The README of the crate says what is trusted
 //! there.
@@ -43,7 +42,8 @@
 //! # If an allocation fails
 //!
 //! A call that needs memory ends the process by [`handle_alloc_error`](std::alloc::handle_alloc_error), as a `Vec` does.
-//! Its twin whose name begins with `try_` returns [`AllocError`], and the members are then as they were.
+//! Its twin whose name begins with `try_` returns [`AllocError`], and the members are then as they were;
+//! [`BitSet::try_extend`] keeps the items that came before.
 #![warn(missing_docs)]
 #![deny(unsafe_op_in_unsafe_fn)]
 

@@ -98,6 +98,10 @@ fn assignments_take_any_set() {
     assert_members(&changed(&|set| *set -= &(&b & &c)), &(&x - &(&y & &z)));
     assert_members(&changed(&|set| *set -= &!&b), &(&x & &y));
     assert_members(&changed(&|set| *set -= &!(&b & &c)), &(&(&x & &y) & &z));
+    assert_members(&changed(&|set| *set &= &(&b ^ &c)), &(&x & &(&y ^ &z)));
+    assert_members(&changed(&|set| *set -= &(&b ^ &c)), &(&x - &(&y ^ &z)));
+    assert_members(&changed(&|set| *set -= &(&b - &c)), &(&x - &(&y - &z)));
+    assert_members(&changed(&|set| *set -= &(&b | &c | &c)), &(&(&x - &y) - &z));
     let mut set = BitSet::new();
     set |= &(&a & &b);
     assert_members(&set, &(&x & &y));
