@@ -179,6 +179,8 @@ fn call_refused(call: &str) {
     REFUSED.set(0);
     match call {
         "add" => _ = set.add(70_000),
+        "extend" => set.extend([6, 70_000]),
+        "collect" => drop(BitSet::from_iter([1])),
         "add_range" => set.add_range(5..70_000),
         "or" => set |= &other,
         "xor" => set ^= &other,
@@ -197,6 +199,8 @@ fn a_call_without_an_error_ends_the_process() {
     }
     for call in [
         "add",
+        "extend",
+        "collect",
         "add_range",
         "or",
         "xor",

@@ -69,4 +69,9 @@ fn words_are_read_by_layer() {
     );
     assert_eq!((set.layer3(0), set.layer4()), (0b11, 1));
     assert!(set.layer1_as_slice().len() > 300_000 / 4096);
+    let wide = BitSet::from_iter([0, 1 << 24]);
+    assert_eq!(
+        (wide.get_from_layer(4, 7), wide.get_from_layer(3, 0)),
+        (0b11, 1)
+    );
 }
