@@ -150,10 +150,12 @@ fn calls_within_the_capacity_take_no_memory() {
     set &= &(&other & !&none);
     set -= &(&none | &none);
     set -= &!&other;
-    assert!(set == other && set.last() == other.last() && set.first_gap(0) == Some(1));
+    let same = set == other && set.last() == other.last();
     let walked = (&set & &other).into_iter().count() + (!&set).iter_from(5).take(100).count();
-    assert_eq!(set.drain().count() + 100, walked);
+    let drained = set.drain().count();
+    // Before any assertion, whose message takes memory.
     assert_eq!(REFUSED.replace(-1), 0);
+    assert!(same && drained == other.len() && walked == drained + 100 && set.is_empty());
 }
 
 #[test]

@@ -74,7 +74,7 @@ fn operands_are_owned_or_borrowed() {
 
 #[test]
 fn assignments_take_any_set() {
-    let ([a, b, c], [x, y, z]) = three_sets(4, 100_000);
+    let ([a, b, c], [x, y, z]) = three_sets(4, 10_000);
     let changed = |change: &dyn Fn(&mut BitSet)| {
         let mut set = a.clone();
         change(&mut set);
