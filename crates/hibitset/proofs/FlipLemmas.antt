@@ -1,11 +1,10 @@
 -- A range turned over: an exclusive or with the range as a set.
-use Rattle.std.proofs.Common.{◌≡◌, ℕ, suc, ◌+◌, ◌-◌, ◌*◌, ◌/◌, ◌^◌, ◌<◌, ◌≤◌, ◌&&◌, Bool, true, false, nat_lt, max, refl, sym, ◌∙◌, ap, lit<, arith, ◌⊎◌, inl, inr}
-use Rattle.std.proofs.Math.Nat.{pow-suc, one-le-pow, lt-mul-div-succ, mul-le-mul_left, mul_comm, mul_assoc, le_trans}
+use Rattle.std.proofs.Common.{◌≡◌, ℕ, suc, ◌+◌, ◌-◌, ◌*◌, ◌/◌, ◌^◌, ◌<◌, ◌≤◌, lit<, arith, ◌⊎◌, inl, inr}
+use Rattle.std.proofs.Math.Nat.{pow-suc, one-le-pow, lt-mul-div-succ, mul-le-mul_left, mul_comm, mul_assoc}
 use Rattle.std.proofs.lemmas.Bool.{cases_lt}
 use Rattle.std.proofs.lemmas.Bool.Decides.{nat_tests}
 use Rattle.hibitset_base.specs.Connectives.{is_member}
 use Rattle.hibitset_base.specs.Ranges.{in_range, range_word, run_order}
-use Rattle.hibitset_base.specs.Virtual.{differ}
 use Rattle.hibitset_base.specs.declared.util.TheConstants.{MAX_EID}
 use Rattle.hibitset.specs.Merging.{NoWordsFrom}
 

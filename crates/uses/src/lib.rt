@@ -5,7 +5,6 @@ pub mod budget;
 pub mod filter;
 pub mod ids;
 pub mod lists;
-
 pub mod pages;
 pub mod ready;
 pub mod results;
