@@ -6,11 +6,12 @@
 #   mutants tests [PATCH]       tests kill the mutants of tests/mutants/tests
 #   allocation                  each allocation of each call fails in turn
 #   differential [PROGRAM]      the program gives the stored answers; without PROGRAM it is proved and built first
+#   bindings                    C and Rust programs over the library pass their tests
 #   guide [--make FOLDER]       the repository that docs/GUIDE.md prints passes; --make makes it alone
-# Without PART: docs, proofs, allocation beside mutants tests, differential. It stops at the first part that fails.
+# Without PART: docs, proofs, allocation beside mutants tests, differential, bindings. It stops at the first part that fails.
 set -euo pipefail
 top=$(cd "$(dirname "$0")" && pwd)
-parts=5
+parts=6
 beside=
 
 usage() {
@@ -26,6 +27,7 @@ run() { # PART [WORD..]: one part, by the script that does it
         "mutants tests") "$top/tests/mutants/run_tests.sh" "${@:3}" ;;
         "allocation "*) "$top/tests/allocation_failures.py" ;;
         "differential "*) sh "$top/tests/differential/replay.sh" "${@:2}" ;;
+        "bindings ") "$top/tests/bindings.sh" ;;
         "guide "*) "$top/tests/guide.py" "${@:2}" ;;
         *) usage ;;
     esac
@@ -67,4 +69,5 @@ part 1 docs
 part 2 proofs
 both
 part 5 differential "$top/crates/hibitset_run/out/hibitset_run"
+part 6 bindings
 echo "test.sh: all passed after $((SECONDS / 60)) min"

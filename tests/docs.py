@@ -35,7 +35,7 @@ CRATES = TOP / "crates"
 LIBRARY = "hibitset_base hibitset_atomic hibitset hibitset_store".split()
 PAGES = sorted(
     path
-    for pattern in ("*.md", "docs/*.md", "bench/*.md", "tests/**/*.md", "crates/*/*.md")
+    for pattern in ("*.md", "docs/*.md", "bench/*.md", "tests/**/*.md", "crates/*/*.md", "bindings/*/*.md")
     for path in TOP.glob(pattern)
     if not path.is_relative_to(TOP / "tests" / "differential" / "scripts")
 )

@@ -1,0 +1,18 @@
+#!/bin/sh
+# bindings.sh: C and Rust programs over the proved library: the tests of bindings/c under sanitizers, and those of bindings/rust. What a machine has no compiler for is left out, and said.
+set -eu
+top=$(cd "$(dirname "$0")/.." && pwd)
+
+has() { # WHAT COMMAND..: whether all commands are there; else says what is left out
+    what=$1
+    shift
+    for command in "$@"; do
+        command -v "$command" >/dev/null || { echo "bindings.sh: no $command: $what is left out"; return 1; }
+    done
+}
+
+if has "everything" make ld objcopy; then
+    make -C "$top/bindings/c" all
+    if has "the test of C" cc c++ python3; then make -C "$top/bindings/c" test; fi
+    if has "the test of Rust" cargo cc; then (cd "$top/bindings/rust" && cargo test --offline --quiet); fi
+fi
