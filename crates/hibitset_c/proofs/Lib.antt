@@ -1,0 +1,3 @@
+mod Handles
+mod Values
+mod Lengths
