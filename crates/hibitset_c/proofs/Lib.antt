@@ -1,3 +1,4 @@
 mod Handles
-mod Values
 mod Lengths
+mod ListLemmas
+mod RawBoxes

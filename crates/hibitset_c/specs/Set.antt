@@ -1,5 +1,5 @@
 -- What a contract sees of a set that C lends to be changed.
-use Rattle.std.specs.Prelude.{ℕ, Bool, false, Option, None, Some}
+use Rattle.std.specs.Prelude.{◌≡◌, ℕ, Bool, false, Option, None, Some}
 use Rattle.hibitset.specs.BitSet.{has as bits_have}
 use Rattle.hibitset.specs.declared.set.BitSet.{BitSet}
 use Rattle.hibitset_c.specs.Words.{len_of}
@@ -17,3 +17,7 @@ has set = has_in set.handle.set
 -- how many words layer 0 has
 abbrev pub layer0_len : Set → ℕ
 layer0_len set = len_of set.handle.set 0
+
+-- there is no set, and so no block of memory
+abbrev pub OwnsNoMemory : Set → Type 0
+OwnsNoMemory set = set.handle.set ≡ None

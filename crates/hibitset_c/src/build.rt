@@ -64,7 +64,7 @@ pub extern "C" fn hibitset_assign_words(alloc: Global, set: &mut Set, words: &[u
 pub extern "C" fn hibitset_raw_assign(alloc: Global, set: &mut Set, other: &Seen<'_>) -> u32
     ensures members { result ≡ OK → (i : ℕ) → has set.new i ≡ other_has other.now i }
     ensures err { result ≢ OK → (i : ℕ) → has set.new i ≡ has set.old i }
-    ensures status { (result ≡ OK) ⊎ (NO_MEMORY ≤ result) × (result ≤ OUT_OF_RANGE) }
+    ensures status { (result ≡ OK) ⊎ (result ≡ NO_MEMORY) }
     ensures length { result ≡ OK → layer0_len set.new ≡ length other.now.layer0.now }
     ensures err_len { result ≢ OK → layer0_len set.new ≡ layer0_len set.old }
 {

@@ -7,7 +7,7 @@ ghost use Rattle.hibitset_base.specs.declared.util.TheConstants.{MAX_EID};
 ghost use Rattle.hibitset.specs.Merging.{NoWordsFrom};
 ghost use Rattle.hibitset.specs.Numbers.{in_range};
 ghost use Rattle.hibitset_c.specs.Seen.{has as other_has, word_of as other_word};
-ghost use Rattle.hibitset_c.specs.Set.{has, layer0_len};
+ghost use Rattle.hibitset_c.specs.Set.{has, layer0_len, OwnsNoMemory};
 ghost use Rattle.hibitset_c.specs.declared.status.TheConstants.{OK, PRESENT, NO_MEMORY, OUT_OF_RANGE};
 
 use crate::seen::Seen;
@@ -86,6 +86,7 @@ pub extern "C" fn hibitset_clear(set: &mut Set)
 pub extern "C" fn hibitset_free(alloc: Global, set: &mut Set)
     ensures empty { (i : ℕ) → has set.new i ≡ false }
     ensures length { layer0_len set.new ≡ 0 }
+    ensures freed { OwnsNoMemory set.new }
 {
     set.release(alloc);
 }

@@ -37,12 +37,12 @@ impl Handle {
         RawBox { at, alloc }
     }
 
-    // Puts a set in the place of what there is, which is forgotten.
-    pub(crate) fn put(&mut self, set: RawBox<BitSet, Global>)
-        ensures { self.new.set ≡ Some set.value }
+    // A set that is on the heap.
+    pub(crate) fn of(set: RawBox<BitSet, Global>) -> Handle
+        ensures { result.set ≡ Some set.value }
     {
         let RawBox { at, alloc: _ } = set;
-        self.at = at;
+        Handle { at }
     }
 
     // The set, to be changed where it lies.

@@ -1,7 +1,7 @@
 //! A set that C lends to be read.
 #![tactic(auto, unfolding(crate::specs::Seen::has, crate::specs::Seen::word_of))]
 
-ghost use Rattle.std.specs.Prelude.{◌≡◌, ℕ, [], ◌∷◌, get_or};
+ghost use Rattle.std.specs.Prelude.{◌≡◌, ℕ, ◌-◌, ◌^◌, ◌≤◌, [], ◌∷◌, get_or, length};
 ghost use Rattle.hibitset_base.specs.Words.{IsSummed, word_at};
 ghost use Rattle.hibitset_base.specs.declared.util.TheConstants.{LAYERS};
 
@@ -20,6 +20,7 @@ pub struct Seen<'a> {
     pub top: usize,
     at: *const usize,
     made: bool,
+    ghost short: { length layer0.now ≤ 64 ^ (LAYERS - 1) },
     ghost summed: { IsSummed LAYERS (word_at (layer0.now ∷ layer1.now ∷ layer2.now ∷ layer3.now ∷ (top ∷ []) ∷ [])) },
 }
 

@@ -26,7 +26,7 @@ pub struct Set {
 impl Set {
     ghost use Rattle.std.specs.Prelude.{ℕ, true, false};
     ghost use Rattle.hibitset.specs.BitSet.{has as bits_have, slice_len};
-    ghost use Rattle.hibitset_c.specs.Set.{has, layer0_len};
+    ghost use Rattle.hibitset_c.specs.Set.{has, layer0_len, OwnsNoMemory};
 
     // Puts a set where there is none. Returns whether its block was allocated.
     #[inline(never)]
@@ -39,7 +39,7 @@ impl Set {
         match Box::new(alloc, set) {
             Ok(set) => {
                 self.words = Words::of(&set);
-                self.handle.put(RawBox::from_box(set));
+                self.handle = Handle::of(RawBox::from_box(set));
                 self.made = true;
                 true
             }
@@ -78,8 +78,7 @@ impl Set {
 
     // Gives the set up, with its memory.
     pub(crate) fn release(&mut self, alloc: Global)
-        ensures members { (i : ℕ) → has self.new i ≡ false }
-        ensures length { layer0_len self.new ≡ 0 }
+        ensures freed { OwnsNoMemory self.new }
     {
         if self.made {
             self.made = false;
