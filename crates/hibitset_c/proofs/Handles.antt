@@ -17,9 +17,9 @@ use denote.Struct.Struct.{Struct}
 use denote.Struct.Owning.{shape}
 use Rattle.std.specs.Prelude.{is_some}
 use Rattle.std.specs.Box.Ownership.{box_owns}
-use Rattle.libc.specs.Heap.{chunk}
 use Rattle.hibitset.specs.contracts.set.BitSet.{the_row as set_row}
 use Rattle.hibitset.specs.declared.set.BitSet.{BitSet}
+use Rattle.hibitset_c.specs.Handle.{may_free}
 use Rattle.hibitset_c.specs.Lending.{with_set}
 use Rattle.hibitset_c.specs.contracts.handle.Handle.{the_row, the_type}
 use Rattle.hibitset_c.specs.declared.handle.Handle.{Handle}
@@ -37,7 +37,7 @@ handle_fits null_ptr = (tt, (record { fits = lit< tt }, tt))
 -- a handle, whose own fields lie at a place, but for its set, which lies at another
 abbrev pub but_the_set : Handle → List Val → (at : ℕ × ℕ) → (own : ℕ × ℕ) → Fml
 but_the_set h us at own =
-    fsep (chunk (bare (lone set_row.mir)) (block_ptr at.0 at.1)) (fsep ((Struct (shape the_type)).own_val (h.at, tt) us) (cell_at full_share the_row.mir us own.0 own.1))
+    fsep (may_free (bare (lone set_row.mir)) (block_ptr at.0 at.1)) (fsep ((Struct (shape the_type)).own_val (h.at, tt) us) (cell_at full_share the_row.mir us own.0 own.1))
 
 module _ {M : Type 1} {𝓤 : Ura M} (𝓛 : Logic 𝓤) (h : Handle) (us : List Val) (at own : ℕ × ℕ) (lies : h.at ≡ block_ptr at.0 at.1) where
   -- with any set at its place it is the handle of that set
@@ -45,5 +45,5 @@ module _ {M : Type 1} {𝓤 : Ura M} (𝓛 : Logic 𝓤) (h : Handle) (us : List
   unfolding part_of
   comes_together w =
       qed 𝓛 (‵ (part_at set_row full_share w at.0 at.1) ∷ ‵ (but_the_set h us at own) ∷ []) ∵ move ! (1 ∷ []) $ fsplit3 ! $ move ! (3 ∷ 0 ∷ []) $ fjoin ! $
-      rewrite ! 0 (λ (p : Ptr). ‵ (box_owns chunk set_row p w)) (sym lies) refl $ move ! (1 ∷ 0 ∷ []) $ fjoin ! $ move ! (1 ∷ 0 ∷ []) $ fjoin ! $
+      rewrite ! 0 (λ (p : Ptr). ‵ (box_owns may_free set_row p w)) (sym lies) refl $ move ! (1 ∷ 0 ∷ []) $ fjoin ! $ move ! (1 ∷ 0 ∷ []) $ fjoin ! $
       fpack ! (List Val) (λ vs. fsep (cell_at full_share the_row.mir vs own.0 own.1) (the_row.own_val (with_set h w) vs)) us $ done !

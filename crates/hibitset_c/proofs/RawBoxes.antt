@@ -1,6 +1,6 @@
 -- A `RawBox` is two machine values, the pointer and the allocator's. Assumes `Logic`.
 use Rattle.std.proofs.Common.{◌≡◌, List, [], ◌∷◌, ◌++◌, refl, ◌∙◌}
-use mathlib.Core.Bool.{Bool, true, ◌&&◌}
+use mathlib.Core.Bool.{true, ◌&&◌}
 use lib.Dec.{T, lit<}
 use seplogic.Ra.Ura.{Ura}
 use mir.Syntax.{ty_ptr, impl, tnil, dnil}
@@ -19,19 +19,17 @@ use Rattle.std.specs.declared.alloc.Allocator.{Ghosts}
 use Rattle.std.specs.Box.Ownership.{box_owns}
 use Rattle.std.proofs.alloc.Calls.{Al, handle_tells}
 use Rattle.std.proofs.cell.Inside.{Good}
+use Rattle.std.proofs.ResultValues.{and_tt}
 use Rattle.hibitset_c.specs.contracts.raw_box.RawBox as raw_box
 
 -- the pointer, and what the allocator is
 abbrev pub two : Ptr → Val → Val
 two at alloc = vstruct (vcons (ptr_val at) (vcons alloc vnil))
 
-fits_last : (x : Bool) → T x → T (x && true)
-fits_last true t = tt
-
 module _ (Z : RattleType) (alloc : Val) (fits : Good (layout Z) alloc) where
   pub two_fits : (at : Ptr) → T (has_ty ty_ptr (ptr_val at) && (has_ty (layout Z) alloc && true)) × WT (two at alloc)
-  two_fits (block_ptr b o) = (fits_last (has_ty (layout Z) alloc) fits.0, (tt, (fits.1, tt)))
-  two_fits null_ptr = (fits_last (has_ty (layout Z) alloc) fits.0, (record { fits = lit< tt }, (fits.1, tt)))
+  two_fits (block_ptr b o) = (and_tt (has_ty (layout Z) alloc) fits.0, (tt, (fits.1, tt)))
+  two_fits null_ptr = (and_tt (has_ty (layout Z) alloc) fits.0, (record { fits = lit< tt }, (fits.1, tt)))
 
 -- the machine value of a pointer has its type
 pub ptr_fits : (at : Ptr) → T (has_ty ty_ptr (ptr_val at)) × WT (ptr_val at)

@@ -33,7 +33,7 @@ impl Handle {
         ensures taken { self.old.set ≡ Some result.value }
         ensures none { self.new.set ≡ None }
     {
-        let at = self.at;
+        let at = self.at as *mut BitSet;
         RawBox { at, alloc }
     }
 
@@ -42,6 +42,7 @@ impl Handle {
         ensures { result.set ≡ Some set.value }
     {
         let RawBox { at, alloc: _ } = set;
+        let at = at as *const usize;
         Handle { at }
     }
 

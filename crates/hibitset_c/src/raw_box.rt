@@ -1,4 +1,4 @@
-//! A box as a pointer whose type does not say what lies there.
+//! A box as its pointer.
 ghost use Rattle.std.specs.Prelude.{◌≡◌};
 ghost use Rattle.std.specs.Box.Ownership.{box_owns};
 
@@ -7,7 +7,7 @@ use std::marker::Model;
 
 /// The value of a box and its block, which are given up by turning it into a box again.
 pub(crate) struct RawBox<T, A: Allocator> {
-    pub(crate) at: *const usize,
+    pub(crate) at: *mut T,
     pub(crate) alloc: A,
     pub(crate) ghost value: { T },
 }
@@ -20,8 +20,7 @@ impl<T: Drop, A: Allocator> RawBox<T, A> {
     pub(crate) fn from_box(b: Box<T, A>) -> RawBox<T, A>
         ensures { result.value ≡ b.value }
     {
-        let (ptr, alloc) = Box::into_raw_with_allocator(b);
-        let at = ptr as *const usize;
+        let (at, alloc) = Box::into_raw_with_allocator(b);
         RawBox { at, alloc }
     }
 
@@ -29,7 +28,6 @@ impl<T: Drop, A: Allocator> RawBox<T, A> {
         ensures { result.value ≡ self.value }
     {
         let RawBox { at, alloc } = self;
-        let ptr = at as *mut T;
-        unsafe { Box::from_raw(alloc, ptr) }
+        unsafe { Box::from_raw(alloc, at) }
     }
 }

@@ -27,10 +27,9 @@ use denote.Triple.Walked.{Stays, walk_of, says, stay_dropped, Goes-spent_ref, en
 use Rattle.std.proofs.VecSteps.Shapes.{after}
 use Rattle.std.specs.Prelude.{is_some}
 use Rattle.std.specs.Box.Ownership.{box_owns}
-use Rattle.libc.specs.Heap.{chunk}
 use Rattle.hibitset.specs.contracts.set.BitSet.{the_row as set_row}
 use Rattle.hibitset.specs.declared.set.BitSet.{BitSet}
-use Rattle.hibitset_c.specs.Handle.{handle_owns}
+use Rattle.hibitset_c.specs.Handle.{may_free, handle_owns}
 use Rattle.hibitset_c.specs.Lending.{with_set}
 use Rattle.hibitset_c.specs.contracts.handle.Handle.{the_row as R}
 use Rattle.hibitset_c.specs.contracts.handle.Handle.as_mut as f
@@ -58,7 +57,7 @@ as_mut_spec 𝓤 𝓛 𝓜 𝓡 wired =
     move ! (1 ∷ []) $ peeks ! R _ (shows 𝓛 R) h us (λ is. fsplit ! $ move ! (1 ∷ []) $
     -- [the set with its block; the fields; the cell of the handle; the open borrow in three entries]
     rewrite ! 0 (λ (set : Option BitSet). ‵ (handle_owns h.at set)) is_x refl $
-    in_a_block ! h.at (λ p. box_owns chunk set_row p x) (fst∗ 𝓤 (never 𝓤) (sem 𝓛 (chunk (bare (lone set_row.mir)) null_ptr))) (λ b o lies.
+    in_a_block ! h.at (λ p. box_owns may_free set_row p x) (fst∗ 𝓤 (never 𝓤) (sem 𝓛 (may_free (bare (lone set_row.mir)) null_ptr))) (λ b o lies.
     let word = lowers.val_is h us is ∙ ap (λ (p : Ptr). lowers.lowered (record h { at = p }) ∷ []) lies in
     let Cell = λ (ws : List Val). ‵ (cell_at full_share R.mir ws own.0 own.1) in
     fsplit ! $ rewrite ! 3 Cell word refl $

@@ -53,6 +53,7 @@ of_spec 𝓤 𝓛 𝓜 𝓡 wired =
     enter ! 𝓣.C 𝓣.Λ code.function (two v.at alloc ∷ []) Post $
     alloc_all ! (λ l. pass_all ! refl (two_fits heap.the_row alloc fits v.at, tt) $
     sets ! (of_opd ! (get_in ! (fld ! refl (stop !)) (sub ! 0 refl (whole !)))) refl (ptr_fits v.at) $
+    sets ! (of_opd ! (get ! refl)) refl (ptr_fits v.at) $
     sets ! (agg ! (and_then ! (get ! refl) (no_more !))) refl (handle_fits v.at) $
     returns ! (look_at ! 0 refl) $ free_all ! refl $
     nothing ! $ feq_i ! (List Val) (ptr_val v.at ∷ []) (ptr_val v.at ∷ []) refl $ fjoin ! $ feq_i ! (List Val) (word ∷ []) (word ∷ []) refl $ fjoin ! $

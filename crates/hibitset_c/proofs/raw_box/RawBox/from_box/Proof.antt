@@ -69,7 +69,6 @@ from_box_spec 𝓤 𝓛 𝓜 𝓡 wired T A L LA ghosts d dx dd allocator glue g
     lands_as ! (ap only (whole' ∙ (λ i. vstruct (of_list (first' i ++ (second' i ++ []))) ∷ []))) refl (two_fits Z alloc' fits' r.0) $
     sets ! (of_opd ! (get_in ! (fld ! refl (stop !)) (sub ! 0 refl (whole !)))) refl (ptr_fits r.0) $
     sets ! (of_opd ! (get_in ! (fld ! refl (stop !)) (sub ! 1 refl (whole !)))) refl fits' $
-    sets ! (of_opd ! (get ! refl)) refl (ptr_fits r.0) $
     sets ! (of_opd ! (get ! refl)) refl fits' $
     sets ! (agg ! (and_then ! (get ! refl) (and_then ! (get ! refl) (no_more !)))) refl (two_fits Z alloc' fits' r.0) $
     returns ! (look_at ! 0 refl) $ free_all ! refl $

@@ -59,7 +59,6 @@ into_box_spec 𝓤 𝓛 𝓜 𝓡 wired T A L LA ghosts d dx dd allocator glue g
     enter ! 𝓣.C 𝓣.Λ fn (two v.at alloc ∷ []) Post $ alloc_all ! (λ l. pass_all ! refl (two_fits Z alloc fits v.at, tt) $
     sets ! (of_opd ! (get_in ! (fld ! refl (stop !)) (sub ! 0 refl (whole !)))) refl (ptr_fits v.at) $
     sets ! (of_opd ! (get_in ! (fld ! refl (stop !)) (sub ! 1 refl (whole !)))) refl fits $
-    sets ! (of_opd ! (get ! refl)) refl (ptr_fits v.at) $
     first ! $ blocks ! $ sets ! (of_opd ! (get ! refl)) refl fits $
     calls_at_last ! (framed 𝓤 𝓛.H 𝓜 𝓣) G (called.met 𝓤 𝓛 𝓜 𝓡 (code.calls-std_alloc::boxed::Box::from_raw 𝓡.env wired) T A L LA ghosts d dd allocator glued) y
     (and_then ! (get ! refl) (and_then ! (get ! refl) (no_more !))) (λ u.
@@ -69,6 +68,6 @@ into_box_spec 𝓤 𝓛 𝓜 𝓡 wired T A L LA ghosts d dx dd allocator glue g
     -- [the box; the tokens; that it has the value; that it has the allocator]
     box_out E ! r (u ∷ []) (λ b o alloc' lies is' fits'. box_in E ! r b o r.value lies refl $ rewrite ! 0 (λ (us : List Val). ‵ (B.own_val r us)) (sym is') refl $
     let good : Good (layout B) u = subst (Good (layout B)) (sym (ap only is')) (form.box_typed E alloc' b o fits') in
-    lands_last ! refl good $ exec ! 𝓣.C 𝓣.Λ (env fn.locals l) (after 4 fn.body) (at_ret _ Post) $ sets ! (of_opd ! (get ! refl)) refl good $
+    lands_last ! refl good $ exec ! 𝓣.C 𝓣.Λ (env fn.locals l) (after 3 fn.body) (at_ret _ Post) $ sets ! (of_opd ! (get ! refl)) refl good $
     returns ! (look_at ! 0 refl) $ free_all ! refl $ nothing ! $ nothing ! $ fjoin ! $ keep ! (2 ∷ 0 ∷ 1 ∷ 3 ∷ []) $
     by ! (leaves 𝓛 ended stayed c z u r ((tt, (tt, tt)), tt) (tt, tt)))))))))
