@@ -1,5 +1,5 @@
 -- A list whose indices are added one by one.
-use Rattle.std.proofs.Common.{◌≡◌, ◌⊎◌, inl, inr, ℕ, ◌+◌, ◌<◌, Bool, true, ◌==◌, ◌||◌, List, [], ◌∷◌, ◌++◌, take, get_or, refl, length, slice_index, Contains, sym, ◌∙◌, subst, arith, eq-eqb}
+use Rattle.std.proofs.Common.{◌≡◌, ◌⊎◌, inl, inr, ℕ, ◌+◌, ◌<◌, ◌≤◌, max, Bool, true, ◌==◌, ◌||◌, List, [], ◌∷◌, ◌++◌, take, get_or, refl, length, slice_index, Contains, sym, ◌∙◌, subst, arith, eq-eqb}
 use Rattle.std.specs.List.{All}
 use Rattle.std.proofs.lemmas.Bool.{or_cases, eqb-true}
 use Rattle.std.proofs.lemmas.List.{take_more, take-take, get_or-take, length-take-le}
@@ -34,3 +34,13 @@ module _ (list : List ℕ) (count : ℕ) (below : count < length list) where
   one_more P all =
       let long = length-take-le (count + 1) list (omega (arith, below)) in
       subst P (get_or-take (count + 1) list count 0 (omega arith)) (All-get_or P (take (count + 1) list) count 0 (omega (arith, long)) all)
+
+-- What an addition makes no longer than it must, and no shorter.
+pub no_longer : (now new word end : ℕ) → now ≤ end → word < end → new ≤ max now (word + 1) → new ≤ end
+no_longer now new word end before one most = omega (arith, before, one, most)
+
+pub no_shorter : (old now new : ℕ) → old ≤ now → now ≤ new → old ≤ new
+no_shorter old now new before keeps = omega (arith, before, keeps)
+
+pub next_within : (count len : ℕ) → count < len → count + 1 ≤ len
+next_within count len below = omega (arith, below)

@@ -90,10 +90,10 @@ fn add_list(set: &mut BitSet, list: &[Index]) -> (usize, u32)
         if index as usize >= MAX_EID {
             return (count, OUT_OF_RANGE);
         }
-        if set.add(index).is_err() {
-            return (count, NO_MEMORY);
+        match set.add(index) {
+            Ok(_) => count += 1,
+            Err(_) => return (count, NO_MEMORY),
         }
-        count += 1;
     }
     (count, OK)
 }

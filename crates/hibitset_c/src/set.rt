@@ -53,7 +53,7 @@ impl Set {
         ensures made { self.new.made ≡ result }
         ensures members { (i : ℕ) → has self.new i ≡ has self.old i }
         ensures length { layer0_len self.new ≡ layer0_len self.old }
-        ensures there { self.old.made ≡ true → result ≡ true }
+        ensures err { result ≡ false → layer0_len self.old ≡ 0 }
     {
         if self.made {
             return true;
