@@ -13,7 +13,6 @@ ghost use Rattle.hibitset_c.specs.declared.status.TheConstants.{OK, NO_MEMORY, O
 use crate::seen::Seen;
 use crate::set::Set;
 use crate::status::{NO_MEMORY, OK, OUT_OF_RANGE};
-use crate::words::Words;
 use hibitset::{BitSet, Index, MAX_EID};
 use std::alloc::Global;
 
@@ -129,7 +128,7 @@ pub extern "C" fn hibitset_add_many(
     }
     let bits = set.handle.as_mut();
     let (count, status) = add_list(bits, indices);
-    set.words = Words::of(bits);
+    set.words.show(bits);
     *added = count;
     status
 }

@@ -13,7 +13,6 @@ ghost use Rattle.hibitset_c.specs.declared.status.TheConstants.{OK, PRESENT, NO_
 use crate::seen::Seen;
 use crate::set::Set;
 use crate::status::{NO_MEMORY, OK, OUT_OF_RANGE, PRESENT};
-use crate::words::Words;
 use hibitset::{BitSetLike, MAX_EID};
 use std::alloc::Global;
 
@@ -46,7 +45,7 @@ pub extern "C" fn hibitset_add(alloc: Global, set: &mut Set, index: u32) -> u32
             if was_member { PRESENT } else { OK }
         }
         Err(_) => {
-            set.words = Words::of(bits);
+            set.words.show(bits);
             NO_MEMORY
         }
     }
@@ -77,7 +76,7 @@ pub extern "C" fn hibitset_clear(set: &mut Set)
     if set.made {
         let bits = set.handle.as_mut();
         bits.clear();
-        set.words = Words::of(bits);
+        set.words.show(bits);
     }
 }
 
@@ -117,7 +116,7 @@ pub extern "C" fn hibitset_add_range(alloc: Global, set: &mut Set, start: u32, e
     }
     let bits = set.handle.as_mut();
     let done = bits.add_range(start, end);
-    set.words = Words::of(bits);
+    set.words.show(bits);
     match done {
         Ok(()) => OK,
         Err(_) => NO_MEMORY,
@@ -184,7 +183,7 @@ pub extern "C" fn hibitset_raw_or_assign(alloc: Global, set: &mut Set, other: &S
     }
     let bits = set.handle.as_mut();
     let done = bits.bitor_assign(other);
-    set.words = Words::of(bits);
+    set.words.show(bits);
     match done {
         Ok(()) => OK,
         Err(_) => NO_MEMORY,
@@ -212,7 +211,7 @@ pub extern "C" fn hibitset_raw_xor_assign(alloc: Global, set: &mut Set, other: &
     }
     let bits = set.handle.as_mut();
     let done = bits.bitxor_assign(other);
-    set.words = Words::of(bits);
+    set.words.show(bits);
     match done {
         Ok(()) => OK,
         Err(_) => NO_MEMORY,

@@ -29,7 +29,6 @@ impl Set {
     ghost use Rattle.hibitset_c.specs.Set.{has, layer0_len, OwnsNoMemory};
 
     // Puts a set where there is none. Returns whether its block was allocated.
-    #[inline(never)]
     fn put_first(&mut self, alloc: Global, set: BitSet) -> bool
         requires { self.old.made ≡ false }
         ensures made { self.new.made ≡ result }
@@ -38,13 +37,24 @@ impl Set {
     {
         match Box::new(alloc, set) {
             Ok(set) => {
-                self.words = Words::of(&set);
+                self.words.show(&set);
                 self.handle = Handle::of(RawBox::from_box(set));
                 self.made = true;
                 true
             }
             Err(_) => false,
         }
+    }
+
+    // Makes an empty set where there is none. It is not inlined, so that an addition to a set keeps nothing for it on the stack.
+    #[inline(never)]
+    fn make_first(&mut self, alloc: Global) -> bool
+        requires { self.old.made ≡ false }
+        ensures made { self.new.made ≡ result }
+        ensures members { (i : ℕ) → has self.new i ≡ false }
+        ensures length { layer0_len self.new ≡ 0 }
+    {
+        self.put_first(alloc, BitSet::new(alloc))
     }
 
     // Makes an empty set where there is none. Returns whether there is one now.
@@ -55,10 +65,7 @@ impl Set {
         ensures length { layer0_len self.new ≡ layer0_len self.old }
         ensures err { result ≡ false → layer0_len self.old ≡ 0 }
     {
-        if self.made {
-            return true;
-        }
-        self.put_first(alloc, BitSet::new(alloc))
+        self.made || self.make_first(alloc)
     }
 
     // Puts a set in the place of what there is. Returns false if an allocation failed.
@@ -71,7 +78,7 @@ impl Set {
         if !self.made {
             return self.put_first(alloc, set);
         }
-        self.words = Words::of(&set);
+        self.words.show(&set);
         *self.handle.as_mut() = set;
         true
     }

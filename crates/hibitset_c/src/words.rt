@@ -57,15 +57,16 @@ impl Words {
         }
     }
 
+    // Becomes those of a set.
     #[inline(never)]
-    pub(crate) fn of(set: &BitSet) -> Words
-        ensures { Shows result (Some set.now) }
+    pub(crate) fn show(&mut self, set: &BitSet)
+        ensures { Shows self.new (Some set.now) }
     {
         let layer0 = set.layer0_as_slice();
         let layer1 = set.layer1_as_slice();
         let layer2 = set.layer2_as_slice();
         let layer3 = set.layer3_as_slice();
-        Words {
+        *self = Words {
             layer0: start_of(layer0),
             len0: layer0.len(),
             layer1: start_of(layer1),
@@ -75,7 +76,7 @@ impl Words {
             layer3: start_of(layer3),
             len3: layer3.len(),
             top: set.layer4(),
-        }
+        };
     }
 
     // Follows a change that kept the length of layer 0, after which no layer lies elsewhere.
@@ -95,7 +96,7 @@ impl Words {
         if set.layer0_as_slice().len() == self.len0 {
             self.follow_top(set);
         } else {
-            *self = Words::of(set);
+            self.show(set);
         }
     }
 }
