@@ -16,9 +16,9 @@ use crate::status::{NO_MEMORY, OK, OUT_OF_RANGE, PRESENT};
 use hibitset::{BitSetLike, MAX_EID};
 use std::alloc::Global;
 
-/// Adds an index. Returns whether it was a member, or why it is none now.
-#[unsafe(no_mangle)]
-pub extern "C" fn hibitset_add(alloc: Global, set: &mut Set, index: u32) -> u32
+// Adds an index whose word layer 0 lacks.
+#[inline(never)]
+fn add_beyond(alloc: Global, set: &mut Set, index: u32) -> u32
     ensures range { (result ≡ OUT_OF_RANGE) ↔ (MAX_EID ≤ index) }
     ensures was_member { result ≡ PRESENT → has set.old index ≡ true }
     ensures was_clear { result ≡ OK → has set.old index ≡ false }
@@ -39,16 +39,40 @@ pub extern "C" fn hibitset_add(alloc: Global, set: &mut Set, index: u32) -> u32
         return NO_MEMORY;
     }
     let bits = set.handle.as_mut();
-    match bits.add(index) {
+    let added = bits.add(index);
+    set.words.show(bits);
+    match added {
         Ok(was_member) => {
-            set.words.follow(bits);
             if was_member { PRESENT } else { OK }
         }
-        Err(_) => {
-            set.words.show(bits);
-            NO_MEMORY
-        }
+        Err(_) => NO_MEMORY,
     }
+}
+
+/// Adds an index. Returns whether it was a member, or why it is none now.
+#[unsafe(no_mangle)]
+pub extern "C" fn hibitset_add(alloc: Global, set: &mut Set, index: u32) -> u32
+    ensures range { (result ≡ OUT_OF_RANGE) ↔ (MAX_EID ≤ index) }
+    ensures was_member { result ≡ PRESENT → has set.old index ≡ true }
+    ensures was_clear { result ≡ OK → has set.old index ≡ false }
+    ensures added { result ≤ PRESENT → (i : ℕ) → has set.new i ≡ (has set.old i || i == index) }
+    ensures err { PRESENT < result → (i : ℕ) → has set.new i ≡ has set.old i }
+    ensures status { result ≤ OUT_OF_RANGE }
+
+    // How many words there are, and when none has to be allocated.
+    ensures succeeds { index / 64 < layer0_len set.old → result ≢ NO_MEMORY }
+    ensures len_min { layer0_len set.old ≤ layer0_len set.new }
+    ensures len_max { layer0_len set.new ≤ max (layer0_len set.old) (index / 64 + 1) }
+    ensures err_len { PRESENT < result → layer0_len set.new ≡ layer0_len set.old }
+{
+    // What allocates is apart, so that most additions save no registers for it.
+    if !set.words.has_word_of(index) {
+        return add_beyond(alloc, set, index);
+    }
+    let bits = set.handle.as_mut();
+    let was_member = bits.add(index).unwrap();
+    set.words.follow_top(bits);
+    if was_member { PRESENT } else { OK }
 }
 
 /// Removes an index. Returns whether it was a member.
@@ -58,7 +82,7 @@ pub extern "C" fn hibitset_remove(set: &mut Set, index: u32) -> bool
     ensures removed { (i : ℕ) → has set.new i ≡ (has set.old i && not (i == index)) }
     ensures length { layer0_len set.new ≡ layer0_len set.old }
 {
-    if !set.made {
+    if !set.words.has_word_of(index) {
         return false;
     }
     let bits = set.handle.as_mut();

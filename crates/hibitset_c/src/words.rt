@@ -1,7 +1,7 @@
 //! Where the words of a set lie.
 #![tactic(auto)]
 
-use hibitset::{BitSet, BitSetLike};
+use hibitset::{BitSet, BitSetLike, Index};
 use std::ptr;
 
 // Where a layer without words begins, since a slice begins somewhere.
@@ -34,7 +34,7 @@ fn start_of(words: &[usize]) -> *const usize {
 }
 
 impl Words {
-    ghost use Rattle.std.specs.Prelude.{◌≡◌, None, Some};
+    ghost use Rattle.std.specs.Prelude.{◌≡◌, ◌/◌, ◌<◌, ◌≤◌, true, false, None, Some};
     ghost use Rattle.hibitset.specs.BitSet.{slice_len};
     ghost use Rattle.hibitset.specs.declared.set.BitSet.{BitSet};
     ghost use Rattle.hibitset_c.specs.Words.{Shows};
@@ -55,6 +55,15 @@ impl Words {
             len3: 0,
             top: 0,
         }
+    }
+
+    // Returns whether layer 0 has the word of an index.
+    #[inline]
+    pub(crate) fn has_word_of(&self, index: Index) -> bool
+        ensures yes { result ≡ true → index / 64 < self.now.len0 }
+        ensures no { result ≡ false → self.now.len0 ≤ index / 64 }
+    {
+        (index as usize / 64) < self.len0
     }
 
     // Becomes those of a set.
@@ -86,17 +95,5 @@ impl Words {
         ensures { (before : BitSet) → Shows self.old (Some before) → Shows self.new (Some set.now) }
     {
         self.top = set.layer4();
-    }
-
-    // Follows an addition that succeeded. Most keep the length of layer 0.
-    #[inline]
-    pub(crate) fn follow(&mut self, set: &BitSet)
-        ensures { (before : BitSet) → Shows self.old (Some before) → Shows self.new (Some set.now) }
-    {
-        if set.layer0_as_slice().len() == self.len0 {
-            self.follow_top(set);
-        } else {
-            self.show(set);
-        }
     }
 }
