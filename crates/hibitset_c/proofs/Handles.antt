@@ -1,5 +1,5 @@
 -- What a handle owns, where there is a set; and the handle whose set is lent. Assumes `Logic`.
-use Rattle.std.proofs.Common.{◌≡◌, ℕ, List, [], ◌∷◌, refl, sym, Option, Some, None, true, false}
+use Rattle.std.proofs.Common.{◌≡◌, ℕ, List, [], ◌∷◌, refl, sym, Option, Some, None, true}
 use mathlib.Core.Bool.{◌&&◌, true≢false}
 use lib.Dec.{T, lit<}
 use seplogic.Ra.Ura.{Ura}

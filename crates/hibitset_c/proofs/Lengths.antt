@@ -9,7 +9,7 @@ use Rattle.hibitset.specs.declared.set.BitSet.{BitSet}
 use Rattle.hibitset.proofs.Layered.{laid, length_of, length_first}
 use Rattle.hibitset.proofs.Within.{none_past_slice}
 use Rattle.hibitset_c.specs.Set.{has_in}
-use Rattle.hibitset_c.specs.Words.{Shows, len_of}
+use Rattle.hibitset_c.specs.Words.{Shows}
 use Rattle.hibitset_c.specs.declared.words.Words.{Words}
 
 same_length : (a b : BitSet) → slice_len a 0 ≡ slice_len b 0 → (l : ℕ) → l < LAYERS - 1 → slice_len a l ≡ slice_len b l

@@ -1,5 +1,5 @@
 -- A list whose indices are added one by one.
-use Rattle.std.proofs.Common.{◌≡◌, ◌⊎◌, inl, inr, ℕ, ◌+◌, ◌<◌, ◌≤◌, max, Bool, true, ◌==◌, ◌||◌, List, [], ◌∷◌, ◌++◌, take, get_or, refl, length, slice_index, Contains, sym, ◌∙◌, subst, arith, eq-eqb}
+use Rattle.std.proofs.Common.{◌≡◌, inl, inr, ℕ, ◌+◌, ◌<◌, ◌≤◌, max, Bool, ◌==◌, ◌||◌, List, [], ◌∷◌, ◌++◌, take, refl, length, slice_index, Contains, sym, ◌∙◌, subst, arith, eq-eqb}
 use Rattle.std.specs.List.{All}
 use Rattle.std.proofs.lemmas.Bool.{or_cases, eqb-true}
 use Rattle.std.proofs.lemmas.List.{take_more, take-take, get_or-take, length-take-le}
@@ -14,17 +14,18 @@ module _ (list : List ℕ) (count : ℕ) (below : count < length list) where
   pub adds_next : (old middle new : ℕ → Bool) → AddsFirst list count old middle → ((i : ℕ) → new i ≡ (middle i || i == slice_index list count)) → AddsFirst list (count + 1) old new
   adds_next old middle new before added i =
       let x = slice_index list count in let more = take_more list count 0 below in (
-      λ on. elim (or_cases (middle i) (i == x) (sym (added i) ∙ on)) [
-        | inl was ↦ elim ((before i).0 was) [ inl old ↦ inl old | inr first ↦ inr (rw more (Contains-append_left (take count list) (x ∷ []) i first)) ]
-        | inr here ↦ inr (rw more (subst (Contains (take count list ++ x ∷ [])) (sym (eqb-true i x here)) (Contains-push (take count list) x)))
-      ],
-      λ h. added i ∙ elim h [
-        | inl was ↦ rw ((before i).1 (inl was)) refl
-        | inr first ↦ elim (Contains-push_cases (take count list) x i (rw more at first)) [
-          | inl before' ↦ rw ((before i).1 (inr before')) refl
-          | inr here ↦ or_true (middle i) (i == x) (eq-eqb i x (sym here))
-        ]
-      ])
+        λ on. elim (or_cases (middle i) (i == x) (sym (added i) ∙ on)) [
+          | inl was ↦ elim ((before i).0 was) [ inl old ↦ inl old | inr first ↦ inr (rw more (Contains-append_left (take count list) (x ∷ []) i first)) ]
+          | inr here ↦ inr (rw more (subst (Contains (take count list ++ x ∷ [])) (sym (eqb-true i x here)) (Contains-push (take count list) x)))
+        ],
+        λ h. added i ∙ elim h [
+          | inl was ↦ rw ((before i).1 (inl was)) refl
+          | inr first ↦ elim (Contains-push_cases (take count list) x i (rw more at first)) [
+            | inl before' ↦ rw ((before i).1 (inr before')) refl
+            | inr here ↦ or_true (middle i) (i == x) (eq-eqb i x (sym here))
+          ]
+        ],
+      )
 
   -- what is so of so many indices and one more
   pub all_before : (P : ℕ → Type 0) → All P (take (count + 1) list) → All P (take count list)

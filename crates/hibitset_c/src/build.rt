@@ -35,7 +35,11 @@ pub extern "C" fn hibitset_with_capacity(alloc: Global, set: &mut Set, max: u32)
     let Ok(made) = BitSet::with_capacity(alloc, max) else {
         return NO_MEMORY;
     };
-    if set.replace(alloc, made) { OK } else { NO_MEMORY }
+    if set.replace(alloc, made) {
+        OK
+    } else {
+        NO_MEMORY
+    }
 }
 
 /// Makes it the set whose words of layer 0 are these: index `64 * p + b` is a member if bit `b` of word `p` is set.
@@ -54,7 +58,11 @@ pub extern "C" fn hibitset_assign_words(alloc: Global, set: &mut Set, words: &[u
     let Ok(made) = BitSet::from_words(alloc, words) else {
         return NO_MEMORY;
     };
-    if set.replace(alloc, made) { OK } else { NO_MEMORY }
+    if set.replace(alloc, made) {
+        OK
+    } else {
+        NO_MEMORY
+    }
 }
 
 /// Makes it a copy of the other set.

@@ -42,9 +42,7 @@ fn add_beyond(alloc: Global, set: &mut Set, index: u32) -> u32
     let added = bits.add(index);
     set.words.show(bits);
     match added {
-        Ok(was_member) => {
-            if was_member { PRESENT } else { OK }
-        }
+        Ok(was_member) => { if was_member { PRESENT } else { OK } }
         Err(_) => NO_MEMORY,
     }
 }

@@ -1,4 +1,4 @@
-use Rattle.std.proofs.Common.{ℕ, ◌/◌, ◌<◌, length, slice_index}
+use Rattle.std.proofs.Common.{◌/◌, ◌<◌, length, slice_index}
 use Rattle.std.proofs.lemmas.List.Elements.{All-more}
 use Rattle.hibitset_base.specs.declared.util.TheConstants.{MAX_EID}
 use Rattle.hibitset.specs.BitSet.{has, slice_len}

@@ -1,4 +1,4 @@
-use Rattle.std.proofs.Common.{◌≡◌, false, sym, subst}
+use Rattle.std.proofs.Common.{subst}
 use Rattle.hibitset.specs.Merging.{NoWordsFrom}
 use Rattle.hibitset_c.specs.Seen.{has as other_has, word_of as other_word}
 use Rattle.hibitset_c.specs.Set.{has}

@@ -1,10 +1,9 @@
 -- `as_mut` lends the set, and the handle follows it.
-use Rattle.std.proofs.Common.{◌≡◌, ℕ, List, [], ◌∷◌, refl, sym, ap, ◌∙◌, Option, true}
+use Rattle.std.proofs.Common.{◌≡◌, List, [], ◌∷◌, refl, sym, ap, ◌∙◌, Option, true}
 use Rattle.std.proofs.raw_atomic.Walks.{proved}
-use prog.Wp.{WpFn}
 use base.Fraction.{full_share}
 use base.Logic.{id⊢, never, fst∗}
-use base.Fml.{GName, ftrue, fsep, flft}
+use base.Fml.{GName, ftrue, flft}
 use mir.Syntax.{named}
 use mir.Raw.{raw as bare}
 use mir.Val.{Val, vptr}
@@ -19,7 +18,7 @@ use denote.Exit.{no}
 use denote.Follow.{follows, Part, lends_Part}
 use denote.Laws.{shows}
 use denote.Memory.{cell_at, lone}
-use denote.RawPtr.{Ptr, block_ptr, null_ptr, in_a_block}
+use denote.RawPtr.{Ptr, null_ptr, in_a_block}
 use denote.Ref.{MutRef, mut_vals, mut_Tells}
 use denote.Signature.{plain, mut_ref_to}
 use denote.Steps.{nothing, opens, peeks, heard}

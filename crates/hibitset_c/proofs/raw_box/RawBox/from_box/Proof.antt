@@ -3,7 +3,7 @@ use Rattle.std.proofs.Common.{◌≡◌, List, [], ◌∷◌, ◌++◌, refl, ap
 use Rattle.std.proofs.raw_atomic.Walks.{proved_at, leaves}
 use prog.Wp.{WpFn}
 use base.Logic.{SProp, emp, id⊢}
-use base.Fml.{ftrue, fsep, flft}
+use base.Fml.{ftrue, flft}
 use mir.MapTy.{inst_fn}
 use mir.Syntax.{a_type, dcons, dnil}
 use mir.Val.{Val, vstruct, of_list}
@@ -14,7 +14,6 @@ use types.Part.{agg, sub, whole}
 use types.Run.{stop, fld, of_opd, no_more, and_then, returns, enter}
 use types.ByLocal.{alloc_all, pass_all, free_all, look_at, get, get_in, sets, lands_as}
 use denote.Builtin.{RawPtr}
-use denote.Exit.{no}
 use denote.Param.{param, bounded}
 use denote.Param.Laws.{param_laws}
 use denote.RattleType.{RattleType, owns}
