@@ -32,7 +32,7 @@ from pathlib import Path
 
 TOP = Path(__file__).resolve().parent.parent
 CRATES = TOP / "crates"
-LIBRARY = "hibitset_base hibitset_atomic hibitset hibitset_store".split()
+LIBRARY = "hibitset_base hibitset_atomic hibitset hibitset_store hibitset_c".split()
 PAGES = sorted(
     path
     for pattern in ("*.md", "docs/*.md", "bench/*.md", "tests/**/*.md", "crates/*/*.md", "bindings/*/*.md")
@@ -98,7 +98,7 @@ def dead_links(page):
             yield line_at(text, link.start()), f"links to {link[1]}, but no heading has the anchor #{anchor}"
     # What a guide prints to be a file of the user's is not looked for here.
     printed = re.findall(r"`([\w./-]+)`:\n\n```", text_of(page))
-    named = r"(?<![\w./-])((?:docs|bench|tests|crates)/[\w./*+-]*\.(?:md|py|sh|rt|antt|edit|patch|svg)|CONTRIBUTING\.md)(?!\w)"
+    named = r"(?<![\w./-])((?:docs|bench|tests|crates|bindings)/[\w./*+-]*\.(?:md|py|sh|rt|antt|edit|patch|svg)|CONTRIBUTING\.md)(?!\w)"
     for name in re.finditer(named, text):
         if PLACEHOLDER.search(name[1]) or name[1] in printed:
             continue
@@ -275,7 +275,7 @@ class Crate:
             if ghost := re.match(r"    (?:pub )?ghost (\w+)(:| =) \{", line):
                 of_impl = kind == "impl"
                 (self.facts if of_impl else self.words).setdefault((owner, trait) if of_impl else owner or trait, set()).add(ghost[1])
-            elif call := re.match(r" *(pub )?(?:pub\([^)]*\) )?(?:const )?(?:final )?fn (\w+)", line):
+            elif call := re.match(r' *(pub )?(?:pub\([^)]*\) )?(?:const )?(?:final )?(?:extern "C" )?fn (\w+)', line):
                 is_pub = bool(call[1]) or bool(trait)
                 self.functions.append(Function(module, owner, trait, call[2], is_pub, head_of(lines, at)))
 

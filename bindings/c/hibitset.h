@@ -1,0 +1,260 @@
+/*
+ * hibitset.h: hierarchical bit sets of uint32_t indices below 2^30, for C99 and C++.
+ *
+ *     hibitset_t set = hibitset_new();
+ *     if (hibitset_failed(hibitset_add(&set, 70000))) { ... }
+ *     printf("%zu members\n", hibitset_len(&set));
+ *     hibitset_free(&set);
+ *
+ * WHAT THE CALLER OWES
+ *
+ * The library is compiled from Rattle, where each function is proved to be safe, to return, and to do what its contract
+ * says. No proof covers C, so these are the caller's:
+ *
+ * - A hibitset_t comes from hibitset_new, and only the functions below change it. It may be moved as bytes, and is then
+ *   used in its new place alone. It is copied by hibitset_assign only.
+ * - A function that takes a set as `hibitset_t *` has it alone. Any number of functions may take one as
+ *   `const hibitset_t *` at once, on any threads, while no function changes it. A set may go from one thread to another,
+ *   as any other memory.
+ * - No pointer is NULL, unless a length of 0 goes with it, and as much memory lies behind each as is said. Sets, buffers
+ *   and results do not overlap, except that two operands may be the same set.
+ * - malloc, realloc and free are those of one allocator. No function is called from a signal handler, nor in the child
+ *   of a fork of a process with threads.
+ */
+#ifndef HIBITSET_H
+#define HIBITSET_H
+
+#include <stdbool.h>
+#include <stddef.h>
+#include <stdint.h>
+
+#if SIZE_MAX != UINT64_MAX
+#error "hibitset is built for targets of 64 bits"
+#endif
+
+#ifdef __cplusplus
+extern "C" {
+#endif
+
+/* Every index in a set is less than this. */
+#define HIBITSET_MAX_EID UINT32_C(1073741824)
+
+/* The most words that layer 0 of a set has. */
+#define HIBITSET_MAX_WORDS UINT32_C(16777216)
+
+/* What a function returns that can fail. */
+typedef enum hibitset_status {
+    HIBITSET_OK = 0,          /* Done. Of hibitset_add: the index was not a member before. */
+    HIBITSET_PRESENT = 1,     /* Of hibitset_add: the index was a member before. */
+    HIBITSET_NO_MEMORY = 2,   /* An allocation failed. The function says what it leaves. */
+    HIBITSET_OUT_OF_RANGE = 3 /* An index or a length is out of range. The function says what it leaves. */
+} hibitset_status;
+
+/* A set. Its fields are the library's. */
+typedef struct hibitset {
+    struct {
+        const uint64_t *words;
+        size_t len;
+    } layers_[4];
+    uint64_t top_;
+    void *set_;
+    bool made_;
+} hibitset_t;
+
+/* ---- Life of a set ---- */
+
+/* Returns an empty set. It takes no memory until the first member. */
+static inline hibitset_t hibitset_new(void) {
+    static const uint64_t no_word = 0;
+    hibitset_t set;
+    int layer;
+    for (layer = 0; layer < 4; layer++) {
+        set.layers_[layer].words = &no_word;
+        set.layers_[layer].len = 0;
+    }
+    set.top_ = 0;
+    set.set_ = NULL;
+    set.made_ = false;
+    return set;
+}
+
+/* Removes all members and frees the memory. The set is then as hibitset_new returns one: it may be used again, freed
+ * again, or left. */
+void hibitset_free(hibitset_t *set);
+
+/* Returns whether a status is an error: HIBITSET_NO_MEMORY or HIBITSET_OUT_OF_RANGE. */
+static inline bool hibitset_failed(hibitset_status status) { return status >= HIBITSET_NO_MEMORY; }
+
+/* ---- Capacity ---- */
+
+/* Makes `set` an empty set with capacity for each index below `max`, at most HIBITSET_MAX_EID: adding these allocates
+ * nothing until hibitset_clear, hibitset_free or one of the functions that make a set anew.
+ * HIBITSET_NO_MEMORY, HIBITSET_OUT_OF_RANGE: `set` is unchanged. */
+hibitset_status hibitset_with_capacity(hibitset_t *set, uint32_t max);
+
+/* Returns a number below which each index can be added without an allocation. */
+static inline size_t hibitset_capacity(const hibitset_t *set) { return 64 * set->layers_[0].len; }
+
+/* ---- Members ---- */
+
+/* Adds an index, less than HIBITSET_MAX_EID. HIBITSET_OK: it is new. HIBITSET_PRESENT: it was a member.
+ * HIBITSET_NO_MEMORY (never below hibitset_capacity), HIBITSET_OUT_OF_RANGE: the members are unchanged. */
+hibitset_status hibitset_add(hibitset_t *set, uint32_t index);
+
+/* Adds `len` indices in order, up to the first that fails, and leaves in `*added` how many were added: `len` on success.
+ * HIBITSET_NO_MEMORY, HIBITSET_OUT_OF_RANGE: indices[*added] failed so, and none after it was added. */
+hibitset_status hibitset_add_many(hibitset_t *set, const uint32_t *indices, size_t len, size_t *added);
+
+/* Adds the indices from `start` on and below `end`, at most HIBITSET_MAX_EID; none if end <= start.
+ * HIBITSET_NO_MEMORY (never if end <= hibitset_capacity), HIBITSET_OUT_OF_RANGE: the members are unchanged. */
+hibitset_status hibitset_add_range(hibitset_t *set, uint32_t start, uint32_t end);
+
+/* Removes an index, and returns whether it was a member. The capacity stays. */
+bool hibitset_remove(hibitset_t *set, uint32_t index);
+
+/* Removes the indices from `start` on and below `end`. The capacity stays. */
+void hibitset_remove_range(hibitset_t *set, uint32_t start, uint32_t end);
+
+/* Removes all members. The memory is kept for later ones, but hibitset_capacity is 0. */
+void hibitset_clear(hibitset_t *set);
+
+/* Returns whether an index is a member; false for one out of range. */
+bool hibitset_contains(const hibitset_t *set, uint32_t index);
+
+/* Returns the number of members. */
+size_t hibitset_len(const hibitset_t *set);
+
+/* Returns whether there is no member. */
+bool hibitset_is_empty(const hibitset_t *set);
+
+/* Leaves the least member in `*index` and returns true. If there is none, returns false and leaves `*index`. */
+bool hibitset_first(const hibitset_t *set, uint32_t *index);
+
+/* Leaves the greatest member in `*index` and returns true. If there is none, returns false and leaves `*index`. */
+bool hibitset_last(const hibitset_t *set, uint32_t *index);
+
+/* Leaves the least index from `start` on that is in range and no member in `*index` and returns true. If there is none,
+ * returns false and leaves `*index`. */
+bool hibitset_first_gap(const hibitset_t *set, uint32_t start, uint32_t *index);
+
+/* ---- Iteration ---- */
+
+/* Writes the members from `start` on into `buffer`, ascending, until `len` are written or there are no more, and returns
+ * how many. What lies behind them in the buffer stays. Go on from the last one plus 1. */
+size_t hibitset_next_many(const hibitset_t *set, uint32_t start, uint32_t *buffer, size_t len);
+
+/* As hibitset_next_many, of the indices in range that are no members. */
+size_t hibitset_not_next_many(const hibitset_t *set, uint32_t start, uint32_t *buffer, size_t len);
+
+/* Calls `visit` with each member, ascending, and `param`, until it returns false. Returns whether it never did. `visit`
+ * changes no set that is iterated. */
+static inline bool hibitset_iterate(const hibitset_t *set, bool (*visit)(uint32_t index, void *param), void *param) {
+    uint32_t buffer[256], start = 0;
+    size_t count, i;
+    do {
+        count = hibitset_next_many(set, start, buffer, 256);
+        for (i = 0; i < count; i++) {
+            if (!visit(buffer[i], param)) return false;
+        }
+        if (count > 0) start = buffer[count - 1] + 1;
+    } while (count == 256);
+    return true;
+}
+
+/* ---- Words ---- */
+
+/* Makes `set` the set of these words, at most HIBITSET_MAX_WORDS: index 64 * p + b is a member if bit b of words[p] is
+ * set. HIBITSET_NO_MEMORY, HIBITSET_OUT_OF_RANGE: `set` is unchanged. */
+hibitset_status hibitset_assign_words(hibitset_t *set, const uint64_t *words, size_t len);
+
+/* Returns the words of the set, `*len` of them, which are there until it is changed: index 64 * p + b is a member if bit
+ * b of word p is set. There is no member past them. */
+static inline const uint64_t *hibitset_words(const hibitset_t *set, size_t *len) {
+    *len = set->layers_[0].len;
+    return set->layers_[0].words;
+}
+
+/* ---- Assignments ---- */
+
+/* As the functions below without `raw_`, of two sets that are not the same. */
+hibitset_status hibitset_raw_assign(hibitset_t *set, const hibitset_t *other);
+hibitset_status hibitset_raw_or_assign(hibitset_t *set, const hibitset_t *other);
+hibitset_status hibitset_raw_xor_assign(hibitset_t *set, const hibitset_t *other);
+void hibitset_raw_and_assign(hibitset_t *set, const hibitset_t *other);
+void hibitset_raw_andnot_assign(hibitset_t *set, const hibitset_t *other);
+
+/* Makes `set` a copy of `other`. HIBITSET_NO_MEMORY: `set` is unchanged. */
+static inline hibitset_status hibitset_assign(hibitset_t *set, const hibitset_t *other) {
+    return set == other ? HIBITSET_OK : hibitset_raw_assign(set, other);
+}
+
+/* Adds the members of `other`. HIBITSET_NO_MEMORY (never if all of them are below hibitset_capacity): the members are
+ * unchanged. */
+static inline hibitset_status hibitset_or_assign(hibitset_t *set, const hibitset_t *other) {
+    return set == other ? HIBITSET_OK : hibitset_raw_or_assign(set, other);
+}
+
+/* Adds the members of `other` that `set` lacks, and removes those that both have. HIBITSET_NO_MEMORY (never if all of
+ * them are below hibitset_capacity): the members are unchanged. */
+static inline hibitset_status hibitset_xor_assign(hibitset_t *set, const hibitset_t *other) {
+    if (set == other) {
+        hibitset_remove_range(set, 0, HIBITSET_MAX_EID);
+        return HIBITSET_OK;
+    }
+    return hibitset_raw_xor_assign(set, other);
+}
+
+/* Removes the members that `other` lacks. The capacity stays. */
+static inline void hibitset_and_assign(hibitset_t *set, const hibitset_t *other) {
+    if (set != other) hibitset_raw_and_assign(set, other);
+}
+
+/* Removes the members that `other` has. The capacity stays. */
+static inline void hibitset_andnot_assign(hibitset_t *set, const hibitset_t *other) {
+    if (set == other) {
+        hibitset_remove_range(set, 0, HIBITSET_MAX_EID);
+    } else {
+        hibitset_raw_andnot_assign(set, other);
+    }
+}
+
+/* ---- Two sets that are read ---- */
+
+/* Returns whether the two have no member in common. */
+bool hibitset_is_disjoint(const hibitset_t *a, const hibitset_t *b);
+
+/* Returns whether each member of `a` is one of `b`. */
+bool hibitset_is_subset(const hibitset_t *a, const hibitset_t *b);
+
+/* Returns whether the two have the same members. */
+bool hibitset_equals(const hibitset_t *a, const hibitset_t *b);
+
+/* Returns how many members both have. */
+size_t hibitset_and_len(const hibitset_t *a, const hibitset_t *b);
+
+/* Returns how many members at least one of the two has. */
+size_t hibitset_or_len(const hibitset_t *a, const hibitset_t *b);
+
+/* Returns how many members one of the two has alone. */
+size_t hibitset_xor_len(const hibitset_t *a, const hibitset_t *b);
+
+/* Returns how many members `a` has that `b` lacks. */
+size_t hibitset_andnot_len(const hibitset_t *a, const hibitset_t *b);
+
+/* As hibitset_next_many, of the members of both sets. */
+size_t hibitset_and_next_many(const hibitset_t *a, const hibitset_t *b, uint32_t start, uint32_t *buffer, size_t len);
+
+/* As hibitset_next_many, of the members of at least one of the two sets. */
+size_t hibitset_or_next_many(const hibitset_t *a, const hibitset_t *b, uint32_t start, uint32_t *buffer, size_t len);
+
+/* As hibitset_next_many, of the members of one of the two sets alone. */
+size_t hibitset_xor_next_many(const hibitset_t *a, const hibitset_t *b, uint32_t start, uint32_t *buffer, size_t len);
+
+/* As hibitset_next_many, of the members of `a` that `b` lacks. */
+size_t hibitset_andnot_next_many(const hibitset_t *a, const hibitset_t *b, uint32_t start, uint32_t *buffer, size_t len);
+
+#ifdef __cplusplus
+}
+#endif
+
+#endif

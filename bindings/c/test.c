@@ -1,0 +1,498 @@
+/* Tests of each function of hibitset.h beside a model. They end with status 0, or say which line failed. malloc and
+ * realloc are wrapped (-Wl,--wrap), so that each allocation can fail in turn. */
+#include "hibitset.h"
+#include <pthread.h>
+#include <stdio.h>
+#include <stdlib.h>
+#include <string.h>
+
+#define CHECK(x)                                                   \
+    do {                                                           \
+        if (!(x)) {                                                \
+            fprintf(stderr, "%s:%d: %s\n", __FILE__, __LINE__, #x); \
+            exit(1);                                               \
+        }                                                          \
+    } while (0)
+
+/* The library returns a status as a uint32_t, and takes a set as 88 bytes. */
+typedef char status_has_4_bytes[sizeof(hibitset_status) == 4 ? 1 : -1];
+typedef char set_has_88_bytes[sizeof(hibitset_t) == 88 ? 1 : -1];
+typedef char top_is_at_64[offsetof(hibitset_t, top_) == 64 ? 1 : -1];
+typedef char set_is_at_72[offsetof(hibitset_t, set_) == 72 ? 1 : -1];
+typedef char made_is_at_80[offsetof(hibitset_t, made_) == 80 ? 1 : -1];
+
+/* ---- Allocations that fail ---- */
+
+void *__real_malloc(size_t size);
+void *__real_realloc(void *block, size_t size);
+void *__wrap_malloc(size_t size);
+void *__wrap_realloc(void *block, size_t size);
+
+static long allocations_left = -1; /* So many succeed; -1: all do. */
+static long allocations;
+
+static bool fails(void) {
+    allocations++;
+    if (allocations_left < 0) return false;
+    if (allocations_left == 0) return true;
+    allocations_left--;
+    return false;
+}
+
+void *__wrap_malloc(size_t size) { return fails() ? NULL : __real_malloc(size); }
+void *__wrap_realloc(void *block, size_t size) { return fails() ? NULL : __real_realloc(block, size); }
+
+/* ---- Random numbers ---- */
+
+static uint64_t state = 88172645463325252u;
+
+static uint32_t random_below(uint32_t bound) {
+    state ^= state << 13;
+    state ^= state >> 7;
+    state ^= state << 17;
+    return (uint32_t)((state >> 20) % bound);
+}
+
+/* ---- One set beside its model, a byte for each index below RANGE ---- */
+
+enum { RANGE = 300000 };
+
+static bool visit_in_order(uint32_t index, void *param) {
+    uint32_t **next = param;
+    CHECK(*(*next)++ == index);
+    return true;
+}
+
+static bool stop_at_once(uint32_t index, void *param) {
+    *(uint32_t *)param = index;
+    return false;
+}
+
+static void check_batches(const hibitset_t *set, const unsigned char *model, size_t members) {
+    uint32_t buffer[64], start = 0;
+    size_t count, i, seen = 0;
+    do {
+        memset(buffer, 0xa5, sizeof buffer);
+        count = hibitset_next_many(set, start, buffer, 64);
+        CHECK(count <= 64);
+        for (i = 0; i < count; i++) {
+            while (start < buffer[i]) CHECK(!model[start++]);
+            CHECK(model[start++]);
+        }
+        for (; i < 64; i++) CHECK(buffer[i] == 0xa5a5a5a5u);
+        seen += count;
+    } while (count == 64);
+    CHECK(seen == members);
+}
+
+static void check_members(const hibitset_t *set, const unsigned char *model) {
+    static uint32_t list[RANGE];
+    uint32_t index = 12345, *next = list, i;
+    size_t members = 0;
+    for (i = 0; i < RANGE; i++) {
+        if (model[i]) list[members++] = i;
+    }
+    CHECK(hibitset_len(set) == members);
+    CHECK(hibitset_is_empty(set) == (members == 0));
+    CHECK(hibitset_first(set, &index) == (members > 0));
+    CHECK(index == (members > 0 ? list[0] : 12345));
+    index = 12345;
+    CHECK(hibitset_last(set, &index) == (members > 0));
+    CHECK(index == (members > 0 ? list[members - 1] : 12345));
+    check_batches(set, model, members);
+    CHECK(hibitset_iterate(set, visit_in_order, &next) && next == list + members);
+    CHECK(hibitset_iterate(set, stop_at_once, &index) == (members == 0));
+    CHECK(members == 0 || index == list[0]);
+    for (i = 0; i < 200; i++) {
+        index = random_below(RANGE);
+        CHECK(hibitset_contains(set, index) == (bool)model[index]);
+    }
+}
+
+static void check_words(const hibitset_t *set, const unsigned char *model) {
+    size_t len, i;
+    const uint64_t *words = hibitset_words(set, &len);
+    CHECK(hibitset_capacity(set) == 64 * len);
+    for (i = 0; i < RANGE; i++) CHECK(model[i] == (i / 64 < len ? words[i / 64] >> i % 64 & 1 : 0));
+}
+
+static void check_gaps(const hibitset_t *set, const unsigned char *model, uint32_t start) {
+    static uint32_t buffer[1000];
+    uint32_t gap = start, index, i;
+    size_t count = hibitset_not_next_many(set, start, buffer, 1000), len = 0;
+    CHECK(count == 1000);
+    for (i = start; i < RANGE && len < count; i++) {
+        if (!model[i]) CHECK(buffer[len++] == i);
+    }
+    CHECK(len == count || buffer[len] == RANGE);
+    while (gap < RANGE && model[gap]) gap++;
+    CHECK(hibitset_first_gap(set, start, &index) && index == gap);
+}
+
+/* ---- Two sets beside their models ---- */
+
+typedef size_t next_many(const hibitset_t *a, const hibitset_t *b, uint32_t start, uint32_t *buffer, size_t len);
+typedef size_t len_of_both(const hibitset_t *a, const hibitset_t *b);
+
+static unsigned in_both(unsigned a, unsigned b) { return a & b; }
+static unsigned in_either(unsigned a, unsigned b) { return a | b; }
+static unsigned in_one(unsigned a, unsigned b) { return a ^ b; }
+static unsigned in_first(unsigned a, unsigned b) { return a & !b; }
+
+static void check_pair(const hibitset_t *x, const hibitset_t *y, const unsigned char *a, const unsigned char *b, uint32_t start) {
+    static const struct {
+        unsigned (*test)(unsigned a, unsigned b);
+        len_of_both *len;
+        next_many *next;
+    } rows[] = {
+        {in_both, hibitset_and_len, hibitset_and_next_many},
+        {in_either, hibitset_or_len, hibitset_or_next_many},
+        {in_one, hibitset_xor_len, hibitset_xor_next_many},
+        {in_first, hibitset_andnot_len, hibitset_andnot_next_many},
+    };
+    static uint32_t buffer[1000];
+    size_t lens[4], row, i, count, len;
+    for (row = 0; row < 4; row++) {
+        lens[row] = 0;
+        for (i = 0; i < RANGE; i++) lens[row] += rows[row].test(a[i], b[i]);
+        CHECK(rows[row].len(x, y) == lens[row]);
+        count = rows[row].next(x, y, start, buffer, 1000);
+        for (i = start, len = 0; i < RANGE && len < count; i++) {
+            if (rows[row].test(a[i], b[i])) CHECK(buffer[len++] == i);
+        }
+        CHECK(len == count);
+        if (count < 1000) {
+            for (; i < RANGE; i++) CHECK(!rows[row].test(a[i], b[i]));
+        }
+    }
+    CHECK(hibitset_is_disjoint(x, y) == (lens[0] == 0));
+    CHECK(hibitset_is_subset(x, y) == (lens[3] == 0));
+    CHECK(hibitset_equals(x, y) == (lens[2] == 0));
+    CHECK(hibitset_equals(x, x) && hibitset_is_subset(x, x) && hibitset_and_len(x, x) == hibitset_len(x));
+}
+
+/* ---- Changes, at random ---- */
+
+static void add_some(hibitset_t *set, unsigned char *model, uint32_t span) {
+    int i;
+    for (i = 0; i < 500; i++) {
+        uint32_t index = random_below(span) % RANGE;
+        CHECK(hibitset_add(set, index) == (model[index] ? HIBITSET_PRESENT : HIBITSET_OK));
+        model[index] = 1;
+    }
+}
+
+static void add_list(hibitset_t *set, unsigned char *model, uint32_t span) {
+    uint32_t list[300];
+    size_t i, added = 7;
+    for (i = 0; i < 300; i++) {
+        list[i] = random_below(span) % RANGE;
+        model[list[i]] = 1;
+    }
+    CHECK(hibitset_add_many(set, list, 300, &added) == HIBITSET_OK && added == 300);
+}
+
+static void remove_some(hibitset_t *set, unsigned char *model, uint32_t span) {
+    int i;
+    for (i = 0; i < 500; i++) {
+        uint32_t index = random_below(span) % RANGE;
+        CHECK(hibitset_remove(set, index) == (bool)model[index]);
+        model[index] = 0;
+    }
+}
+
+static void change(hibitset_t *x, hibitset_t *y, unsigned char *a, unsigned char *b, int round) {
+    uint32_t i, start = random_below(RANGE), end = start + random_below(round % 3 ? 300 : 100000);
+    uint32_t span = 1u << random_below(19);
+    if (end > RANGE) end = RANGE;
+    switch (random_below(13)) {
+    case 0:
+    case 1: add_some(x, a, span); break;
+    case 2: remove_some(x, a, span); break;
+    case 3: add_list(x, a, span); break;
+    case 4:
+        CHECK(hibitset_add_range(x, start, end) == HIBITSET_OK);
+        for (i = start; i < end; i++) a[i] = 1;
+        break;
+    case 5:
+        hibitset_remove_range(x, start, end);
+        for (i = start; i < end; i++) a[i] = 0;
+        break;
+    case 6:
+        CHECK(hibitset_or_assign(x, y) == HIBITSET_OK);
+        for (i = 0; i < RANGE; i++) a[i] |= b[i];
+        break;
+    case 7:
+        CHECK(hibitset_xor_assign(x, y) == HIBITSET_OK);
+        for (i = 0; i < RANGE; i++) a[i] ^= b[i];
+        break;
+    case 8:
+        if (random_below(3) > 0) break;
+        hibitset_and_assign(x, y);
+        for (i = 0; i < RANGE; i++) a[i] &= b[i];
+        break;
+    case 9:
+        hibitset_andnot_assign(x, y);
+        for (i = 0; i < RANGE; i++) a[i] &= !b[i];
+        break;
+    case 10:
+        if (random_below(4) > 0) break;
+        if (random_below(2) > 0) {
+            hibitset_clear(x);
+        } else {
+            CHECK(hibitset_with_capacity(x, span) == HIBITSET_OK && hibitset_capacity(x) >= span);
+        }
+        memset(a, 0, RANGE);
+        break;
+    case 11:
+        CHECK(hibitset_assign(y, x) == HIBITSET_OK);
+        memcpy(b, a, RANGE);
+        break;
+    default: {
+        size_t len;
+        const uint64_t *words = hibitset_words(x, &len);
+        CHECK(hibitset_assign_words(y, words, len) == HIBITSET_OK);
+        memcpy(b, a, RANGE);
+    }
+    }
+}
+
+static void random_changes(void) {
+    unsigned char *a = calloc(RANGE, 1), *b = calloc(RANGE, 1), *c;
+    hibitset_t x = hibitset_new(), y = hibitset_new(), moved;
+    int round;
+    CHECK(a && b);
+    for (round = 0; round < 400; round++) {
+        change(&x, &y, a, b, round);
+        check_members(&x, a);
+        if (round % 8 == 0) {
+            check_words(&x, a);
+            check_gaps(&x, a, random_below(RANGE));
+            check_pair(&x, &y, a, b, random_below(RANGE));
+        }
+        /* A set may be moved as bytes. */
+        if (random_below(5) == 0) {
+            moved = x, x = y, y = moved;
+            c = a, a = b, b = c;
+        }
+    }
+    hibitset_free(&x);
+    hibitset_free(&y);
+    free(a);
+    free(b);
+}
+
+/* ---- Ends of the range, and sets without members ---- */
+
+static void empty_sets(void) {
+    hibitset_t set = hibitset_new(), other = hibitset_new();
+    uint32_t index = 7, buffer[4];
+    size_t added = 7, len = 7;
+    long before = allocations;
+    CHECK(hibitset_len(&set) == 0 && hibitset_is_empty(&set) && !hibitset_contains(&set, 0) && hibitset_capacity(&set) == 0);
+    CHECK(!hibitset_first(&set, &index) && !hibitset_last(&set, &index) && index == 7);
+    CHECK(hibitset_next_many(&set, 0, buffer, 4) == 0 && !hibitset_remove(&set, 5));
+    hibitset_remove_range(&set, 0, 100);
+    hibitset_clear(&set);
+    CHECK(hibitset_or_assign(&set, &other) == HIBITSET_OK && hibitset_xor_assign(&set, &other) == HIBITSET_OK);
+    hibitset_and_assign(&set, &other);
+    hibitset_andnot_assign(&set, &other);
+    CHECK(hibitset_add_range(&set, 10, 10) == HIBITSET_OK && hibitset_add_range(&set, 10, 5) == HIBITSET_OK);
+    CHECK(hibitset_add_many(&set, NULL, 0, &added) == HIBITSET_OK && added == 0);
+    CHECK(hibitset_next_many(&set, 0, NULL, 0) == 0 && hibitset_not_next_many(&set, 0, NULL, 0) == 0);
+    CHECK(hibitset_equals(&set, &other) && hibitset_is_disjoint(&set, &set) && hibitset_words(&set, &len) && len == 0);
+    CHECK(allocations == before);
+    CHECK(hibitset_assign_words(&set, NULL, 0) == HIBITSET_OK && hibitset_is_empty(&set));
+    CHECK(hibitset_assign(&set, &other) == HIBITSET_OK && hibitset_is_empty(&set));
+    hibitset_free(&set);
+    hibitset_free(&set);
+    CHECK(hibitset_is_empty(&set) && hibitset_add(&set, 3) == HIBITSET_OK && hibitset_len(&set) == 1);
+    hibitset_free(&set);
+    hibitset_free(&other);
+}
+
+static void out_of_range(void) {
+    static const uint32_t list[] = {5, 9, HIBITSET_MAX_EID, 6}, bad[] = {UINT32_MAX};
+    hibitset_t set = hibitset_new();
+    uint32_t index = 7, buffer[4];
+    uint64_t word = 1;
+    size_t added = 7;
+    long before = allocations;
+    CHECK(hibitset_add(&set, HIBITSET_MAX_EID) == HIBITSET_OUT_OF_RANGE);
+    CHECK(hibitset_add(&set, UINT32_MAX) == HIBITSET_OUT_OF_RANGE);
+    CHECK(hibitset_add_many(&set, bad, 1, &added) == HIBITSET_OUT_OF_RANGE && added == 0);
+    CHECK(hibitset_add_range(&set, 0, HIBITSET_MAX_EID + 1) == HIBITSET_OUT_OF_RANGE);
+    CHECK(hibitset_with_capacity(&set, HIBITSET_MAX_EID + 1) == HIBITSET_OUT_OF_RANGE);
+    CHECK(hibitset_assign_words(&set, &word, HIBITSET_MAX_WORDS + 1) == HIBITSET_OUT_OF_RANGE);
+    CHECK(!hibitset_contains(&set, UINT32_MAX) && !hibitset_remove(&set, UINT32_MAX));
+    CHECK(hibitset_is_empty(&set) && allocations == before);
+    CHECK(hibitset_add_many(&set, list, 4, &added) == HIBITSET_OUT_OF_RANGE && added == 2);
+    CHECK(hibitset_len(&set) == 2 && hibitset_contains(&set, 9) && !hibitset_contains(&set, 6));
+    hibitset_clear(&set);
+    CHECK(hibitset_capacity(&set) == 0);
+    CHECK(hibitset_add(&set, HIBITSET_MAX_EID - 1) == HIBITSET_OK);
+    CHECK(hibitset_last(&set, &index) && index == HIBITSET_MAX_EID - 1);
+    CHECK(hibitset_next_many(&set, 5, buffer, 4) == 1 && buffer[0] == index);
+    CHECK(hibitset_next_many(&set, UINT32_MAX, buffer, 4) == 0 && hibitset_next_many(&set, 0, buffer, 0) == 0);
+    CHECK(!hibitset_first_gap(&set, HIBITSET_MAX_EID - 1, &index) && !hibitset_first_gap(&set, UINT32_MAX, &index));
+    CHECK(hibitset_first_gap(&set, HIBITSET_MAX_EID - 2, &index) && index == HIBITSET_MAX_EID - 2);
+    hibitset_remove_range(&set, 0, UINT32_MAX);
+    CHECK(hibitset_is_empty(&set) && hibitset_capacity(&set) == HIBITSET_MAX_EID);
+    hibitset_free(&set);
+}
+
+static void one_set_twice(void) {
+    hibitset_t set = hibitset_new();
+    CHECK(hibitset_add(&set, 3) == HIBITSET_OK && hibitset_assign(&set, &set) == HIBITSET_OK);
+    CHECK(hibitset_or_assign(&set, &set) == HIBITSET_OK);
+    hibitset_and_assign(&set, &set);
+    CHECK(hibitset_len(&set) == 1 && !hibitset_is_disjoint(&set, &set) && hibitset_or_len(&set, &set) == 1);
+    CHECK(hibitset_xor_len(&set, &set) == 0 && hibitset_andnot_len(&set, &set) == 0);
+    CHECK(hibitset_xor_assign(&set, &set) == HIBITSET_OK && hibitset_is_empty(&set) && hibitset_capacity(&set) == 64);
+    CHECK(hibitset_add(&set, 3) == HIBITSET_OK);
+    hibitset_andnot_assign(&set, &set);
+    CHECK(hibitset_is_empty(&set) && hibitset_capacity(&set) == 64);
+    hibitset_free(&set);
+}
+
+/* ---- Each allocation fails in turn ---- */
+
+typedef hibitset_status call(hibitset_t *set, const hibitset_t *other);
+
+static hibitset_status add_far(hibitset_t *set, const hibitset_t *other) {
+    (void)other;
+    return hibitset_add(set, 1000000);
+}
+
+static hibitset_status add_two(hibitset_t *set, const hibitset_t *other) {
+    static const uint32_t list[] = {1000000, 1000000};
+    size_t added = 7;
+    hibitset_status status = hibitset_add_many(set, list, 2, &added);
+    (void)other;
+    CHECK(added == (status == HIBITSET_OK ? 2 : 0));
+    return status;
+}
+
+static hibitset_status add_range(hibitset_t *set, const hibitset_t *other) {
+    (void)other;
+    return hibitset_add_range(set, 900000, 1000000);
+}
+
+static hibitset_status with_capacity(hibitset_t *set, const hibitset_t *other) {
+    (void)other;
+    return hibitset_with_capacity(set, 1000000);
+}
+
+static hibitset_status assign(hibitset_t *set, const hibitset_t *other) { return hibitset_assign(set, other); }
+
+static hibitset_status assign_words(hibitset_t *set, const hibitset_t *other) {
+    size_t len;
+    const uint64_t *words = hibitset_words(other, &len);
+    return hibitset_assign_words(set, words, len);
+}
+
+static hibitset_status or_assign(hibitset_t *set, const hibitset_t *other) { return hibitset_or_assign(set, other); }
+static hibitset_status xor_assign(hibitset_t *set, const hibitset_t *other) { return hibitset_xor_assign(set, other); }
+
+/* Makes a call on a set with or without members, the first `met` allocations of which succeed. Returns whether all did. */
+static bool meets(call *made, const hibitset_t *other, bool has_member, long met) {
+    hibitset_t set = hibitset_new(), before = hibitset_new();
+    hibitset_status status;
+    size_t capacity;
+    if (has_member) CHECK(hibitset_add(&set, 5) == HIBITSET_OK && hibitset_assign(&before, &set) == HIBITSET_OK);
+    capacity = hibitset_capacity(&set);
+    allocations_left = met;
+    status = made(&set, other);
+    allocations_left = -1;
+    if (status == HIBITSET_NO_MEMORY) {
+        CHECK(hibitset_failed(status) && hibitset_equals(&set, &before) && hibitset_capacity(&set) == capacity);
+        CHECK(made(&set, other) == HIBITSET_OK);
+    } else {
+        CHECK(status == HIBITSET_OK && !hibitset_failed(status));
+        CHECK(!hibitset_equals(&set, &before) || (made == with_capacity && !has_member));
+    }
+    hibitset_free(&set);
+    hibitset_free(&before);
+    return status == HIBITSET_OK;
+}
+
+static void failing_allocations(void) {
+    static call *const calls[] = {add_far, add_two, add_range, with_capacity, assign, assign_words, or_assign, xor_assign};
+    hibitset_t other = hibitset_new();
+    size_t i;
+    int has_member;
+    long met;
+    CHECK(hibitset_add(&other, 70000) == HIBITSET_OK && hibitset_add(&other, 2) == HIBITSET_OK);
+    for (i = 0; i < sizeof calls / sizeof *calls; i++) {
+        for (has_member = 0; has_member < 2; has_member++) {
+            for (met = 0; !meets(calls[i], &other, has_member, met); met++) CHECK(met < 5);
+            CHECK(met > 0);
+        }
+    }
+    hibitset_free(&other);
+}
+
+static void within_capacity(void) {
+    hibitset_t set = hibitset_new(), other = hibitset_new();
+    uint32_t index, list[] = {99999, 3};
+    size_t added;
+    CHECK(hibitset_add(&other, 70000) == HIBITSET_OK && hibitset_add(&other, 2) == HIBITSET_OK);
+    CHECK(hibitset_with_capacity(&set, 100000) == HIBITSET_OK && hibitset_capacity(&set) >= 100000);
+    allocations_left = 0;
+    for (index = 0; index < 100000; index += 7) CHECK(hibitset_add(&set, index) == HIBITSET_OK);
+    CHECK(hibitset_add_many(&set, list, 2, &added) == HIBITSET_OK);
+    CHECK(hibitset_add_range(&set, 0, 100000) == HIBITSET_OK && hibitset_or_assign(&set, &other) == HIBITSET_OK);
+    CHECK(hibitset_xor_assign(&set, &other) == HIBITSET_OK && hibitset_len(&set) == 99998);
+    hibitset_remove_range(&set, 5, 99999);
+    allocations_left = -1;
+    CHECK(hibitset_len(&set) == 5);
+    hibitset_free(&set);
+    hibitset_free(&other);
+}
+
+/* ---- Threads that read one set ---- */
+
+static void *sum_members(void *set) {
+    uint32_t buffer[100], start, round;
+    size_t count, i;
+    uint64_t sum = 0;
+    for (round = 0; round < 20; round++) {
+        start = 0;
+        do {
+            count = hibitset_next_many(set, start, buffer, 100);
+            for (i = 0; i < count; i++) sum += buffer[i] + (uint64_t)hibitset_contains(set, buffer[i]);
+            if (count > 0) start = buffer[count - 1] + 1;
+        } while (count == 100);
+    }
+    return (void *)(uintptr_t)sum;
+}
+
+static void many_readers(void) {
+    pthread_t threads[4];
+    hibitset_t set = hibitset_new();
+    uint32_t i;
+    uint64_t sum = 0;
+    void *found;
+    for (i = 0; i < 200000; i += 13) {
+        CHECK(hibitset_add(&set, i) == HIBITSET_OK);
+        sum += 20 * (uint64_t)(i + 1);
+    }
+    for (i = 0; i < 4; i++) CHECK(pthread_create(&threads[i], NULL, sum_members, &set) == 0);
+    for (i = 0; i < 4; i++) {
+        CHECK(pthread_join(threads[i], &found) == 0);
+        CHECK((uint64_t)(uintptr_t)found == sum);
+    }
+    hibitset_free(&set);
+}
+
+int main(void) {
+    random_changes();
+    empty_sets();
+    out_of_range();
+    one_set_twice();
+    failing_allocations();
+    within_capacity();
+    many_readers();
+    puts("test.c: ok");
+    return 0;
+}

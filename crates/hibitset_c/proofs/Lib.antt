@@ -1,0 +1,5 @@
+mod Handles
+mod Lengths
+mod ListLemmas
+mod NoMembers
+mod RawBoxes

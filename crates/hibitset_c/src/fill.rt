@@ -1,0 +1,23 @@
+//! Members that are written into a buffer.
+ghost use Rattle.std.specs.Prelude.{◌-◌};
+ghost use Rattle.hibitset_base.specs.Members.{members};
+ghost use Rattle.hibitset_base.specs.declared.util.TheConstants.{MAX_EID};
+ghost use Rattle.hibitset_c.specs.Buffer.{Fills};
+
+use hibitset::{BitSetLike, Index};
+
+// Writes the members from `start` on, ascending, until the buffer is full or there are no more. Returns how many.
+#[inline]
+pub(crate) fn fill<T: BitSetLike>(set: T, start: Index, buffer: &mut [Index]) -> usize
+    ensures { Fills (members (T.holds set) start (MAX_EID - start)) buffer.old result buffer.new }
+{
+    let mut count = 0;
+    for index in set.iter_from(start) {
+        if count == buffer.len() {
+            return count;
+        }
+        buffer[count] = index;
+        count += 1;
+    }
+    count
+}

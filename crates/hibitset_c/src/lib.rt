@@ -1,0 +1,18 @@
+//! Hierarchical bit sets for C: a thin static library over `hibitset`, with an export for each call. `bindings/c/hibitset.h` declares them.
+//!
+//! C keeps each set in a struct of its own. A call that changes a set takes it as a `Set`, by `&mut`; a call that reads one takes the same bytes as a `Seen`, by `&`. A `Seen` is slices alone and owns nothing, so any number of threads may read a set at once. The empty set takes no memory.
+//!
+//! An index that is out of range and a failed allocation are statuses. No export has a `requires`.
+#![tactic(auto)]
+
+pub mod build;
+pub mod change;
+mod fill;
+pub mod handle;
+pub mod pair;
+mod raw_box;
+pub mod read;
+pub mod seen;
+pub mod set;
+pub mod status;
+pub mod words;

@@ -1,0 +1,78 @@
+//! A set that C lends to be read.
+#![tactic(auto, unfolding(crate::specs::Seen::has, crate::specs::Seen::word_of))]
+
+ghost use Rattle.std.specs.Prelude.{◌≡◌, ℕ, ◌-◌, ◌^◌, ◌≤◌, [], ◌∷◌, get_or, length};
+ghost use Rattle.hibitset_base.specs.Words.{IsSummed, word_at};
+ghost use Rattle.hibitset_base.specs.declared.util.TheConstants.{LAYERS};
+
+use hibitset::{BitSetLike, Index};
+
+/// The words of a set, in the bytes of its `hibitset_t`.
+///
+/// C owes that the slices and the word of the top layer are those that the last call that changed the set left, or those of `hibitset_new`, and that no call changes the set meanwhile.
+#[repr(C)]
+#[derive(Clone, Copy)]
+pub struct Seen<'a> {
+    pub layer0: &'a [usize],
+    pub layer1: &'a [usize],
+    pub layer2: &'a [usize],
+    pub layer3: &'a [usize],
+    pub top: usize,
+    at: *const usize,
+    made: bool,
+    ghost short: { length layer0.now ≤ 64 ^ (LAYERS - 1) },
+    ghost summed: { IsSummed LAYERS (word_at (layer0.now ∷ layer1.now ∷ layer2.now ∷ layer3.now ∷ (top ∷ []) ∷ [])) },
+}
+
+// The word at a position, 0 past the end.
+#[inline]
+fn word(words: &[usize], position: usize) -> usize
+    ensures { result ≡ get_or words.now position 0 }
+{
+    if position < words.len() {
+        words[position]
+    } else {
+        0
+    }
+}
+
+impl<'a> BitSetLike for Seen<'a> {
+    ghost use Rattle.hibitset_c.specs.Seen.{has, word_of, has_is_lawful};
+
+    ghost holds = { has };
+
+    ghost word = { word_of };
+
+    ghost lawful = { has_is_lawful };
+
+    #[inline]
+    fn layer4(&self) -> usize {
+        self.top
+    }
+
+    #[inline]
+    fn layer3(&self, i: usize) -> usize {
+        word(self.layer3, i)
+    }
+
+    #[inline]
+    fn layer2(&self, i: usize) -> usize {
+        word(self.layer2, i)
+    }
+
+    #[inline]
+    fn layer1(&self, i: usize) -> usize {
+        word(self.layer1, i)
+    }
+
+    #[inline]
+    fn layer0(&self, i: usize) -> usize {
+        word(self.layer0, i)
+    }
+
+    #[inline]
+    fn contains(&self, i: Index) -> bool {
+        let index = i as usize;
+        self.layer0(index / 64) >> (index % 64) & 1 == 1
+    }
+}
