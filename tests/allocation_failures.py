@@ -193,15 +193,15 @@ REQUESTS = {
 # The same of walks in parts. Where there is one processor they ask for nothing but the list of `collect`.
 REQUESTS_AT_MOST = {
     "parts::collect": 5,
-    "parts::count": 7,
-    "parts::fold": 6,
-    "parts::for_each": 6,
+    "parts::count": 9,
+    "parts::fold": 7,
+    "parts::for_each": 7,
 }
 
 ONE_PROCESSOR = len(os.sched_getaffinity(0)) == 1
 
-# Calls that go on where one request alone is refused, and pass: rayon's with one part where it is refused the memory for a second, and std's, which ask a second time, for one item, where they are refused the room that a walk hints at.
-GO_ON = ("tests::parts::", "tests::columns::collect")
+# A call that goes on where one request alone is refused, and passes: std's `collect` asks a second time, for one item, where it is refused the room that a walk hints at.
+GO_ON = ("tests::columns::collect",)
 
 # What the program may print where one request is refused: each of these is to come, the last one where none is refused.
 # It may also end with status 3 before it has printed anything.
