@@ -140,7 +140,11 @@ fn walks_down_from_borders(rt: HostRuntime) -> Result<(), AllocError> {
     }
     assert_index(&rt, walk.next(), None);
     for id in BORDERS {
-        assert_index(&rt, (&set).iter_rev_before(id).next(), last_of(&BORDERS, id));
+        assert_index(
+            &rt,
+            (&set).iter_rev_before(id).next(),
+            last_of(&BORDERS, id),
+        );
     }
     Ok(())
 }
@@ -293,7 +297,11 @@ fn members_taken_from_the_ends(rt: HostRuntime) -> Result<(), AllocError> {
     assert_index(&rt, empty.pop_first(), None);
     assert_index(&rt, empty.pop_last(), None);
     let mut other = set_of(rt.alloc(), &[64, 70_000])?;
-    assert_index(&rt, BitSetAnd(&mut set, &mut other).pop_last(), Some(70_000));
+    assert_index(
+        &rt,
+        BitSetAnd(&mut set, &mut other).pop_last(),
+        Some(70_000),
+    );
     assert!(rt; !set.contains(70_000) && !other.contains(70_000) && other.contains(64));
     Ok(())
 }
@@ -303,8 +311,16 @@ fn differences(rt: HostRuntime) -> Result<(), AllocError> {
     let set = set_of(rt.alloc(), &[3, 64, 200, 70_000])?;
     let other = set_of(rt.alloc(), &[64, 65, 70_000])?;
     assert_members(&rt, &set - &other, &[3, 200])?;
-    assert_members(&rt, &set - &other - BitSetRange { start: 0, end: 4 }, &[200])?;
-    assert_members(&rt, BitSetRange { start: 62, end: 67 } - &other, &[62, 63, 66])?;
+    assert_members(
+        &rt,
+        &set - &other - BitSetRange { start: 0, end: 4 },
+        &[200],
+    )?;
+    assert_members(
+        &rt,
+        BitSetRange { start: 62, end: 67 } - &other,
+        &[62, 63, 66],
+    )?;
     assert_members(&rt, &!&other - &!&set, &[3, 200])?;
     assert_members(&rt, other - set, &[65])
 }

@@ -125,10 +125,7 @@ fn the_members_of_a_range(rt: HostRuntime) -> Result<(), AllocError> {
     assert_count(&rt, set.len_range(64, 70), 1);
     set.assert_read(&rt, &[(0, 1)])?;
     assert_count(&rt, set.len_range(65, 300_000), 0);
-    set.assert_read(
-        &rt,
-        &[(0, 1), (0, 4_687), (1, 0), (1, 73), (2, 0), (2, 1)],
-    )?;
+    set.assert_read(&rt, &[(0, 1), (0, 4_687), (1, 0), (1, 73), (2, 0), (2, 1)])?;
     assert_count(&rt, set.len_range(70, 70), 0);
     set.assert_read(&rt, &[])
 }
