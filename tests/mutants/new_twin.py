@@ -36,7 +36,7 @@ def main():
     place = int(sys.argv[6]) if len(sys.argv) > 6 else 0
     text = (CRATES / crate / "src" / file).read_text()
     lines = text.splitlines()
-    named = rf" *(pub(\(\w+\))? )?(final )?fn {function}\b"
+    named = rf" *(pub(\(\w+\))? )?(final )?(extern \"C\" )?fn {function}\b"
     start = [number for number, line in enumerate(lines) if re.match(named, line)][place]
     old = lines[start].strip()
     if text.count(old) != 1:
