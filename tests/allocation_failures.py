@@ -200,8 +200,8 @@ REQUESTS_AT_MOST = {
 
 ONE_PROCESSOR = len(os.sched_getaffinity(0)) == 1
 
-# A call that goes on where one request alone is refused, and passes: std's `collect` asks a second time, for one item, where it is refused the room that a walk hints at.
-GO_ON = ("tests::columns::collect",)
+# Calls that go on where one request alone is refused, and pass: std's `collect` asks a second time, for one item, where it is refused the room that a walk hints at.
+GO_ON = ("tests::columns::collect", "tests::callers::page_")
 
 # What the program may print where one request is refused: each of these is to come, the last one where none is refused.
 # It may also end with status 3 before it has printed anything.
@@ -314,7 +314,7 @@ class Test:
             fail(f"{self.name}: between {self.before} and {self.after} only {self.call} were refused")
         if len(self.went_on) > 1:
             fail(f"{self.name}: it went on where the requests {self.went_on} were refused")
-        asked = self.call + self.went_on if self.name in {f"tests::{name}" for name in OTHERS.split()} else self.call
+        asked = self.call + self.went_on
         in_one_thread = ONE_PROCESSOR and self.name.startswith("tests::parts::")
         if self.has_room == bool(asked) and not in_one_thread:
             fail(f"{self.name}: {len(asked)} requests")
