@@ -242,9 +242,9 @@ fn walks_down(rt: HostRuntime) -> Result<(), AllocError> {
     assert_index(&rt, walk.next(), None);
     assert_index(&rt, walk.next(), None);
     let row = run_of(rt.alloc(), 5_000)?;
-    let mut next = 5_000;
+    let mut next: Index = 5_000;
     for index in row.iter_rev() {
-        next -= 1;
+        next = next.wrapping_sub(1);
         assert!(rt; index == next);
     }
     assert!(rt; next == 0);
