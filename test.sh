@@ -1,18 +1,20 @@
 #!/usr/bin/env bash
-# test.sh [PART [WORD..]]: passes all tests of this repository, or one part of them.
+# test.sh [--anew] [PART [WORD..]]: passes all tests of this repository, or one part of them.
 #   docs [--write]              pages, files, edits and patches agree; --write makes the generated tables anew
 #   proofs [CRATE..]            rt ci: proofs from nothing, must-fail edits, tests, programs
 #   mutants contract [CRATE..]  the prover refuses the mutants of tests/mutants/contract
-#   mutants tests [PATCH]       tests kill the mutants of tests/mutants/tests
-#   allocation                  each allocation of each call fails in turn
+#   mutants tests [--gate|PATCH]  tests kill the mutants of tests/mutants/tests; --gate: those that the gate tries
+#   allocation                  each allocation of each call fails in turn, in what proofs has built
 #   differential [PROGRAM]      the program gives the stored answers; without PROGRAM it is proved and built first
 #   bindings                    C and Rust programs over the library pass their tests
 #   guide [--make FOLDER]       the repository that docs/GUIDE.md prints passes; --make makes it alone
-# Without PART: docs, proofs, allocation beside mutants tests, differential, bindings. It stops at the first part that fails.
+# Without PART: docs, proofs beside mutants tests --gate, allocation, differential, bindings. It stops at the first part that fails.
+# --anew: rt ci proves and tries all, whatever it has kept on this machine.
 set -euo pipefail
 top=$(cd "$(dirname "$0")" && pwd)
 parts=6
 beside=
+anew=
 
 usage() {
     sed -n '2,/^set /{/^#/s/^# \{0,1\}//p}' "$top/test.sh" >&2
@@ -22,7 +24,7 @@ usage() {
 run() { # PART [WORD..]: one part, by the script that does it
     case "$1 ${2:-}" in
         "docs "*) "$top/tests/docs.py" "${@:2}" ;;
-        "proofs "*) (cd "$top" && rt ci "${@:2}") ;;
+        "proofs "*) (cd "$top" && rt ci $anew "${@:2}") ;;
         "mutants contract") "$top/tests/mutants/run_contract.sh" "${@:3}" ;;
         "mutants tests") "$top/tests/mutants/run_tests.sh" "${@:3}" ;;
         "allocation "*) "$top/tests/allocation_failures.py" ;;
@@ -42,21 +44,26 @@ part() { # NUMBER PART [WORD..]: one of the parts, with what it is, which one of
     return "$status"
 }
 
-both() { # allocation, and beside it mutants tests, whose output comes when it has ended
+both() { # proofs, and beside it mutants tests, whose output comes when both have ended
     local status=0
     # A process group of its own, which the trap can end whole.
     set -m
-    part 4 mutants tests </dev/null >"$log" 2>&1 &
+    # One at a time: the lowest crates are proved one after the other, by two processors.
+    TOGETHER=1 part 3 mutants tests --gate </dev/null >"$log" 2>&1 &
     beside=$!
     set +m
-    echo "test.sh: part 4 of $parts, mutants tests, runs beside part 3"
-    part 3 allocation || status=$?
+    echo "test.sh: part 3 of $parts, mutants tests, runs beside part 2"
+    part 2 proofs || return
     wait "$beside" || status=$?
     beside=
     cat "$log"
     return "$status"
 }
 
+if [ "${1:-}" = --anew ]; then
+    anew=--anew
+    shift
+fi
 if [ $# -gt 0 ]; then
     parts=1
     part 1 "$@"
@@ -66,8 +73,8 @@ log=$(mktemp)
 trap '[ -z "$beside" ] || kill -- -"$beside" 2>/dev/null; rm -f "$log"' EXIT
 trap 'exit 130' INT TERM HUP
 part 1 docs
-part 2 proofs
 both
+part 4 allocation
 part 5 differential "$top/crates/hibitset_run/out/hibitset_run"
 part 6 bindings
 echo "test.sh: all passed after $((SECONDS / 60)) min"

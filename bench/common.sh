@@ -135,8 +135,8 @@ peers() {
     fi
 }
 
-# driver ORIGINAL FOLDER: compiles the original and the driver into FOLDER/bench, over FOLDER/libhibitset_bench.a, with the peers that `with_peers` names.
-driver() {
+# sources ORIGINAL FOLDER: compiles the original into FOLDER/libhibitset.rlib.
+sources() {
     original=$1 work=$2
     rm -rf "$work/original"
     mkdir -p "$work/original/iter"
@@ -150,6 +150,11 @@ driver() {
     fi
     compile atom 2021 "$here/driver/atom.rs"
     compile hibitset 2015 "$work/original/lib.rs" --extern "atom=$work/libatom.rlib"
+}
+
+# driver ORIGINAL FOLDER: compiles the original and the driver into FOLDER/bench, over FOLDER/libhibitset_bench.a, with the peers that `with_peers` names.
+driver() {
+    sources "$1" "$2"
     # shellcheck disable=SC2086
     rustc $flags --edition 2021 --crate-name bench -A unexpected_cfgs -A unused_mut -A unused_variables -A unused_imports -L "$work" ${with_peers:-} --extern "hibitset=$work/libhibitset.rlib" \
         -l static=hibitset_bench -L "native=$work" -l static=libc_c -L "native=$kit/c" -o "$work/bench" "$here/driver/main.rs"

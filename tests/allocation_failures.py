@@ -3,7 +3,7 @@
 
 Each test that CALLS names makes one call, between two requests of its own, and prints of the first request, of the call
 and of the last request whether it was refused. With N = 1, 2 and so on the Nth request of the test is refused
-(rt try --test --fail-alloc N), until the last one was: so the numbers between those of the two are the requests of the
+(failing_allocation.c), until the last one was: so the numbers between those of the two are the requests of the
 call. It fails where one of them was refused and the call passed (but see GO_ON), where a call makes no request or not
 as many as REQUESTS says, where a call of ROOM makes one, where a public call that can be refused is not in CALLS, and
 where a test fails, which compares what stands and makes the call again. SCRIPTS are run by the program, and what it
@@ -11,17 +11,17 @@ prints is compared.
 """
 import os
 import re
+import shutil
 import subprocess
 import sys
 import tempfile
-from collections import deque
 from concurrent.futures import ThreadPoolExecutor
-from itertools import islice
 from pathlib import Path
 
 CRATES = Path(__file__).resolve().parent.parent / "crates"
 PROGRAM = "hibitset_run"
 TOGETHER = 4  # runs side by side
+SECONDS = 60  # for a run
 MOST = 64  # requests
 
 # The public calls of each crate that can be refused, and the tests that make them.
@@ -39,6 +39,7 @@ CALLS = {
         "BitSetOr::clone": "copies::union",
         "BitSetXor::clone": "copies::symmetric_difference",
         "Extendable::add_index": "sets::extend_indices atomic::extend_indices",
+        "Ranked::new": "sets::ranked",
         "extend_index_refs": "sets::extend_index_refs atomic::extend_index_refs",
         "extend_indices": "sets::extend_indices atomic::extend_indices",
         "from_index_refs": "sets::from_index_refs atomic::from_index_refs",
@@ -69,6 +70,7 @@ CALLS = {
         "BitSet::flip_range": "sets::flip_range",
         "BitSet::from_index_refs": "sets::from_index_refs",
         "BitSet::from_indices": "sets::from_indices",
+        "BitSet::from_layers": "sets::from_layers",
         "BitSet::from_words": "sets::from_words",
         "BitSet::with_capacity": "sets::with_capacity sets::add_past_the_last_word",
     },
@@ -177,7 +179,9 @@ REQUESTS = {
     "sets::flip_range": 1,
     "sets::from_index_refs": 2,
     "sets::from_indices": 2,
+    "sets::from_layers": 1,
     "sets::from_words": 1,
+    "sets::ranked": 1,
     "sets::room_made_before": 1,
     "sets::to_vec": 1,
     "sets::to_vec_of_a_member_a_word": 2,
@@ -263,26 +267,19 @@ def public_calls(crate):
     return found
 
 
-def run(crate, words, number):
-    """What the kit prints on standard output and on standard error where the request of this number is refused."""
-    words = ["rt", "try", "--fail-alloc", str(number), *words]
-    ran = subprocess.run(words, cwd=CRATES / crate, capture_output=True, text=True, stdin=subprocess.DEVNULL)
-    return ran.stdout, ran.stderr
+def compiled(folder):
+    """The library that makes an allocation fail, compiled into a folder."""
+    library = f"{folder}/failing_allocation.so"
+    source = Path(__file__).with_name("failing_allocation.c")
+    subprocess.run(["cc", "-O2", "-shared", "-fPIC", source, "-o", library], check=True)
+    return library
 
 
-def in_turn(pool, crate, words, judge):
-    """Judges the runs with one request refused after the other, until one is past the last request."""
-    numbers = iter(range(1, MOST + 1))
-    running = deque((number, pool.submit(run, crate, words, number)) for number in islice(numbers, TOGETHER))
-    while running:
-        number, ran = running.popleft()
-        if judge(number, *ran.result()):
-            for _, other in running:
-                other.cancel()
-            return
-        for number in islice(numbers, 1):
-            running.append((number, pool.submit(run, crate, words, number)))
-    fail(f"{crate}: {MOST} requests refused, and there are more")
+def run(library, words, number, given=""):
+    """How a program ends whose request of this number is refused: its status, and what it prints."""
+    how = {**os.environ, "LD_PRELOAD": library, "FAIL_ALLOCATION": str(number)}
+    ran = subprocess.run(words, env=how, capture_output=True, text=True, input=given, timeout=SECONDS)
+    return ran.returncode, ran.stdout, ran.stderr
 
 
 class Test:
@@ -293,12 +290,12 @@ class Test:
         self.has_room = name in {f"tests::room::{room}" for room in ROOM.split()}
         self.before, self.call, self.went_on, self.after = [], [], [], []
 
-    def judge(self, number, verdict, said):
-        if verdict == "FAILED" and said[:1] == ["error: AllocError"]:
+    def judge(self, number, said, errors):
+        if not said and errors.startswith("error: AllocError\n"):
             return  # before the first
         wanted = 2 if self.has_room else 3
-        if verdict != "ok" or len(said) != wanted or not set(said) <= {"passed", "refused"} or said.count("refused") > 1:
-            fail(f"request {number}: {self.name}: {verdict}: {said}")
+        if errors or len(said) != wanted or not set(said) <= {"passed", "refused"} or said.count("refused") > 1:
+            fail(f"request {number}: {self.name}: {said}, {errors!r}")
         if "refused" in said:
             place = said.index("refused")
             (self.before if place == 0 else self.after if place == wanted - 1 else self.call).append(number)
@@ -332,21 +329,21 @@ class Test:
             fail(f"{self.name}: {requests} requests, where {REQUESTS[name]} are to be made")
 
 
-def tests(pool, crate, names, words):
-    """Refuses the requests of these tests of a crate in turn, up to the last one of each."""
-    found = {name: Test(name) for name in names}
+def in_turn(library, program, name):
+    """Refuses the requests of one test in turn, up to its own last one."""
+    test = Test(name)
+    for number in range(1, MOST + 1):
+        status, output, errors = run(library, [program, name], number)
+        said = [line for line in output.splitlines() if line and line != "test result: ok"]
+        test.judge(number, said, (errors or f"status {status}") if status else "")
+        if test.after:
+            return test
+    fail(f"{name}: {MOST} requests refused, and there are more")
 
-    def judge(number, output, errors):
-        seen = re.findall(r"^test (\S+) \.\.\. (\w+)\n((?:    .*\n)*)", output + errors, re.M)
-        if {name for name, _, _ in seen} != set(found):
-            lone = sorted({name for name, _, _ in seen} ^ set(found))
-            fail(f"request {number}: not both a test of {crate} and in the list: {lone}\n{output}{errors}")
-        for name, verdict, said in seen:
-            found[name].judge(number, verdict, [line.strip() for line in said.splitlines()])
-        return all(test.after for test in found.values())
 
-    in_turn(pool, crate, ["--test", *words], judge)
-    for _, test in sorted(found.items()):
+def tests(pool, library, program, names):
+    """Refuses the requests of these tests in turn, each up to its last one."""
+    for test in pool.map(lambda name: in_turn(library, program, name), sorted(names)):
         test.close()
 
 
@@ -357,61 +354,62 @@ def compare_lists():
             fail(f"{crate}: not both a public call that can be refused and in the list: {lone}")
 
 
-def library(pool):
+def of_library(pool, library):
     named = " ".join(names for crate, named in CALLS.items() if crate != PROGRAM for names in named.values())
     rooms = {f"room::{room}" for room in ROOM.split()}
     names = {*named.split(), *OTHERS.split(), *rooms}
     if lone := sorted(names ^ {*REQUESTS, *REQUESTS_AT_MOST, *rooms}):
         fail(f"not both a test of a call and with a number of requests: {lone}")
-    tests(pool, "refusals", {f"tests::{name}" for name in names}, [])
+    program = executable("refusals", "refusals_tests")
+    listed = subprocess.run([program, "--list"], capture_output=True, text=True, check=True).stdout
+    if lone := sorted({f"tests::{name}" for name in names} ^ set(re.findall(r"^(tests::\S+): test$", listed, re.M))):
+        fail(f"not both a test of refusals and in the list: {lone}")
+    tests(pool, library, program, [f"tests::{name}" for name in names])
 
 
-def runs(pool):
-    # Each by itself: past its own last allocation such a test makes the run again, and has to get its memory there.
-    for name in CALLS[PROGRAM]["run"].split():
-        tests(pool, PROGRAM, {name}, ["--", name])
+def of_program(pool, library):
+    tests(pool, library, executable(PROGRAM, f"{PROGRAM}_tests"), CALLS[PROGRAM]["run"].split())
 
 
-def scripts(pool):
-    seen = {script: set() for script in SCRIPTS}
-    ends = {script: 0 for script in SCRIPTS}
-
-    def judge(number, output, errors):
-        passed = True
-        outs = re.findall(r"^== script-(\d+)\n(.*?)(?=^== |\Z)", output, re.M | re.S)
-        ended = re.findall(r"(.*?)^case=script-(\d+) run=ended status=(\d+)[^\n]*\n", errors, re.M | re.S)
-        if len(outs) != len(SCRIPTS) or [place for place, _ in outs] != [place for _, place, _ in ended]:
-            fail(f"request {number}: not all scripts ended\n{output}{errors}")
-        for (place, out), (err, _, status) in zip(outs, ended):
-            script = list(SCRIPTS)[int(place)]
-            err = re.sub(r"^allocations: \d+\n", "", err, flags=re.M)
-            if (status, out, err) == ("3", "", "no memory\n"):
-                ends[script] += 1
-            elif (status, err) == ("0", "") and out in SCRIPTS[script]:
-                seen[script].add(out)
-            else:
-                fail(f"request {number}: {script!r} ended with status {status} and printed {out!r} and {err!r}")
-            passed = passed and out == SCRIPTS[script][-1]
-        return passed
-
-    with tempfile.TemporaryDirectory() as folder:
-        for place, script in enumerate(SCRIPTS):
-            (Path(folder) / f"script-{place}").write_text(script)
-        in_turn(pool, PROGRAM, ["--cases", folder], judge)
+def of_scripts(library):
+    program = executable(PROGRAM, PROGRAM)
     for script, outputs in SCRIPTS.items():
-        if not ends[script]:
+        seen, ends = set(), 0
+        for number in range(1, MOST + 1):
+            status, output, errors = run(library, [program], number, script)
+            if (status, output, errors) == (3, "", "no memory\n"):
+                ends += 1
+            elif (status, errors) == (0, "") and output in outputs:
+                seen.add(output)
+            else:
+                fail(f"request {number}: {script!r} ended with status {status} and printed {output!r} and {errors!r}")
+            if output == outputs[-1]:
+                break
+        if not ends:
             fail(f"{script!r} never ended for want of memory")
-        if seen[script] != set(outputs):
-            fail(f"{script!r} never printed {sorted(set(outputs) - seen[script])}")
-        print(f"{script!r}: status 3 {ends[script]} times, {len(outputs) - 1} other outputs: ok")
+        if seen != set(outputs):
+            fail(f"{script!r} never printed {sorted(set(outputs) - seen)}")
+        print(f"{script!r}: status 3 {ends} times, {len(outputs) - 1} other outputs: ok")
+
+
+def executable(crate, name):
+    """An executable of a crate's out/, where rt ci leaves it; rt test and rt run make it anew."""
+    path = CRATES / crate / "out" / name
+    if not path.is_file():
+        fail(f"{path.relative_to(CRATES.parent)} is not there: run ./test.sh proofs")
+    return path
 
 
 def main():
     compare_lists()
-    # The threads of the second pool only wait for runs of the first.
-    with ThreadPoolExecutor(TOGETHER) as pool, ThreadPoolExecutor() as turns:
-        for turn in [turns.submit(part, pool) for part in (library, scripts, runs)]:
-            turn.result()
+    if not shutil.which("cc"):
+        print("allocation_failures.py: no cc: allocations that fail are left out")
+        return
+    with tempfile.TemporaryDirectory() as folder, ThreadPoolExecutor(TOGETHER) as pool:
+        library = compiled(folder)
+        of_library(pool, library)
+        of_program(pool, library)
+        of_scripts(library)
 
 
 try:

@@ -259,16 +259,16 @@ impl Bench {
         }
         let ratio = times.get(1).map(|others| median_ratio(&times[0], others));
         let medians: Vec<f64> = times.iter_mut().map(|times| median(times)).collect();
-        let cells: Vec<String> = self.peers.iter().map(|peer| {
+        let cells: String = self.peers.iter().map(|peer| {
             let at = peers.iter().position(|(who, _)| who == peer).filter(|at| !peer_times[*at].is_empty());
-            at.map_or("-".to_string(), |at| shown(median(&mut peer_times[at])))
+            at.map_or(" - |".to_string(), |at| format!(" {} |", shown(median(&mut peer_times[at]))))
         }).collect();
         let line = match (&medians[..], aim, ratio) {
             ([ours, original], Some(aim), Some(ratio)) => {
                 let miss = if ratio > aim { " *" } else { "" };
-                format!("| {name} | {} | {} | {ratio:.2}{miss} | {aim:.2} | {} |", shown(*ours), shown(*original), cells.join(" | "))
+                format!("| {name} | {} | {} | {ratio:.2}{miss} | {aim:.2} |{cells}", shown(*ours), shown(*original))
             }
-            _ => format!("| {name} | {} | - | - | - | {} |", shown(medians[0]), cells.join(" | ")),
+            _ => format!("| {name} | {} | - | - | - |{cells}", shown(medians[0])),
         };
         eprintln!("{line}");
         self.table.push(line);
@@ -291,7 +291,8 @@ impl Bench {
             self.table.iter().for_each(|line| println!("{line}"));
             return;
         }
-        println!("| workload | ours | original | ratio | aim | {} |\n|---{}|", self.peers.join(" | "), "|---:".repeat(4 + self.peers.len()));
+        let peers: String = self.peers.iter().map(|peer| format!(" {peer} |")).collect();
+        println!("| workload | ours | original | ratio | aim |{peers}\n|---{}|", "|---:".repeat(4 + self.peers.len()));
         self.table.iter().for_each(|line| println!("{line}"));
         self.notes.iter().for_each(|line| println!("\n{line}"));
     }

@@ -364,6 +364,50 @@ fn ranges_and_words(bench: &mut Bench, half: &Sample, other: &Sample) {
     }
 }
 
+/// Places in the order of the members. The original iterates, or asks for each index in turn.
+fn orders(bench: &mut Bench, all: &[&Sample]) {
+    bench.part("order (ns per call; of walks, per item)");
+    for sample in all {
+        let (ids, k) = (&sample.ids[..], &sample.peers);
+        // Sixteen members from the first quarter to the last, and their positions.
+        let at: Vec<u32> = (1..17).map(|step| (step * ids.len() / 18) as u32).collect();
+        let asked: Vec<u32> = at.iter().map(|at| ids[*at as usize]).collect();
+        let (at, asked) = (&at[..], &asked[..]);
+        for (call, ranked) in [("rank", false), ("rank by counts", true)] {
+            let kernels = if ranked { both!(ranked_rank, ids, asked) } else { both!(rank, ids, asked) };
+            let mut row = Row::new(format!("{call}, {}", sample.name), asked.len(), 0.1, kernels);
+            peer!(row, fixedbitset, "fixedbitset", || timed(|| asked.iter().map(|end| k.fixed.count_ones(..*end as usize) as u64).sum()));
+            peer!(row, roaring, "CRoaring", || timed(|| asked.iter().map(|end| k.roaring.rank(*end)).sum()));
+            bench.run(row);
+        }
+        for (call, ranked) in [("select", false), ("select by counts", true)] {
+            let kernels = if ranked { both!(ranked_select, ids, at) } else { both!(select, ids, at) };
+            let mut row = Row::new(format!("{call}, {}", sample.name), at.len(), 0.1, kernels);
+            peer!(row, roaring, "CRoaring", || timed(|| at.iter().map(|at| k.roaring.select(*at)).sum()));
+            bench.run(row);
+        }
+        let mut row = Row::new(format!("len\\_range of 100,000, {}", sample.name), asked.len(), 0.1, both!(len_range, ids, asked));
+        peer!(row, fixedbitset, "fixedbitset", || timed(|| asked.iter().map(|start| k.fixed.count_ones(*start as usize..(*start as usize + 100_000).min(END)) as u64).sum()));
+        peer!(row, roaring, "CRoaring", || timed(|| asked.iter().map(|start| k.roaring.len_range(*start, *start + 100_000)).sum()));
+        bench.run(row);
+        bench.run(Row::new(format!("last\\_before, {}", sample.name), asked.len(), 1.0, both!(last_before, ids, asked))
+            .peer("BTreeSet", || timed(|| asked.iter().map(|end| k.tree.range(..*end).next_back().map_or(0, |id| *id as u64)).sum())));
+        bench.run(Row::new(format!("walk down, beside its walk up, {}", sample.name), ids.len(), 0.6, both!(walk_down, ids))
+            .peer("BTreeSet", || timed(|| sum(k.tree.iter().rev().copied()))));
+    }
+    let ends = [70_001u32, 170_001];
+    let mut row = Row::new("flip\\_range, 100,000 indices", 1, 0.05, both!(flip, &ends));
+    peer!(row, fixedbitset, "fixedbitset", || {
+        let mut set = fixed_of(&ends);
+        timed(|| { set.toggle_range(70_001..170_001); set.contains(70_001) as u64 })
+    });
+    peer!(row, roaring, "CRoaring", || {
+        let mut set = Roaring::of(&ends);
+        timed(|| { set.flip_range(70_001, 170_001); set.contains(70_001) as u64 })
+    });
+    bench.run(row);
+}
+
 fn builds(bench: &mut Bench, lists: [(&str, &[u32]); 2]) {
     bench.part("building (ns per index)");
     for (name, ids) in lists {
@@ -439,6 +483,7 @@ fn main() {
     sizes_and_lists(&mut bench, &[(&dense, 0.02, 0.2), (&half, 0.02, 0.2), (&ten, 0.04, 0.33), (&one, 0.3, 0.6), (&few, 0.6, 0.6)]);
     sparse_sets(&mut bench, &(0..8).map(|seed| Numbers(seed).one_in(10_000, end)).collect::<Vec<_>>());
     firsts(&mut bench, &[&dense, &ten, &one], &random);
+    orders(&mut bench, &[&dense, &half, &ten, &one, &few]);
     bench.part("walks of two sets (ns per member of both)");
     for (a, b, aim) in [(&half, &other_half, 0.6), (&ten, &other_ten, 0.6), (&one, &other_one, 0.6), (&few, &ten, 0.6), (&clusters, &one, 0.6)] {
         pair_walks(&mut bench, a, b, aim);

@@ -19,6 +19,10 @@ unsafe extern "C" {
     fn roaring_bitmap_portable_size_in_bytes(set: Bitmap) -> usize;
     fn roaring_bitmap_and_cardinality(a: Bitmap, b: Bitmap) -> u64;
     fn roaring_bitmap_minimum(set: Bitmap) -> u32;
+    fn roaring_bitmap_rank(set: Bitmap, value: u32) -> u64;
+    fn roaring_bitmap_select(set: Bitmap, at: u32, value: *mut u32) -> bool;
+    fn roaring_bitmap_range_cardinality(set: Bitmap, start: u64, end: u64) -> u64;
+    fn roaring_bitmap_flip_inplace(set: Bitmap, start: u64, end: u64);
     fn roaring_bitmap_to_uint32_array(set: Bitmap, list: *mut u32);
     fn roaring_bitmap_equals(a: Bitmap, b: Bitmap) -> bool;
     fn roaring_bitmap_is_subset(a: Bitmap, b: Bitmap) -> bool;
@@ -111,6 +115,21 @@ impl Roaring {
             roaring_free_uint32_iterator(cursor);
         }
         sum
+    }
+    /// How many members lie before an index that is not 0.
+    pub fn rank(&self, end: u32) -> u64 {
+        unsafe { roaring_bitmap_rank(self.0, end - 1) }
+    }
+    pub fn select(&self, at: u32) -> u64 {
+        let mut id = 0;
+        unsafe { roaring_bitmap_select(self.0, at, &mut id) };
+        id as u64
+    }
+    pub fn len_range(&self, start: u32, end: u32) -> u64 {
+        unsafe { roaring_bitmap_range_cardinality(self.0, start as u64, end as u64) }
+    }
+    pub fn flip_range(&mut self, start: u32, end: u32) {
+        unsafe { roaring_bitmap_flip_inplace(self.0, start as u64, end as u64) }
     }
     pub fn equals(&self, other: &Roaring) -> bool {
         unsafe { roaring_bitmap_equals(self.0, other.0) }

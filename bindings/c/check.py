@@ -22,6 +22,7 @@ TYPES = {
     "&mut Set": [("hibitset_t *", "")],
     "&Seen<'_>": [("const hibitset_t *", "")],
     "u32": [("uint32_t", "")],
+    "usize": [("size_t", "")],
     "&mut u32": [("uint32_t *", "")],
     "&mut usize": [("size_t *", "")],
     "&[u32]": [("const uint32_t *", ""), ("size_t", "len")],

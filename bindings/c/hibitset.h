@@ -161,6 +161,39 @@ static inline bool hibitset_iterate(const hibitset_t *set, bool (*visit)(uint32_
     return true;
 }
 
+/* ---- Order ---- */
+
+/* Returns the number of members before `end`: the position of `end` in the ascending list of all, if it is a member. */
+size_t hibitset_rank(const hibitset_t *set, uint32_t end);
+
+/* Leaves the member at position `at` of the ascending list of all in `*index`, the least one at 0, and returns true. If
+ * there are no more than `at` members, returns false and leaves `*index`. */
+bool hibitset_select(const hibitset_t *set, size_t at, uint32_t *index);
+
+/* Returns the number of members from `start` on and before `end`. */
+size_t hibitset_len_range(const hibitset_t *set, uint32_t start, uint32_t end);
+
+/* Leaves the greatest member before `end` in `*index` and returns true. If there is none, returns false and leaves
+ * `*index`. */
+bool hibitset_last_before(const hibitset_t *set, uint32_t end, uint32_t *index);
+
+/* Writes the members before `end` into `buffer`, descending, until `len` are written or there are no more, and returns
+ * how many. What lies behind them in the buffer stays. Begin at HIBITSET_MAX_EID; go on from the last one. */
+size_t hibitset_prev_many(const hibitset_t *set, uint32_t end, uint32_t *buffer, size_t len);
+
+/* Removes the least member, leaves it in `*index`, and returns true. If there is none, returns false and leaves `*index`.
+ * The capacity stays. */
+bool hibitset_pop_first(hibitset_t *set, uint32_t *index);
+
+/* Removes the greatest member, leaves it in `*index`, and returns true. If there is none, returns false and leaves
+ * `*index`. The capacity stays. */
+bool hibitset_pop_last(hibitset_t *set, uint32_t *index);
+
+/* Removes the members from `start` on and below `end`, at most HIBITSET_MAX_EID, and adds the other indices there; changes
+ * nothing if end <= start.
+ * HIBITSET_NO_MEMORY (never if end <= hibitset_capacity), HIBITSET_OUT_OF_RANGE: the members are unchanged. */
+hibitset_status hibitset_flip_range(hibitset_t *set, uint32_t start, uint32_t end);
+
 /* ---- Words ---- */
 
 /* Makes `set` the set of these words, at most HIBITSET_MAX_WORDS: index 64 * p + b is a member if bit b of words[p] is

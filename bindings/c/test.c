@@ -85,6 +85,37 @@ static void check_batches(const hibitset_t *set, const unsigned char *model, siz
     CHECK(seen == members);
 }
 
+static void check_backwards(const hibitset_t *set, const uint32_t *list, size_t before, uint32_t end) {
+    uint32_t buffer[64];
+    size_t count, i;
+    do {
+        memset(buffer, 0xa5, sizeof buffer);
+        count = hibitset_prev_many(set, end, buffer, 64);
+        CHECK(count == (before < 64 ? before : 64));
+        for (i = 0; i < count; i++) CHECK(buffer[i] == list[--before]);
+        for (; i < 64; i++) CHECK(buffer[i] == 0xa5a5a5a5u);
+        if (count > 0) end = buffer[count - 1];
+    } while (count == 64);
+    CHECK(before == 0);
+}
+
+static void check_order(const hibitset_t *set, const uint32_t *list, size_t members) {
+    uint32_t start = random_below(RANGE + 100), end = start + random_below(1000), index = 12345;
+    size_t before = 0, until, at = random_below((uint32_t)members + 2);
+    while (before < members && list[before] < start) before++;
+    until = before;
+    while (until < members && list[until] < end) until++;
+    CHECK(hibitset_rank(set, start) == before && hibitset_rank(set, end) == until && hibitset_rank(set, UINT32_MAX) == members);
+    CHECK(hibitset_len_range(set, start, end) == until - before && hibitset_len_range(set, end, start) == 0);
+    CHECK(hibitset_last_before(set, start, &index) == (before > 0));
+    CHECK(index == (before > 0 ? list[before - 1] : 12345));
+    index = 12345;
+    CHECK(hibitset_select(set, at, &index) == (at < members));
+    CHECK(index == (at < members ? list[at] : 12345));
+    check_backwards(set, list, before, start);
+    check_backwards(set, list, members, UINT32_MAX);
+}
+
 static void check_members(const hibitset_t *set, const unsigned char *model) {
     static uint32_t list[RANGE];
     uint32_t index = 12345, *next = list, i;
@@ -100,6 +131,7 @@ static void check_members(const hibitset_t *set, const unsigned char *model) {
     CHECK(hibitset_last(set, &index) == (members > 0));
     CHECK(index == (members > 0 ? list[members - 1] : 12345));
     check_batches(set, model, members);
+    check_order(set, list, members);
     CHECK(hibitset_iterate(set, visit_in_order, &next) && next == list + members);
     CHECK(hibitset_iterate(set, stop_at_once, &index) == (members == 0));
     CHECK(members == 0 || index == list[0]);
@@ -201,11 +233,26 @@ static void remove_some(hibitset_t *set, unsigned char *model, uint32_t span) {
     }
 }
 
+static void pop_some(hibitset_t *set, unsigned char *model) {
+    uint32_t first = 0, last = RANGE, index;
+    int i;
+    for (i = 0; i < 100; i++) {
+        while (first < RANGE && !model[first]) first++;
+        index = 12345;
+        CHECK(hibitset_pop_first(set, &index) == (first < RANGE) && index == (first < RANGE ? first : 12345));
+        if (first < RANGE) model[first] = 0;
+        while (last > 0 && !model[last - 1]) last--;
+        index = 12345;
+        CHECK(hibitset_pop_last(set, &index) == (last > 0) && index == (last > 0 ? last - 1 : 12345));
+        if (last > 0) model[last - 1] = 0;
+    }
+}
+
 static void change(hibitset_t *x, hibitset_t *y, unsigned char *a, unsigned char *b, int round) {
     uint32_t i, start = random_below(RANGE), end = start + random_below(round % 3 ? 300 : 100000);
     uint32_t span = 1u << random_below(19);
     if (end > RANGE) end = RANGE;
-    switch (random_below(13)) {
+    switch (random_below(15)) {
     case 0:
     case 1: add_some(x, a, span); break;
     case 2: remove_some(x, a, span); break;
@@ -248,6 +295,11 @@ static void change(hibitset_t *x, hibitset_t *y, unsigned char *a, unsigned char
         CHECK(hibitset_assign(y, x) == HIBITSET_OK);
         memcpy(b, a, RANGE);
         break;
+    case 12:
+        CHECK(hibitset_flip_range(x, start, end) == HIBITSET_OK);
+        for (i = start; i < end; i++) a[i] = !a[i];
+        break;
+    case 13: pop_some(x, a); break;
     default: {
         size_t len;
         const uint64_t *words = hibitset_words(x, &len);
@@ -292,6 +344,10 @@ static void empty_sets(void) {
     CHECK(hibitset_len(&set) == 0 && hibitset_is_empty(&set) && !hibitset_contains(&set, 0) && hibitset_capacity(&set) == 0);
     CHECK(!hibitset_first(&set, &index) && !hibitset_last(&set, &index) && index == 7);
     CHECK(hibitset_next_many(&set, 0, buffer, 4) == 0 && !hibitset_remove(&set, 5));
+    CHECK(hibitset_rank(&set, 9) == 0 && !hibitset_select(&set, 0, &index) && hibitset_len_range(&set, 0, 9) == 0);
+    CHECK(!hibitset_last_before(&set, 9, &index) && hibitset_prev_many(&set, 9, buffer, 4) == 0);
+    CHECK(!hibitset_pop_first(&set, &index) && !hibitset_pop_last(&set, &index) && index == 7);
+    CHECK(hibitset_flip_range(&set, 10, 10) == HIBITSET_OK && hibitset_flip_range(&set, 10, 5) == HIBITSET_OK);
     hibitset_remove_range(&set, 0, 100);
     hibitset_clear(&set);
     CHECK(hibitset_or_assign(&set, &other) == HIBITSET_OK && hibitset_xor_assign(&set, &other) == HIBITSET_OK);
@@ -299,6 +355,7 @@ static void empty_sets(void) {
     hibitset_andnot_assign(&set, &other);
     CHECK(hibitset_add_range(&set, 10, 10) == HIBITSET_OK && hibitset_add_range(&set, 10, 5) == HIBITSET_OK);
     CHECK(hibitset_add_many(&set, NULL, 0, &added) == HIBITSET_OK && added == 0);
+    CHECK(hibitset_prev_many(&set, 9, NULL, 0) == 0);
     CHECK(hibitset_next_many(&set, 0, NULL, 0) == 0 && hibitset_not_next_many(&set, 0, NULL, 0) == 0);
     CHECK(hibitset_equals(&set, &other) && hibitset_is_disjoint(&set, &set) && hibitset_words(&set, &len) && len == 0);
     CHECK(allocations == before);
@@ -322,6 +379,7 @@ static void out_of_range(void) {
     CHECK(hibitset_add(&set, UINT32_MAX) == HIBITSET_OUT_OF_RANGE);
     CHECK(hibitset_add_many(&set, bad, 1, &added) == HIBITSET_OUT_OF_RANGE && added == 0);
     CHECK(hibitset_add_range(&set, 0, HIBITSET_MAX_EID + 1) == HIBITSET_OUT_OF_RANGE);
+    CHECK(hibitset_flip_range(&set, 0, HIBITSET_MAX_EID + 1) == HIBITSET_OUT_OF_RANGE);
     CHECK(hibitset_with_capacity(&set, HIBITSET_MAX_EID + 1) == HIBITSET_OUT_OF_RANGE);
     CHECK(hibitset_assign_words(&set, &word, HIBITSET_MAX_WORDS + 1) == HIBITSET_OUT_OF_RANGE);
     CHECK(!hibitset_contains(&set, UINT32_MAX) && !hibitset_remove(&set, UINT32_MAX));
@@ -332,6 +390,8 @@ static void out_of_range(void) {
     CHECK(hibitset_capacity(&set) == 0);
     CHECK(hibitset_add(&set, HIBITSET_MAX_EID - 1) == HIBITSET_OK);
     CHECK(hibitset_last(&set, &index) && index == HIBITSET_MAX_EID - 1);
+    CHECK(hibitset_rank(&set, index) == 0 && hibitset_rank(&set, HIBITSET_MAX_EID) == 1 && hibitset_len_range(&set, 5, UINT32_MAX) == 1);
+    CHECK(hibitset_prev_many(&set, UINT32_MAX, buffer, 4) == 1 && buffer[0] == index && !hibitset_last_before(&set, index, &index));
     CHECK(hibitset_next_many(&set, 5, buffer, 4) == 1 && buffer[0] == index);
     CHECK(hibitset_next_many(&set, UINT32_MAX, buffer, 4) == 0 && hibitset_next_many(&set, 0, buffer, 0) == 0);
     CHECK(!hibitset_first_gap(&set, HIBITSET_MAX_EID - 1, &index) && !hibitset_first_gap(&set, UINT32_MAX, &index));
@@ -378,6 +438,11 @@ static hibitset_status add_range(hibitset_t *set, const hibitset_t *other) {
     return hibitset_add_range(set, 900000, 1000000);
 }
 
+static hibitset_status flip_range(hibitset_t *set, const hibitset_t *other) {
+    (void)other;
+    return hibitset_flip_range(set, 900000, 1000000);
+}
+
 static hibitset_status with_capacity(hibitset_t *set, const hibitset_t *other) {
     (void)other;
     return hibitset_with_capacity(set, 1000000);
@@ -417,7 +482,7 @@ static bool meets(call *made, const hibitset_t *other, bool has_member, long met
 }
 
 static void failing_allocations(void) {
-    static call *const calls[] = {add_far, add_two, add_range, with_capacity, assign, assign_words, or_assign, xor_assign};
+    static call *const calls[] = {add_far, add_two, add_range, flip_range, with_capacity, assign, assign_words, or_assign, xor_assign};
     hibitset_t other = hibitset_new();
     size_t i;
     int has_member;

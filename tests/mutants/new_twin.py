@@ -12,14 +12,19 @@ from pathlib import Path
 CRATES = Path(__file__).resolve().parent.parent.parent / "crates"
 
 
+def said(lines):
+    """What the lines say, without comments."""
+    return [line.strip() for line in lines if not line.lstrip().startswith("//")]
+
+
 def head_of(lines, start):
     """The function's head, up to its body, in one line."""
     indent = re.match(" *", lines[start])[0]
     for end in range(start, len(lines)):
         if lines[end] == indent + "{":
-            return " ".join(line.strip() for line in lines[start:end])
+            return " ".join(said(lines[start:end]))
         if lines[end].endswith("{"):
-            return " ".join(line.strip() for line in lines[start : end + 1]).removesuffix("{").rstrip()
+            return " ".join(said(lines[start : end + 1])).removesuffix("{").rstrip()
     sys.exit("no body")
 
 

@@ -1,13 +1,14 @@
 #!/usr/bin/env bash
-# run_tests.sh [PATCH]: tests must kill the mutants that no contract excludes. Each patch of tests/ is applied to a copy of the repository, where the tests that it names must fail. PATCH: that one alone.
-# Two are tried side by side. Where there is one processor, no iteration takes threads, and the patches whose tests are to meet in two of them are left out.
+# run_tests.sh [--gate|PATCH]: tests must kill the mutants that no contract excludes. Each patch of tests/ is applied to a copy of the repository, where the tests that it names must fail. PATCH: that one alone. --gate: those whose head has the line 'gate: yes'.
+# So many are tried side by side as TOGETHER says, or two. Where there is one processor, no iteration takes threads, and the patches whose tests are to meet in two of them are left out.
 # The head of a patch says the crates and the tests: lines 'crate: NAME', and after each the lines 'fails: TEST' of that crate. A line 'seconds: N' before a crate cuts its tests short after so many seconds, where some that are not named read millions of words; a line 'only: WORDS' runs no other tests than those with these words in their names.
 # A line 'refused: N' before a crate makes the Nth allocation of each of its tests fail, and a line 'misses: TEST' after it names one that must then not tell of it, in which allocation_failures.py fails.
 set -euo pipefail
 here=$(cd "$(dirname "$0")" && pwd)
 
-if [ $# = 0 ]; then
-    printf '%s\0' "$here"/tests/*.patch | xargs -0 -P 2 -n 1 "$here/run_tests.sh"
+if [ $# = 0 ] || [ "$1" = --gate ]; then
+    if [ $# = 0 ]; then heads=; else heads='^gate: yes$'; fi
+    grep -lZ "$heads" "$here"/tests/*.patch | xargs -0 -P "${TOGETHER:-2}" -n 1 "$here/run_tests.sh"
     exit
 fi
 

@@ -34,6 +34,7 @@
 //! | `last` and `first_gap` of these; all of a virtual set that is nested deeper, or has another type's set in it | this crate's Rust, over the words of the sets |
 //! | an assignment by such a set | this crate's Rust makes a copy of it, then proved code |
 //! | `contains` of a virtual set | proved `contains` of its operands, put together by this crate's Rust |
+//! | [`Ranked`] | counts by proved calls; the sum of a count and a proved [`len_range`](BitSet::len_range), and the search for a position, by this crate's Rust |
 //! | single words, as [`BitSetLike::layer0`], and slices | this crate's Rust, which reads the words that the library made |
 //!
 //! Between the two lies the one file that declares the library's functions. The README of the crate says what is trusted
@@ -59,6 +60,8 @@ mod form;
 mod iter;
 mod like;
 mod ops;
+mod order;
+mod ranked;
 mod raw;
 mod set;
 mod virt;
@@ -67,6 +70,8 @@ pub use drain::DrainBitIter;
 pub use error::AllocError;
 pub use iter::BitIter;
 pub use like::{BitSetLike, DrainableBitSet};
+pub use order::BitRevIter;
+pub use ranked::Ranked;
 pub use set::BitSet;
 pub use virt::{BitSetAll, BitSetAnd, BitSetNot, BitSetOr, BitSetXor};
 

@@ -115,6 +115,15 @@ unsafe extern "C" {
     fn hibitset_next_many(set: &Set, start: Index, buffer: *mut Index, len: usize) -> usize;
     fn hibitset_not_next_many(set: &Set, start: Index, buffer: *mut Index, len: usize) -> usize;
 
+    pub(crate) safe fn hibitset_rank(set: &Set, end: Index) -> usize;
+    pub(crate) safe fn hibitset_select(set: &Set, at: usize, index: &mut Index) -> bool;
+    pub(crate) safe fn hibitset_len_range(set: &Set, start: Index, end: Index) -> usize;
+    pub(crate) safe fn hibitset_last_before(set: &Set, end: Index, index: &mut Index) -> bool;
+    fn hibitset_prev_many(set: &Set, end: Index, buffer: *mut Index, len: usize) -> usize;
+    pub(crate) safe fn hibitset_pop_first(set: &mut Set, index: &mut Index) -> bool;
+    pub(crate) safe fn hibitset_pop_last(set: &mut Set, index: &mut Index) -> bool;
+    pub(crate) safe fn hibitset_flip_range(set: &mut Set, start: Index, end: Index) -> u32;
+
     pub(crate) safe fn hibitset_is_disjoint(a: &Set, b: &Set) -> bool;
     pub(crate) safe fn hibitset_is_subset(a: &Set, b: &Set) -> bool;
     pub(crate) safe fn hibitset_equals(a: &Set, b: &Set) -> bool;
@@ -186,4 +195,10 @@ next_many! {
     or_next_many(a, b) = hibitset_or_next_many;
     xor_next_many(a, b) = hibitset_xor_next_many;
     andnot_next_many(a, b) = hibitset_andnot_next_many;
+}
+
+/// Writes members before `end` into a buffer, descending, until it is full or none is left. Returns how many it wrote.
+pub(crate) fn prev_many(set: &Set, end: Index, buffer: &mut [Index]) -> usize {
+    // SAFETY: the buffer is lent for the call, which writes within it alone.
+    unsafe { hibitset_prev_many(set, end, buffer.as_mut_ptr(), buffer.len()) }
 }

@@ -263,14 +263,8 @@ impl BitSet {
     /// assert_eq!(set.to_vec(), [0, 1, 2]);
     /// ```
     pub fn remove_range(&mut self, range: impl RangeBounds<Index>) {
-        // No index from `MAX_EID` on is in a set.
-        let (start, end) = limits(&range);
-        let max = MAX_EID as u64;
-        raw::hibitset_remove_range(
-            &mut self.set,
-            start.min(max) as Index,
-            end.min(max) as Index,
-        );
+        let (start, end) = range_within(&range);
+        raw::hibitset_remove_range(&mut self.set, start, end);
     }
 
     /// Removes all members. It keeps the memory for members to come, but [`capacity`](BitSet::capacity) is 0.
@@ -427,8 +421,15 @@ fn limits(range: &impl RangeBounds<Index>) -> (u64, u64) {
     (start, end)
 }
 
+/// The limits of a range, as far as it lies below `MAX_EID`: no index from there on is in a set.
+pub(crate) fn range_within(range: &impl RangeBounds<Index>) -> (Index, Index) {
+    let (start, end) = limits(range);
+    let max = MAX_EID as u64;
+    (start.min(max) as Index, end.min(max) as Index)
+}
+
 /// The limits of a range whose indices are all below `MAX_EID`.
-fn indices_to_add(range: &impl RangeBounds<Index>) -> (Index, Index) {
+pub(crate) fn indices_to_add(range: &impl RangeBounds<Index>) -> (Index, Index) {
     let (start, end) = limits(range);
     if start >= end {
         return (0, 0);

@@ -10,7 +10,7 @@ use std::ffi::c_void;
 use std::process::Command;
 use std::ptr::null_mut;
 
-use hibitset::{AllocError, BitSet, BitSetLike, Index, MAX_EID};
+use hibitset::{AllocError, BitSet, BitSetLike, Index, Ranked, MAX_EID};
 
 thread_local! {
     // How many requests are let through before one is refused; none is refused if it is negative.
@@ -91,6 +91,7 @@ fn a_refused_change_leaves_the_members() {
     for set in sets() {
         assert!(refuse_each(&set, |set| set.try_add(300_000).map(drop)) > 0);
         assert!(refuse_each(&set, |set| set.try_add_range(4_000..70_000)) > 0);
+        assert!(refuse_each(&set, |set| set.try_flip_range(4_000..70_000)) > 0);
         assert!(refuse_each(&set, |set| set.try_bitor_assign(&other)) > 0);
         assert!(refuse_each(&set, |set| set.try_bitxor_assign(&other)) > 0);
         assert!(
@@ -110,6 +111,7 @@ fn a_refused_set_is_not_made() {
     assert!(refuse_each(&none, |_| BitSet::try_with_capacity(5_000).map(drop)) > 0);
     assert!(refuse_each(&none, |_| BitSet::try_from_words(&[1, 2, 3]).map(drop)) > 0);
     assert!(refuse_each(&none, |_| a.try_clone().map(drop)) > 0);
+    assert!(refuse_each(&none, |_| Ranked::try_new(&a).map(drop)) > 0);
     assert!(refuse_each(&none, |_| (&a & &b).try_to_bit_set().map(drop)) > 0);
     assert!(refuse_each(&none, |_| (&a | &b).try_to_bit_set().map(drop)) > 0);
     assert!(refuse_each(&none, |_| (&a ^ &b).try_to_bit_set().map(drop)) > 0);

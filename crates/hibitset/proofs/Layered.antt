@@ -134,6 +134,10 @@ upper_same x y l upto = elim (same_or_not l (LAYERS - 1)) [
   | inr other ↦ rw (parts_past y.words.items (room_in y) (count_of y.lens) y.top 0 (LAYERS - 1) l (omega arith), parts_past x.words.items (room_in x) (count_of x.lens) x.top 0 (LAYERS - 1) l (omega arith)) refl
 ]
 
+-- the top is one word
+pub one_at_top : (x : Layers) (p : ℕ) → 0 < p → word_in x (LAYERS - 1) p ≡ 0
+one_at_top x p some = get_or_past (get_or (lists x) (LAYERS - 1) []) p 0 (let h = (shaped x).short (LAYERS - 1) (lit< tt) in omega (arith, h, some))
+
 -- as many words in layer 0 are as many in each
 pub lengths_same : (x y : Layers) → len_in y 0 ≡ len_in x 0 → (l : ℕ) → len_in y l ≡ len_in x l
 lengths_same x y same l = elim (cases_lt l (LAYERS - 1)) [

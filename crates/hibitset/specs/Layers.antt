@@ -1,5 +1,5 @@
 -- What a contract sees of `Layers`.
-use Rattle.std.specs.Prelude.{ℕ, ◌-◌, List, [], get_or, length}
+use Rattle.std.specs.Prelude.{◌≡◌, ℕ, ◌+◌, ◌-◌, ◌/◌, ◌<◌, List, [], ◌∷◌, get_or, length}
 use Rattle.hibitset_base.specs.Words.{word_at}
 use Rattle.hibitset_base.specs.declared.util.TheConstants.{LAYERS}
 use Rattle.hibitset.specs.Laying.{parts, room_of, count_of}
@@ -20,3 +20,11 @@ word_in layers = word_at (lists layers)
 -- how many words a layer has
 abbrev pub len_in : Layers → ℕ → ℕ
 len_in layers l = length (get_or (lists layers) l [])
+
+-- these words, those of layer 0 first, and the word of the top layer
+abbrev pub piled : List ℕ → List ℕ → List ℕ → List ℕ → ℕ → List (List ℕ)
+piled words0 words1 words2 words3 top = words0 ∷ words1 ∷ words2 ∷ words3 ∷ (top ∷ []) ∷ []
+
+-- Of n layers, each between the lowest and the top is as long as the words of the one below need.
+abbrev pub IsFitted : ℕ → List (List ℕ) → Type 0
+IsFitted n layers = (l : ℕ) → l + 2 < n → length (get_or layers (l + 1) []) ≡ (length (get_or layers l []) + 63) / 64

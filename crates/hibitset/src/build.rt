@@ -1,11 +1,13 @@
 //! Sets made of the items of an iterator, or extended by them, and sets made of words.
 #![tactic(auto, unfolding(crate::specs::BitSet::has, crate::specs::BitSet::word_of))]
 
-ghost use Rattle.std.specs.Prelude.{◌≡◌, ℕ, ◌-◌, ◌*◌, ◌/◌, ◌^◌, ◌<◌, ◌≤◌, ◌||◌, Bool, false, length, slice_index_or, OnOk, OnErr, IfOk, IfErr};
+ghost use Rattle.std.specs.Prelude.{◌≡◌, ℕ, ◌-◌, ◌*◌, ◌/◌, ◌^◌, ◌<◌, ◌≤◌, ◌||◌, Bool, false, [], get_or, length, slice_index_or, OnOk, OnErr, IfOk, IfErr};
 ghost use Rattle.std.specs.Iterator.{IsFiniteIterable};
+ghost use Rattle.hibitset_base.specs.Words.{IsSummed, word_at};
 ghost use Rattle.hibitset_base.specs.declared.util.TheConstants.{LAYERS, MAX_EID};
 ghost use Rattle.hibitset.specs.BitSet.{has, word_of, slice_len};
 ghost use Rattle.hibitset.specs.Building.{MembersEndBy, Refuses, TakesAll, StopsAtRefused, member_apart};
+ghost use Rattle.hibitset.specs.Layers.{piled, IsFitted};
 ghost use Rattle.hibitset.specs.Numbers.{stands_in};
 
 use crate::layers::Layers;
@@ -104,6 +106,28 @@ impl BitSet {
         ensures above { IfOk result (λ set. (l end : ℕ) → l < LAYERS - 1 → length words.now ≤ 64 ^ l * end → slice_len set l ≤ end) }
     {
         let layers = Layers::of_words(alloc, words)?;
+        Ok(BitSet { layers })
+    }
+
+    /// The set whose layers have these words, and whose top layer has the word `top`: a copy of a set of which the slices are at hand. It makes one request for memory, for these words; the error is want of it. The original has no such call.
+    ///
+    /// Layer 0 has at most as many words as it may have, each layer above it as many as the words below need, and the summaries are exact.
+    pub fn from_layers(
+        alloc: Global,
+        layer0: &[usize],
+        layer1: &[usize],
+        layer2: &[usize],
+        layer3: &[usize],
+        top: usize,
+    ) -> Result<BitSet, AllocError>
+        requires short { length layer0.now ≤ 64 ^ (LAYERS - 1) }
+        requires fitted { IsFitted LAYERS (piled layer0.now layer1.now layer2.now layer3.now top) }
+        requires summed { IsSummed LAYERS (word_at (piled layer0.now layer1.now layer2.now layer3.now top)) }
+        ensures members { IfOk result (λ set. (i : ℕ) → has set i ≡ stands_in layer0.now i) }
+        ensures words { IfOk result (λ set. (l p : ℕ) → l < LAYERS → word_of set l p ≡ word_at (piled layer0.now layer1.now layer2.now layer3.now top) l p) }
+        ensures lengths { IfOk result (λ set. (l : ℕ) → l < LAYERS - 1 → slice_len set l ≡ length (get_or (piled layer0.now layer1.now layer2.now layer3.now top) l [])) }
+    {
+        let layers = Layers::of_layers(alloc, layer0, layer1, layer2, layer3, top)?;
         Ok(BitSet { layers })
     }
 }

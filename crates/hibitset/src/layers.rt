@@ -1,7 +1,7 @@
 //! The words of a set: all layers but the top one lie in one vector.
-ghost use Rattle.std.specs.Prelude.{◌≡◌, ◌≢◌, ℕ, ◌+◌, ◌-◌, ◌*◌, ◌/◌, ◌%◌, ◌^◌, ◌<◌, ◌≤◌, ◌==◌, ◌↔◌, not, true, false, List, get_or, length, OnOk, OnErr, IfOk};
+ghost use Rattle.std.specs.Prelude.{◌≡◌, ◌≢◌, ℕ, ◌+◌, ◌-◌, ◌*◌, ◌/◌, ◌%◌, ◌^◌, ◌<◌, ◌≤◌, ◌==◌, ◌↔◌, not, true, false, List, [], get_or, length, OnOk, OnErr, IfOk};
 ghost use Rattle.std.specs.Int.{bit_at};
-ghost use Rattle.hibitset_base.specs.Words.{IsSummed};
+ghost use Rattle.hibitset_base.specs.Words.{IsSummed, word_at};
 ghost use Rattle.hibitset_base.specs.declared.util.TheConstants.{LAYERS};
 ghost use Rattle.hibitset.specs.Laying.{over, start, room_of, count_of, AreStarts, AreLengths, AreMovedFrom, IsLaid, IsKept, IsSummedBut};
 ghost use Rattle.hibitset.specs.Merging.{AreWords, MergedAt, Summarizes};
@@ -198,7 +198,7 @@ pub(crate) fn turns(before: usize, word: usize, stands: bool) -> bool
 }
 
 impl Layers {
-    ghost use Rattle.hibitset.specs.Layers.{word_in, len_in, room_in};
+    ghost use Rattle.hibitset.specs.Layers.{word_in, len_in, room_in, piled, IsFitted};
 
     /// No words, which take no memory.
     pub(crate) fn new(alloc: Global) -> Layers
@@ -238,6 +238,28 @@ impl Layers {
         Ok(layers)
     }
 
+    /// The words of these layers with a word of the top layer, and no more room than they need. It makes one request for memory.
+    pub(crate) fn of_layers(
+        alloc: Global,
+        layer0: &[usize],
+        layer1: &[usize],
+        layer2: &[usize],
+        layer3: &[usize],
+        top: usize,
+    ) -> Result<Layers, AllocError>
+        requires short { length layer0.now ≤ 64 ^ (LAYERS - 1) }
+        requires fitted { IsFitted LAYERS (piled layer0.now layer1.now layer2.now layer3.now top) }
+        ensures words { IfOk result (λ layers. (l p : ℕ) → l < LAYERS → word_in layers l p ≡ word_at (piled layer0.now layer1.now layer2.now layer3.now top) l p) }
+        ensures lengths { IfOk result (λ layers. (l : ℕ) → l < LAYERS - 1 → len_in layers l ≡ length (get_or (piled layer0.now layer1.now layer2.now layer3.now top) l [])) }
+    {
+        let mut layers = Layers::under_zeros(alloc, layer0)?;
+        layers.put_layer(1, layer1);
+        layers.put_layer(2, layer2);
+        layers.put_layer(3, layer3);
+        layers.put_top(top);
+        Ok(layers)
+    }
+
     // These words in layer 0, and words that are 0 over them.
     fn under_zeros(alloc: Global, words: &[usize]) -> Result<Layers, AllocError>
         requires { length words.now ≤ 64 ^ (LAYERS - 1) }
@@ -254,6 +276,21 @@ impl Layers {
             lens: lens_over(words.len()),
             top: 0,
         })
+    }
+
+    // Puts these words in the place of those of a layer below the top.
+    fn put_layer(&mut self, layer: usize, words: &[usize])
+        requires layer { layer < LAYERS - 1 }
+        requires length { length words.now ≡ len_in self.old layer }
+        ensures here { (p : ℕ) → word_in self.new layer p ≡ get_or words.now p 0 }
+        ensures layers { (l p : ℕ) → l ≢ layer → word_in self.new l p ≡ word_in self.old l p }
+        ensures lengths { (l : ℕ) → len_in self.new l ≡ len_in self.old l }
+    {
+        let mut place = 0;
+        while place < words.len() {
+            self.put(layer, place, words[place]);
+            place += 1;
+        }
     }
 
     // Makes the words of a layer the summaries of those below.

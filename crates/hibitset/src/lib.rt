@@ -20,7 +20,7 @@ pub use hibitset_atomic::{
 };
 pub use hibitset_base::{
     BitIter, BitParIter, BitProducer, BitRevIter, BitSetAll, BitSetAnd, BitSetLike, BitSetNot,
-    BitSetOr, BitSetRange, BitSetXor, DrainBitIter, DrainableBitSet, Index, LAYERS, MAX_EID, drain,
-    iter, like, parallel, virt,
+    BitSetOr, BitSetRange, BitSetXor, DrainBitIter, DrainableBitSet, Index, LAYERS, MAX_EID,
+    Ranked, drain, iter, like, parallel, ranked, virt,
 };
 pub use set::BitSet;

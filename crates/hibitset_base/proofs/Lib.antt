@@ -24,6 +24,7 @@ pub mod Beginning
 pub mod Draining
 pub mod PartLemmas
 pub mod RankLemmas
+pub mod RankedLemmas
 pub mod Bounds
 pub mod Passing
 pub mod Running

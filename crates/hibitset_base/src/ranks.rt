@@ -55,7 +55,7 @@ fn count_bits<T: BitSetLike>(set: &T, layer: usize, start: u32, word: usize) -> 
 
 // How many members lie at the positions of a layer from one on before another, all in one word. It reads no word if there is no such position.
 #[inline]
-fn count_part<T: BitSetLike>(set: &T, layer: usize, from: u32, to: u32) -> usize
+pub(crate) fn count_part<T: BitSetLike>(set: &T, layer: usize, from: u32, to: u32) -> usize
     requires layer { layer < LAYERS }
     requires one_word { to ≤ 64 * (from / 64) + 64 }
     requires within { to ≤ 64 ^ (LAYERS - layer) }
@@ -116,7 +116,7 @@ fn nth_bit(start: Index, word: usize, at: usize) -> Option<Index>
 
 // The member at a place of those in the words of layer 0 under the bits of a word of layer 1, whose first bit is at `start`.
 #[inline]
-fn nth_under<T: BitSetLike>(set: &T, start: u32, word: usize, at: usize) -> Option<Index>
+pub(crate) fn nth_under<T: BitSetLike>(set: &T, start: u32, word: usize, at: usize) -> Option<Index>
     requires aligned { start % 64 ≡ 0 }
     requires within { start < 64 ^ (LAYERS - 1) }
     ensures { result ≡ slice_get (items_of (T.holds set.now) (places_in 1 (bits_from start word))) at }

@@ -8,6 +8,7 @@ mod change;
 mod columns;
 mod compare;
 mod copies;
+mod order;
 mod sets;
 mod walk;
 
@@ -386,4 +387,82 @@ pub extern "C" fn hibitset_bench_column_join(
     times: usize,
 ) -> u64 {
     columns::join_of_two(alloc, a, b, times).unwrap_or(u64::MAX)
+}
+
+/// Asks a set of `ids` how many members lie before each of `asked`, `times` times over.
+#[unsafe(no_mangle)]
+pub extern "C" fn hibitset_bench_rank(
+    alloc: Global,
+    ids: &[u32],
+    asked: &[u32],
+    times: usize,
+) -> u64 {
+    order::rank(alloc, ids, asked, times).unwrap_or(u64::MAX)
+}
+
+/// Asks a set of `ids` for the member at each of the positions `asked`, `times` times over.
+#[unsafe(no_mangle)]
+pub extern "C" fn hibitset_bench_select(
+    alloc: Global,
+    ids: &[u32],
+    asked: &[u32],
+    times: usize,
+) -> u64 {
+    order::select(alloc, ids, asked, times).unwrap_or(u64::MAX)
+}
+
+/// Asks a set of `ids` how many members lie in a range from each of `asked` on, `times` times over.
+#[unsafe(no_mangle)]
+pub extern "C" fn hibitset_bench_len_range(
+    alloc: Global,
+    ids: &[u32],
+    asked: &[u32],
+    times: usize,
+) -> u64 {
+    order::len_range(alloc, ids, asked, times).unwrap_or(u64::MAX)
+}
+
+/// Asks a set of `ids` for the last member before each of `asked`, `times` times over.
+#[unsafe(no_mangle)]
+pub extern "C" fn hibitset_bench_last_before(
+    alloc: Global,
+    ids: &[u32],
+    asked: &[u32],
+    times: usize,
+) -> u64 {
+    order::last_before(alloc, ids, asked, times).unwrap_or(u64::MAX)
+}
+
+/// Walks over a set from the last member down, `times` times over.
+#[unsafe(no_mangle)]
+pub extern "C" fn hibitset_bench_walk_down(alloc: Global, ids: &[u32], times: usize) -> u64 {
+    order::walk_down(alloc, ids, times).unwrap_or(u64::MAX)
+}
+
+/// Asks counts beside a set of `ids` how many members lie before each of `asked`, `times` times over.
+#[unsafe(no_mangle)]
+pub extern "C" fn hibitset_bench_ranked_rank(
+    alloc: Global,
+    ids: &[u32],
+    asked: &[u32],
+    times: usize,
+) -> u64 {
+    order::ranked_rank(alloc, ids, asked, times).unwrap_or(u64::MAX)
+}
+
+/// Asks counts beside a set of `ids` for the member at each of the positions `asked`, `times` times over.
+#[unsafe(no_mangle)]
+pub extern "C" fn hibitset_bench_ranked_select(
+    alloc: Global,
+    ids: &[u32],
+    asked: &[u32],
+    times: usize,
+) -> u64 {
+    order::ranked_select(alloc, ids, asked, times).unwrap_or(u64::MAX)
+}
+
+/// Flips the range from the first index on before the last, `times` times over.
+#[unsafe(no_mangle)]
+pub extern "C" fn hibitset_bench_flip(alloc: Global, ids: &[u32], times: usize) -> u64 {
+    order::flip(alloc, ids, times).unwrap_or(u64::MAX)
 }

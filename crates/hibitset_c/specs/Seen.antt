@@ -1,14 +1,15 @@
 -- What a contract sees of a set that C lends.
-use Rattle.std.specs.Prelude.{ℕ, Bool, List, [], ◌∷◌}
+use Rattle.std.specs.Prelude.{ℕ, Bool, List}
 use Rattle.hibitset_base.specs.Sets.{IsLawful}
 use Rattle.hibitset_base.specs.Stored.{summed_lawful}
 use Rattle.hibitset_base.specs.Words.{word_at, holds_at}
 use Rattle.hibitset_base.specs.declared.util.TheConstants.{LAYERS}
+use Rattle.hibitset.specs.Layers.{piled}
 use Rattle.hibitset_c.specs.declared.seen.Seen.{Seen}
 
 -- the words of the layers, from the lowest up
 abbrev pub layers : Seen → List (List ℕ)
-layers set = set.layer0.now ∷ set.layer1.now ∷ set.layer2.now ∷ set.layer3.now ∷ (set.top ∷ []) ∷ []
+layers set = piled set.layer0.now set.layer1.now set.layer2.now set.layer3.now set.top
 
 -- the word of a layer at a position
 unfoldable pub word_of : Seen → ℕ → ℕ → ℕ

@@ -75,7 +75,21 @@ pub extern "C" fn hibitset_raw_assign(alloc: Global, set: &mut Set, other: &Seen
     ensures length { result ≡ OK → layer0_len set.new ≡ length other.now.layer0.now }
     ensures err_len { result ≢ OK → layer0_len set.new ≡ layer0_len set.old }
 {
-    hibitset_assign_words(alloc, set, other.layer0)
+    let Ok(made) = BitSet::from_layers(
+        alloc,
+        other.layer0,
+        other.layer1,
+        other.layer2,
+        other.layer3,
+        other.top,
+    ) else {
+        return NO_MEMORY;
+    };
+    if set.replace(alloc, made) {
+        OK
+    } else {
+        NO_MEMORY
+    }
 }
 
 // Adds the indices of a list in order until one is refused. Returns how many were added, and why no more.

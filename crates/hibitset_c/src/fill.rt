@@ -1,6 +1,6 @@
 //! Members that are written into a buffer.
-ghost use Rattle.std.specs.Prelude.{◌-◌};
-ghost use Rattle.hibitset_base.specs.Members.{members};
+ghost use Rattle.std.specs.Prelude.{◌-◌, min, reverse};
+ghost use Rattle.hibitset_base.specs.Members.{members, members_below};
 ghost use Rattle.hibitset_base.specs.declared.util.TheConstants.{MAX_EID};
 ghost use Rattle.hibitset_c.specs.Buffer.{Fills};
 
@@ -13,6 +13,22 @@ pub(crate) fn fill<T: BitSetLike>(set: T, start: Index, buffer: &mut [Index]) ->
 {
     let mut count = 0;
     for index in set.iter_from(start) {
+        if count == buffer.len() {
+            return count;
+        }
+        buffer[count] = index;
+        count += 1;
+    }
+    count
+}
+
+// Writes the members before `end`, descending, until the buffer is full or there are no more. Returns how many.
+#[inline]
+pub(crate) fn fill_back<T: BitSetLike>(set: T, end: Index, buffer: &mut [Index]) -> usize
+    ensures { Fills (reverse (members_below (min end MAX_EID) (T.holds set))) buffer.old result buffer.new }
+{
+    let mut count = 0;
+    for index in set.iter_rev_before(end) {
         if count == buffer.len() {
             return count;
         }

@@ -9,6 +9,7 @@ pub mod build;
 pub mod change;
 mod fill;
 pub mod handle;
+pub mod order;
 pub mod pair;
 mod raw_box;
 pub mod read;

@@ -8,8 +8,8 @@ ghost use Rattle.hibitset.specs.BitSet.{has, word_of, slice_len};
 ghost use Rattle.hibitset.specs.Merging.{NoWordsFrom};
 
 use crate::tests::{assert_count, assert_index, assert_indices, assert_words, set_of};
-use hibitset::laws::{laws, list_laws};
-use hibitset::{BitIter, BitSet, BitSetLike, DrainableBitSet, Index};
+use hibitset::laws::{laws, list_laws, slice_laws};
+use hibitset::{BitIter, BitSet, BitSetLike, DrainableBitSet, Index, Ranked};
 use hibitset_base::util::{MAX_EID, SHIFT2};
 use std::alloc::{AllocError, Global};
 
@@ -147,6 +147,23 @@ fn read_again(alloc: Global, set: &BitSet) -> Result<BitSet, AllocError>
     BitSet::from_words(alloc, set.layer0_as_slice())
 }
 
+// A copy of a set, by the slices of its layers.
+fn copied_by_slices(alloc: Global, set: &BitSet) -> Result<BitSet, AllocError>
+    ensures members { IfOk result (λ copy. (i : ℕ) → has copy i ≡ has set.now i) }
+    ensures words { IfOk result (λ copy. (l p : ℕ) → l < LAYERS - 1 → word_of copy l p ≡ word_of set.now l p) }
+    ensures lengths { IfOk result (λ copy. (l : ℕ) → l < LAYERS - 1 → slice_len copy l ≡ slice_len set.now l) }
+{
+    slice_laws();
+    BitSet::from_layers(
+        alloc,
+        set.layer0_as_slice(),
+        set.layer1_as_slice(),
+        set.layer2_as_slice(),
+        set.layer3_as_slice(),
+        set.layer4(),
+    )
+}
+
 // The first index of each block of 4,096 that has a member: layer 1 has a word for each block.
 fn blocks_of(alloc: Global, set: &BitSet) -> Result<BitSet, AllocError> {
     let words = set.layer1_as_slice();
@@ -166,6 +183,15 @@ fn ends(set: &BitSet) -> Option<(Index, Index)>
 {
     list_laws();
     Some((set.first()?, set.last()?))
+}
+
+// The position of the member at a position is that position.
+fn position_again(ranked: &Ranked<&BitSet>, at: usize) -> Option<usize>
+    ensures { IfSome result (λ again. again ≡ at) }
+{
+    list_laws();
+    let member = ranked.select(at)?;
+    Some(ranked.rank(member))
 }
 
 // Adds a set without words from `end` on, in the words of layer 3.
@@ -256,5 +282,23 @@ fn assignments_of_callers(rt: HostRuntime) -> Result<(), AllocError> {
     assert_indices(&rt, looped(rt.alloc(), &a)?.as_slice(), &[3]);
     narrow(&mut a, &b);
     assert!(rt; a.is_empty());
+    Ok(())
+}
+
+#[test]
+fn positions_of_callers(rt: HostRuntime) -> Result<(), AllocError> {
+    let set = set_of(rt.alloc(), &[3, 70, 4_095, 5_000, 1_000_000])?;
+    let ranked = Ranked::new(rt.alloc(), &set)?;
+    assert!(rt; position_again(&ranked, 3) == Some(3));
+    assert!(rt; position_again(&ranked, 5).is_none());
+    Ok(())
+}
+
+#[test]
+fn copies_of_callers(rt: HostRuntime) -> Result<(), AllocError> {
+    let set = set_of(rt.alloc(), &[3, 70, 4_095, 5_000, 1_000_000])?;
+    let copy = copied_by_slices(rt.alloc(), &set)?;
+    assert!(rt; copy == set && copy.layer4() == 1);
+    assert_words(&rt, copy.layer3_as_slice(), set.layer3_as_slice());
     Ok(())
 }

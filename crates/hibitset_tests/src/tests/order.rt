@@ -4,7 +4,7 @@ use crate::tests::{
 };
 use hibitset::{
     BitSet, BitSetAll, BitSetAnd, BitSetLike, BitSetNot, BitSetRange, DrainableBitSet, Index,
-    MAX_EID,
+    MAX_EID, Ranked,
 };
 use std::alloc::AllocError;
 
@@ -323,4 +323,71 @@ fn differences(rt: HostRuntime) -> Result<(), AllocError> {
     )?;
     assert_members(&rt, &!&other - &!&set, &[3, 200])?;
     assert_members(&rt, other - set, &[65])
+}
+
+// Tells whether counts beside a set give what the list of its members gives at an index and around it.
+fn ranks_around<T: BitSetLike>(ranked: &Ranked<T>, ids: &[Index], index: Index) -> bool {
+    let below = index.saturating_sub(1);
+    let above = index.saturating_add(1);
+    ranked.rank(below) == before(ids, below)
+        && ranked.rank(index) == before(ids, index)
+        && ranked.rank(above) == before(ids, above)
+}
+
+// Tells whether counts beside a set give the member at each position of a list, and none past its end.
+fn selects_all<T: BitSetLike>(ranked: &Ranked<T>, ids: &[Index]) -> bool {
+    for place in 0..ids.len() {
+        if ranked.select(place) != ids.get(place).copied() {
+            return false;
+        }
+    }
+    ranked.select(ids.len()).is_none() && ranked.select(usize::MAX).is_none()
+}
+
+#[test]
+fn counts_beside_borders(rt: HostRuntime) -> Result<(), AllocError> {
+    let set = set_of(rt.alloc(), &BORDERS)?;
+    let ranked = Ranked::new(rt.alloc(), &set)?;
+    for id in BORDERS {
+        assert!(rt; ranks_around(&ranked, &BORDERS, id));
+    }
+    assert!(rt; ranks_around(&ranked, &BORDERS, Index::MAX));
+    assert!(rt; selects_all(&ranked, &BORDERS));
+    assert!(rt; ranked.set().contains(64));
+    Ok(())
+}
+
+#[test]
+fn counts_beside_few_members(rt: HostRuntime) -> Result<(), AllocError> {
+    let none = BitSet::new(rt.alloc());
+    let empty = Ranked::new(rt.alloc(), &none)?;
+    assert!(rt; selects_all(&empty, &[]));
+    assert!(rt; ranks_around(&empty, &[], 0) && ranks_around(&empty, &[], 4_096));
+    let ends = [4_095, 4_096, 12_287];
+    let set = set_of(rt.alloc(), &ends)?;
+    let ranked = Ranked::new(rt.alloc(), &set)?;
+    for id in [4_095, 4_096, 8_191, 8_192, 12_287, 12_288] {
+        assert!(rt; ranks_around(&ranked, &ends, id));
+    }
+    assert!(rt; selects_all(&ranked, &ends));
+    Ok(())
+}
+
+#[test]
+fn counts_beside_rows(rt: HostRuntime) -> Result<(), AllocError> {
+    let set = run_of(rt.alloc(), 9_000)?;
+    let ranked = Ranked::new(rt.alloc(), &set)?;
+    for place in [0, 1, 63, 64, 4_095, 4_096, 8_191, 8_192, 8_999] {
+        assert_index(&rt, ranked.select(place), Some(place as Index));
+        assert_count(&rt, ranked.rank(place as Index), place);
+    }
+    assert_index(&rt, ranked.select(9_000), None);
+    let odd = every_second(rt.alloc(), 1, 5_000)?;
+    let both = Ranked::new(rt.alloc(), &set & &odd)?;
+    assert_count(&rt, both.rank(9_000), 4_500);
+    assert_index(&rt, both.select(4_499), Some(8_999));
+    let complement = Ranked::new(rt.alloc(), BitSetNot(&odd))?;
+    assert_index(&rt, complement.select(5_000), Some(10_000));
+    assert_count(&rt, complement.rank(MAX_EID as Index), MAX_EID - 5_000);
+    Ok(())
 }

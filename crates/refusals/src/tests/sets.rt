@@ -1,9 +1,11 @@
 //! Sets that keep their words. A call that a test makes is in a function of its own, which makes no other request.
-ghost use Rattle.std.specs.Prelude.{◌<◌};
-ghost use Rattle.hibitset_base.specs.declared.util.TheConstants.{MAX_EID};
+ghost use Rattle.std.specs.Prelude.{◌≡◌, ℕ, ◌-◌, ◌<◌, IfOk};
+ghost use Rattle.hibitset_base.specs.declared.util.TheConstants.{LAYERS, MAX_EID};
+ghost use Rattle.hibitset.specs.BitSet.{word_of};
 
 use crate::tests::{ask, assert_has, assert_indices, assert_way, say, set_of};
-use hibitset::{BitSet, BitSetLike, BuildError, Index};
+use hibitset::laws::slice_laws;
+use hibitset::{BitSet, BitSetLike, BuildError, Index, Ranked};
 use std::alloc::{AllocError, Global};
 use std::process::Abort;
 use std::test::Fail;
@@ -186,6 +188,58 @@ fn from_words(rt: HostRuntime) -> Result<(), Fail> {
         Err(_) => of_words(rt.alloc())?,
     };
     assert_has(&rt, &set, &[67, 128]);
+    Ok(())
+}
+
+// A copy of a set, by the slices of its layers.
+fn of_layers(alloc: Global, set: &BitSet) -> Result<BitSet, AllocError>
+    ensures { IfOk result (λ copy. (l p : ℕ) → l < LAYERS - 1 → word_of copy l p ≡ word_of set.now l p) }
+{
+    slice_laws();
+    BitSet::from_layers(
+        alloc,
+        set.layer0_as_slice(),
+        set.layer1_as_slice(),
+        set.layer2_as_slice(),
+        set.layer3_as_slice(),
+        set.layer4(),
+    )
+}
+
+#[test]
+fn from_layers(rt: HostRuntime) -> Result<(), Fail> {
+    let set = set_of(rt.alloc(), &[5, FAR])?;
+    ask(&rt)?;
+    let made = of_layers(rt.alloc(), &set);
+    say(&rt, made.is_err())?;
+    ask(&rt)?;
+    let copy = match made {
+        Ok(copy) => copy,
+        Err(_) => of_layers(rt.alloc(), &set)?,
+    };
+    assert_has(&rt, &copy, &[5, FAR]);
+    assert_has(&rt, &set, &[5, FAR]);
+    Ok(())
+}
+
+// How many members lie before the far one, by counts beside the set.
+fn ranked_by_counts(alloc: Global, set: &BitSet) -> Result<usize, AllocError> {
+    let ranked = Ranked::new(alloc, set)?;
+    Ok(ranked.rank(FAR))
+}
+
+#[test]
+fn ranked(rt: HostRuntime) -> Result<(), Fail> {
+    let set = set_of(rt.alloc(), &[5, 70, FAR])?;
+    ask(&rt)?;
+    let made = ranked_by_counts(rt.alloc(), &set);
+    say(&rt, made.is_err())?;
+    ask(&rt)?;
+    let count = match made {
+        Ok(count) => count,
+        Err(_) => ranked_by_counts(rt.alloc(), &set)?,
+    };
+    assert!(rt; count == 2);
     Ok(())
 }
 

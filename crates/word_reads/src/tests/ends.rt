@@ -1,7 +1,7 @@
 //! Which words are read for the last member, the last before an index, the members before one, a walk down, the first gap, and a look for a common member.
 use crate::tests::words::Logging;
 use crate::tests::{assert_count, assert_index};
-use hibitset::{BitSetAnd, BitSetLike};
+use hibitset::{BitSetAnd, BitSetLike, Index, Ranked};
 use std::alloc::AllocError;
 
 #[test]
@@ -172,4 +172,19 @@ fn a_walk_down_from_an_index(rt: HostRuntime) -> Result<(), AllocError> {
     set.assert_read(&rt, &[(4, 0), (3, 0), (2, 1), (1, 73), (0, 4_687)])?;
     assert_index(&rt, walk.next(), Some(130));
     set.assert_read(&rt, &[(2, 0), (1, 0), (0, 2)])
+}
+
+// A word of layer 1 and the words under it, up to the index. The counts tell which, and those of all are read nowhere.
+#[test]
+fn counts_beside_a_set(rt: HostRuntime) -> Result<(), AllocError> {
+    let set = Logging::over(rt.alloc(), &[64, 300, 300_000])?;
+    let ranked = Ranked::new(rt.alloc(), &set)?;
+    assert_count(&rt, set.read(rt.alloc())?.len(), 82);
+    assert_count(&rt, ranked.rank(301), 2);
+    set.assert_read(&rt, &[(0, 4), (1, 0), (0, 1)])?;
+    assert_index(&rt, ranked.select(1), Some(300));
+    set.assert_read(&rt, &[(1, 0), (0, 1), (0, 4)])?;
+    assert_count(&rt, ranked.rank(Index::MAX), 3);
+    assert_index(&rt, ranked.select(3), None);
+    set.assert_read(&rt, &[])
 }

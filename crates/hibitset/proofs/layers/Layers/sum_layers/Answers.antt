@@ -1,13 +1,12 @@
-use Rattle.std.proofs.Common.{◌≡◌, ◌≢◌, ℕ, ◌+◌, ◌-◌, ◌*◌, ◌<◌, ◌≤◌, ◌↔◌, List, [], get_or, refl, sym, ◌∙◌, ap, arith, lit<, inl, inr}
+use Rattle.std.proofs.Common.{◌≡◌, ◌≢◌, ℕ, ◌+◌, ◌-◌, ◌*◌, ◌<◌, ◌≤◌, ◌↔◌, List, get_or, refl, sym, ◌∙◌, ap, arith, lit<, inl, inr}
 use Rattle.std.specs.Int.{bit_at}
-use Rattle.std.proofs.lemmas.List.{get_or_past}
 use Rattle.hibitset_base.specs.Deciding.{same_or_not}
 use Rattle.hibitset_base.specs.declared.util.TheConstants.{LAYERS}
-use Rattle.hibitset.specs.Layers.{lists, word_in, len_in}
+use Rattle.hibitset.specs.Layers.{word_in, len_in}
 use Rattle.hibitset.specs.Merging.{Summarizes}
 use Rattle.hibitset.specs.declared.layers.Layers.{Layers}
 use Rattle.hibitset.proofs.Summing.{summary_same, none_past}
-use Rattle.hibitset.proofs.Layered.{shaped, past_end}
+use Rattle.hibitset.proofs.Layered.{shaped, past_end, one_at_top}
 use Rattle.hibitset.proofs.layers.Layers.sum_layers.Goals as goal
 
 -- the summary of all words of a layer that has at most 64
@@ -19,10 +18,6 @@ top_summary words list p a summary first is same bits = record {
 -- the layer below the top has at most 64 words
 few_below : (x : Layers) → len_in x (LAYERS - 2) ≤ 64
 few_below x = (shaped x).short (LAYERS - 2) (lit< tt)
-
--- the top is one word
-one_at_top : (x : Layers) (p : ℕ) → 0 < p → word_in x (LAYERS - 1) p ≡ 0
-one_at_top x p some = get_or_past (get_or (lists x) (LAYERS - 1) []) p 0 (let h = (shaped x).short (LAYERS - 1) (lit< tt) in omega (arith, h, some))
 
 pub loop-layer-init : goal.loop-layer-init
 loop-layer-init c = record { some = omega arith; upto = omega arith; summed = λ k p below. absurd (omega (arith, below)); words = λ p. refl; lengths = λ k. refl }
