@@ -16,6 +16,7 @@ import subprocess
 import sys
 import tempfile
 from concurrent.futures import ThreadPoolExecutor
+from functools import cache
 from pathlib import Path
 
 CRATES = Path(__file__).resolve().parent.parent / "crates"
@@ -275,9 +276,21 @@ def compiled(folder):
     return library
 
 
+@cache
+def allocator_code(program):
+    """Where the allocator's code lies in a program: the offsets of its first byte, and of the byte after its last."""
+    symbols = subprocess.run(["nm", "--print-size", program], capture_output=True, text=True, check=True).stdout
+    found = re.findall(r"^(\w+) (\w+) T rattle_(?:re)?alloc$", symbols, re.M)
+    if len(found) != 2:
+        fail(f"{program}: its symbols rattle_alloc and rattle_realloc were not found")
+    places = [(int(start, 16), int(start, 16) + int(size, 16)) for start, size in found]
+    return f"{min(start for start, _ in places):x} {max(end for _, end in places):x}"
+
+
 def run(library, words, number, given=""):
     """How a program ends whose request of this number is refused: its status, and what it prints."""
-    how = {**os.environ, "LD_PRELOAD": library, "FAIL_ALLOCATION": str(number)}
+    chosen = {"LD_PRELOAD": library, "FAIL_ALLOCATION": str(number), "ALLOCATOR_CODE": allocator_code(words[0])}
+    how = {**os.environ, **chosen}
     ran = subprocess.run(words, env=how, capture_output=True, text=True, input=given, timeout=SECONDS)
     return ran.returncode, ran.stdout, ran.stderr
 
@@ -402,8 +415,8 @@ def executable(crate, name):
 
 def main():
     compare_lists()
-    if not shutil.which("cc"):
-        print("allocation_failures.py: no cc: allocations that fail are left out")
+    if not (shutil.which("cc") and shutil.which("nm")):
+        print("allocation_failures.py: no cc or no nm: allocations that fail are left out")
         return
     with tempfile.TemporaryDirectory() as folder, ThreadPoolExecutor(TOGETHER) as pool:
         library = compiled(folder)

@@ -1,7 +1,8 @@
 /* failing_allocation.c: makes one allocation of a program fail, the one whose number FAIL_ALLOCATION gives, from 1 on.
  *
- * LD_PRELOAD loads it before the C library. It counts the calls of malloc and realloc that the program itself makes, and
- * none that the C library makes for itself, as for a new thread. */
+ * LD_PRELOAD loads it before the C library. It counts the calls of malloc and realloc that the program's allocator makes,
+ * whose code lies where ALLOCATOR_CODE says: the offsets of its first byte and of the byte after its last, in base 16. A
+ * new thread takes memory too, by other code; where it gets none, the work is done without it. */
 #define _GNU_SOURCE
 #include <link.h>
 #include <stdatomic.h>
@@ -13,28 +14,26 @@
 void *__libc_malloc(size_t size);
 void *__libc_realloc(void *block, size_t size);
 
-/* Where the program's own code lies. */
+/* Where the allocator's code lies. */
 static uintptr_t code_start, code_end;
 
 /* So many calls are still to be made up to the one that fails, with it. */
 static atomic_long calls_left;
 
 static int find_code(struct dl_phdr_info *program, size_t size, void *param) {
-    (void)size, (void)param;
-    for (int i = 0; i < program->dlpi_phnum; i++) {
-        const ElfW(Phdr) *part = &program->dlpi_phdr[i];
-        if (part->p_type == PT_LOAD && (part->p_flags & PF_X)) {
-            code_start = program->dlpi_addr + part->p_vaddr;
-            code_end = code_start + part->p_memsz;
-        }
-    }
+    (void)size;
+    char *next;
+    code_start = program->dlpi_addr + strtoul(param, &next, 16);
+    code_end = program->dlpi_addr + strtoul(next, NULL, 16);
     return 1; /* The program is the first object of all. */
 }
 
 __attribute__((constructor)) static void begin(void) {
-    const char *number = getenv("FAIL_ALLOCATION");
-    dl_iterate_phdr(find_code, NULL);
-    atomic_store(&calls_left, number ? atol(number) : 0);
+    char *number = getenv("FAIL_ALLOCATION"), *code = getenv("ALLOCATOR_CODE");
+    if (number && code) {
+        dl_iterate_phdr(find_code, code);
+        atomic_store(&calls_left, atol(number));
+    }
 }
 
 static bool fails(void *caller) {
