@@ -55,6 +55,7 @@ impl<T: BitSetLike> Ranked<T> {
     pub fn new(alloc: Global, set: T) -> Result<Ranked<T>, AllocError>
         ensures set { IfOk result (λ ranked. counted_set ranked ≡ set) }
         ensures small { IfOk result (λ ranked. counts_len ranked ≤ MAX_EID / block_size + 1) }
+        ensures few { IfOk result (λ ranked. (blocks : ℕ) → ((i : ℕ) → i < MAX_EID → T.holds set i ≡ true → i < block_size * blocks) → counts_len ranked ≤ blocks + 1) }
     {
         let blocks = match set.last() {
             Some(last) => last as usize / BLOCK + 1,
