@@ -41,7 +41,8 @@ pub fn take_last_bit(word: &mut usize) -> usize
     ensures less { word.new < word.old }
 {
     let bit = last_bit(*word);
-    *word &= !(1 << bit);
+    // A rotation and not a shift: LLVM makes a shift one by the leading zeros, and counts these again.
+    *word &= (!1usize).rotate_left(bit as u32);
     bit
 }
 

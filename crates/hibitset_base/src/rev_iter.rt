@@ -109,7 +109,43 @@ fn descend_last<T: BitSetLike>(
     true
 }
 
-// Reads the word under the last place that is left, where none is left in layer 0. False if none is left.
+// Reads the word under the last bit that is left above layer 2. False if none is left.
+#[inline]
+fn refill_last_above2<T: BitSetLike>(
+    set: &T,
+    cursor: &mut RevCursor<LAYERS>,
+    reads: &mut Reads,
+) -> bool
+    requires { IsRevEmptyBelow cursor.old 3 }
+    ensures none { result ≡ false → IsRevEmptyBelow cursor.new LAYERS }
+    ensures goes { GoesBack LAYERS (T.holds set.now) (T.word set.now) reads.old.count (rev_left cursor.old) reads.new.count (rev_left cursor.new) }
+    ensures more { result ≡ true → reads.old.count < reads.new.count }
+{
+    if descend_last(set, cursor, reads, 3) {
+        return true;
+    }
+    descend_last(set, cursor, reads, 4)
+}
+
+// Reads the word under the last bit that is left above layer 1. False if none is left.
+#[inline]
+fn refill_last_above1<T: BitSetLike>(
+    set: &T,
+    cursor: &mut RevCursor<LAYERS>,
+    reads: &mut Reads,
+) -> bool
+    requires { IsRevEmptyBelow cursor.old 2 }
+    ensures none { result ≡ false → IsRevEmptyBelow cursor.new LAYERS }
+    ensures goes { GoesBack LAYERS (T.holds set.now) (T.word set.now) reads.old.count (rev_left cursor.old) reads.new.count (rev_left cursor.new) }
+    ensures more { result ≡ true → reads.old.count < reads.new.count }
+{
+    if descend_last(set, cursor, reads, 2) {
+        return true;
+    }
+    refill_last_above2(set, cursor, reads)
+}
+
+// Reads the word under the last bit that is left above layer 0. False if none is left.
 #[inline]
 fn refill_last<T: BitSetLike>(set: &T, cursor: &mut RevCursor<LAYERS>, reads: &mut Reads) -> bool
     requires { IsRevEmptyBelow cursor.old 1 }
@@ -117,12 +153,10 @@ fn refill_last<T: BitSetLike>(set: &T, cursor: &mut RevCursor<LAYERS>, reads: &m
     ensures goes { GoesBack LAYERS (T.holds set.now) (T.word set.now) reads.old.count (rev_left cursor.old) reads.new.count (rev_left cursor.new) }
     ensures more { result ≡ true → reads.old.count < reads.new.count }
 {
-    'layers: for layer in 1..LAYERS {
-        if descend_last(set, cursor, reads, layer) {
-            return true;
-        }
+    if descend_last(set, cursor, reads, 1) {
+        return true;
     }
-    false
+    refill_last_above1(set, cursor, reads)
 }
 
 // The last index that is left, which is taken.
