@@ -153,14 +153,14 @@ fn ends_where_a_read_fails(rt: HostRuntime) {
 #[test]
 fn ends_where_the_second_read_fails(rt: HostRuntime) {
     for most in [3, 8] {
-        let reader = Breaking {
+        let mut reader = Breaking {
             bytes: b"add a 5\n",
             most,
             reads_left: 1,
             kind: ErrorKind::Other,
         };
         let mut output = Vec::new(rt.alloc());
-        let ended = run_text(rt.alloc(), reader, &mut output);
+        let ended = run_text(rt.alloc(), &mut reader, &mut output);
         assert!(rt; ended.status() == 4 && output.is_empty());
     }
 }
@@ -168,7 +168,7 @@ fn ends_where_the_second_read_fails(rt: HostRuntime) {
 #[test]
 fn ends_where_the_first_write_fails(rt: HostRuntime) {
     let mut writer = Taking::new(rt.alloc(), usize::MAX, 0, ErrorKind::Other);
-    let ended = run_text(rt.alloc(), b"add a 5\n".as_slice(), &mut writer);
+    let ended = run_text(rt.alloc(), &mut b"add a 5\n".as_slice(), &mut writer);
     assert!(rt; ended.status() == 5 && writer.bytes.is_empty());
 }
 
