@@ -1,13 +1,12 @@
 -- A line is cut in one way alone.
-use Rattle.std.proofs.Common.{◌≡◌, ◌≢◌, ℕ, ◌^◌, ◌<◌, ◌≤◌, ◌+◌, Bool, true, false, not, ◌&&◌, ◌==◌, List, [], ◌∷◌, ◌++◌, length, refl, ap, sym, subst, ◌∙◌, arith, rules, codes, Bor, cond}
+use Rattle.std.proofs.Common.{◌≡◌, ◌≢◌, ℕ, true, not, ◌==◌, List, [], ◌∷◌, ◌++◌, refl, ap, sym, subst, ◌∙◌, arith, codes, Bor, cond}
 use Rattle.std.specs.Prelude.{Some, None}
 use Rattle.std.specs.Option.{option_map}
 use Rattle.std.specs.Str.{bytes_eq}
 use Rattle.std.specs.declared.option.Option.{Option}
-use Rattle.std.specs.List.{All, join_with_byte}
+use Rattle.std.specs.List.{join_with_byte}
 use Rattle.std.specs.Bool.{Decides}
-use Rattle.std.proofs.lemmas.Bool.Decides.{Decides-by_and, Decides-eqb, nat_tests}
-use Rattle.std.proofs.lemmas.Grind.{common_steps}
+use Rattle.std.proofs.lemmas.Bool.Decides.{Decides-by_and, nat_tests}
 use Rattle.hibitset_run.specs.declared.script.Slot.{Slot}
 use Rattle.hibitset_run.specs.declared.script.Slot.TheVariants.{A, B, C, D, E, F, G, H}
 use Rattle.hibitset_run.specs.declared.script.Command.{Command}
@@ -15,7 +14,7 @@ use Rattle.hibitset_run.specs.declared.script.Command.TheVariants as command
 use Rattle.hibitset_run.specs.declared.script.parse.Name.{Name}
 use Rattle.hibitset_run.specs.declared.script.parse.Name.TheVariants as name
 use Rattle.hibitset_run.specs.Text.{IsLine, Reads, letter_of, words_of}
-use Rattle.hibitset_run.specs.Reading.{Lacks, IsCut, IsOf, ReadsOf, lacks, after, tail_of, text_of_name, name_of, set_of, third_of}
+use Rattle.hibitset_run.specs.Reading.{Lacks, IsCut, ReadsOf, lacks, after, tail_of, text_of_name, name_of, set_of, third_of}
 
 decides : (byte b : ℕ) → Decides (not (b == byte)) (b ≢ byte)
 decides byte b = (λ e. λ same. grind (arith, nat_tests), λ apart. grind (arith, nat_tests))

@@ -1,5 +1,5 @@
 -- A line of a store is cut in one way alone.
-use Rattle.std.proofs.Common.{◌≡◌, ◌≢◌, ℕ, ◌^◌, ◌<◌, ◌≤◌, ◌+◌, ◌/◌, ◌%◌, Bool, true, false, not, ◌&&◌, ◌==◌, List, [], ◌∷◌, ◌++◌, refl, ap, sym, subst, ◌∙◌, arith, codes, Bor, cond}
+use Rattle.std.proofs.Common.{◌≡◌, ℕ, ◌^◌, ◌<◌, ◌+◌, ◌%◌, true, not, ◌&&◌, ◌==◌, List, [], ◌∷◌, ◌++◌, refl, ap, sym, subst, ◌∙◌, arith, codes, Bor, cond}
 use Rattle.std.specs.Prelude.{Some, None}
 use Rattle.std.specs.declared.option.Option.{Option}
 use Rattle.std.specs.Option.{option_map}
@@ -17,7 +17,7 @@ use Rattle.hibitset_run.specs.declared.store.text.Name.TheVariants as name
 use Rattle.hibitset_run.specs.Text.{Reads}
 use Rattle.hibitset_run.specs.StoreText.{IsLine, letter_of, words_of}
 use Rattle.hibitset_run.specs.Reading.{IsCut, lacks, after}
-use Rattle.hibitset_run.specs.StoreReading.{IsOf, ReadsOf, text_of_name, name_of, side_of, third_of, fourth_of, end_of, tail_of}
+use Rattle.hibitset_run.specs.StoreReading.{ReadsOf, text_of_name, name_of, side_of, third_of, fourth_of, end_of, tail_of}
 use Rattle.hibitset_run.proofs.Lines.{told, one_cut, tail_cut, text_in, some_inj, cut_after, cut_name}
 
 lacks_push : (byte : ℕ) (bs : List ℕ) (b : ℕ) → lacks byte bs ≡ true → byte < b → lacks byte (bs ++ b ∷ []) ≡ true

@@ -1,18 +1,17 @@
 -- Known bytes, lines and what the lines say.
-use Rattle.std.proofs.Common.{◌≡◌, ◌≢◌, ℕ, ◌<◌, ◌≤◌, ◌+◌, length-append, Bool, true, false, not, ◌&&◌, ◌==◌, List, [], ◌∷◌, ◌++◌, length, refl, ap, sym, subst, ◌∙◌, arith, append_assoc, append-nil, cond, take, drop, Bor, is_ok}
+use Rattle.std.proofs.Common.{◌≡◌, ℕ, ◌<◌, ◌+◌, length-append, Bool, true, false, not, ◌==◌, List, [], ◌∷◌, ◌++◌, length, refl, ap, sym, subst, ◌∙◌, arith, append_assoc, append-nil, cond, take, drop, Bor, is_ok}
 use Rattle.std.specs.Prelude.{Some, None, IfErr, IfSome, OnOk, Ok, Err}
 use Rattle.std.specs.Result.{IsErrAnd}
 use Rattle.std.specs.declared.option.Option.{Option}
 use Rattle.std.specs.declared.result.Result.{Result}
 use Rattle.std.specs.Option.{option_map, unwrap_or}
 use Rattle.std.specs.List.{join_by, flat_map, onto_first}
-use Rattle.std.specs.Fmt.{decimal}
 use Rattle.std.specs.Io.KnownBytes.{Appends, Consumes, Keeps, IsAtEnd}
 use Rattle.std.proofs.lemmas.Bool.Decides.{nat_tests}
 use Rattle.std.proofs.lemmas.List.{take-append-drop}
 use Rattle.std.proofs.lemmas.List.Concat.{flat_map-append}
 use Rattle.hibitset_run.specs.Text.{lines_of, Say, IsFirstBad, printed}
-use Rattle.hibitset_run.specs.Reading.{IsCut, Lacks, lacks, Moves, WritesFront}
+use Rattle.hibitset_run.specs.Reading.{IsCut, lacks, Moves, WritesFront}
 use Rattle.hibitset_run.proofs.Lines.{told, text_in}
 
 pub appends_none : (o : Option (List ℕ)) → Appends o o []
@@ -73,9 +72,14 @@ printed_end a b c text all h k = subst (Appends a c) (sym h.whole) (appends_more
 -- a front of what comes behind what is printed
 pub printed_front : (a b c : Option (List ℕ)) (text ready line more : List ℕ) (all whole : List ℕ) → IsPrinted a b text all → ready ≡ text ++ line → WritesFront b c ready → whole ≡ (all ++ line) ++ more → WritesFront a c whole
 printed_front a b c text ready line more all whole h is front e =
-    let m = front.1 in
-    (front.0 ++ more, (h.part ++ m.0, appends_more a b c h.part m.0 h.went m.1,
-        e ∙ ap (λ z. (z ++ line) ++ more) h.whole ∙ ap (λ z. z ++ more) (append_assoc h.part text line ∙ ap (λ z. h.part ++ z) (sym is ∙ m.2) ∙ sym (append_assoc h.part m.0 front.0)) ∙ append_assoc (h.part ++ m.0) front.0 more))
+    let m = front.1 in (
+      front.0 ++ more,
+      (
+        h.part ++ m.0,
+        appends_more a b c h.part m.0 h.went m.1,
+        e ∙ ap (λ z. (z ++ line) ++ more) h.whole ∙ ap (λ z. z ++ more) (append_assoc h.part text line ∙ ap (λ z. h.part ++ z) (sym is ∙ m.2) ∙ sym (append_assoc h.part m.0 front.0)) ∙ append_assoc (h.part ++ m.0) front.0 more,
+      ),
+    )
 
 -- what is printed is a front of what is to be printed
 pub printed_part : (a b : Option (List ℕ)) (text all more whole : List ℕ) → IsPrinted a b text all → whole ≡ all ++ more → WritesFront a b whole

@@ -1,14 +1,13 @@
 -- What the steps of reading a line say.
 use Rattle.std.specs.Prelude.{◌≡◌, ◌≢◌, ℕ, ◌+◌, ⊤, Bool, true, not, ◌&&◌, ◌==◌, List, [], ◌∷◌, ◌++◌, Option, Some, None, codes}
 use Rattle.std.specs.List.{All}
-use Rattle.std.specs.Option.{MatchOption, option_map}
 use Rattle.hibitset_run.specs.declared.script.Slot.{Slot}
 use Rattle.hibitset_run.specs.declared.script.Command.{Command}
 use Rattle.hibitset_run.specs.declared.script.Command.TheVariants as command
 use Rattle.hibitset_run.specs.declared.script.parse.Name.{Name}
 use Rattle.hibitset_run.specs.declared.script.parse.Name.TheVariants as name
 use Rattle.hibitset_run.specs.declared.script.text.Ended.{Ended}
-use Rattle.hibitset_run.specs.declared.script.text.Ended.TheVariants.{Done, BadLine, NoMemory, InputFailed, OutputFailed}
+use Rattle.hibitset_run.specs.declared.script.text.Ended.TheVariants.{BadLine, NoMemory, InputFailed, OutputFailed}
 use Rattle.std.specs.Io.KnownBytes.{Appends}
 use Rattle.hibitset_run.specs.Text.{letter_of, digit_of, Fits, IsFirstBad}
 use Rattle.std.specs.Fmt.{decimal}

@@ -1,4 +1,4 @@
-use Rattle.std.proofs.Common.{ap, subst, List, ℕ, Bor}
+use Rattle.std.proofs.Common.{subst}
 use Rattle.std.specs.Prelude.{None, Some}
 use Rattle.std.specs.Option.{option_map}
 use Rattle.hibitset_run.specs.Reading.{IsCut}

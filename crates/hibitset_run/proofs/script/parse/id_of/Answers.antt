@@ -1,4 +1,4 @@
-use Rattle.std.proofs.Common.{◌≡◌, ◌∷◌, [], ap, sym, ◌∙◌, drop, codes, true, false, arith}
+use Rattle.std.proofs.Common.{◌≡◌, sym, ◌∙◌, drop, codes, arith}
 use Rattle.std.proofs.lemmas.Bool.Decides.{Decides-eqb}
 use Rattle.std.proofs.lemmas.Slice.Eq.{slice_eq-Decides, starts_is}
 use Rattle.std.specs.Str.{IsUtf8, IsValidUpTo, valid_up_to}

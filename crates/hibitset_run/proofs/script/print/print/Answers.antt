@@ -1,4 +1,4 @@
-use Rattle.std.proofs.Common.{◌≡◌, ℕ, ◌+◌, [], ◌∷◌, ◌++◌, append-nil, get_or, drop, take, ap, sym, subst, ◌∙◌, is_ok, true}
+use Rattle.std.proofs.Common.{◌≡◌, ℕ, ◌+◌, [], ◌∷◌, ◌++◌, append-nil, drop, take, ap, sym, subst, ◌∙◌, is_ok, true}
 use Rattle.std.specs.Prelude.{string_bytes}
 use Rattle.std.proofs.lemmas.List.{take_all, take_more}
 use Rattle.std.proofs.lemmas.Result.{IfErr-weaker}
@@ -41,7 +41,7 @@ returns-in_err-put_piece-clause-err g c =
     let whole : printed shown replies ≡ (printed shown so_far ++ line) ++ others = printed_split shown replies (count + 1) ∙ ap (λ x. x ++ others) (ap (printed shown) more ∙ printed_push shown so_far reply) in
     let fault = c.in_err-put_piece.ensures.err in
     handed_on _ c.from_residual.result c.in_err-put_piece.field-0.0 c.from_residual.ensures.1
-        (fault.0, printed_front (g.W.Write.contents c.args.writer.now) (g.W.Write.contents c.loop-reply.writer) (g.W.Write.contents c.put_piece.new.writer) (string_bytes c.loop-reply.text) (string_bytes c.put_line.new.text) line others (printed shown so_far) (printed shown replies) c.loop-reply.invariant ready fault.1 whole)
+    (fault.0, printed_front (g.W.Write.contents c.args.writer.now) (g.W.Write.contents c.loop-reply.writer) (g.W.Write.contents c.put_piece.new.writer) (string_bytes c.loop-reply.text) (string_bytes c.put_line.new.text) line others (printed shown so_far) (printed shown replies) c.loop-reply.invariant ready fault.1 whole)
 
 pub returns-clause-err : goal.returns-clause-err
 returns-clause-err g c =
@@ -50,6 +50,8 @@ returns-clause-err g c =
     let text = string_bytes c.loop-reply.text in
     let all : take c.loop-reply.reply-index replies ≡ replies = take_all c.loop-reply.reply-index replies c.loop-reply-test.false in
     let whole : printed shown replies ≡ (printed shown (take c.loop-reply.reply-index replies) ++ []) ++ [] = sym (append-nil _ ∙ append-nil _ ∙ ap (printed shown) all) in
-    IfErr-weaker c.put_out.result _ _ (λ fault front. (front.0,
-        printed_front (g.W.Write.contents c.args.writer.now) (g.W.Write.contents c.loop-reply.writer) (g.W.Write.contents c.put_out.new.writer) text text [] [] (printed shown (take c.loop-reply.reply-index replies)) (printed shown replies) c.loop-reply.invariant (sym (append-nil text)) front.1 whole))
-        c.put_out.ensures.err
+    IfErr-weaker c.put_out.result _ _ (λ fault front. (
+      front.0,
+      printed_front (g.W.Write.contents c.args.writer.now) (g.W.Write.contents c.loop-reply.writer) (g.W.Write.contents c.put_out.new.writer) text text [] [] (printed shown (take c.loop-reply.reply-index replies)) (printed shown replies) c.loop-reply.invariant (sym (append-nil text)) front.1 whole,
+    ))
+    c.put_out.ensures.err

@@ -11,7 +11,8 @@ pub loop-round-preserved : goal.loop-round-preserved
 loop-round-preserved g c =
     let so_far = c.loop-round.invariant in
     let rest : List ℕ = c.loop-round.rest.now in
-    let count : ℕ = c.in-Some.count in
-    (so_far.0 ++ take count rest,
-        appends_more (g.W.Write.contents c.args.writer.now) (g.W.Write.contents c.loop-round.writer) (g.W.Write.contents c.put_some.new.writer) so_far.0 (take count rest) so_far.1 c.in-Some.ensures.written,
-        so_far.2 ∙ ap (λ z. so_far.0 ++ z) (sym (take-append-drop count rest)) ∙ sym (append_assoc so_far.0 (take count rest) (drop count rest)) ∙ ap (λ z. (so_far.0 ++ take count rest) ++ z) (sym (behind count rest)))
+    let count : ℕ = c.in-Some.count in (
+      so_far.0 ++ take count rest,
+      appends_more (g.W.Write.contents c.args.writer.now) (g.W.Write.contents c.loop-round.writer) (g.W.Write.contents c.put_some.new.writer) so_far.0 (take count rest) so_far.1 c.in-Some.ensures.written,
+      so_far.2 ∙ ap (λ z. so_far.0 ++ z) (sym (take-append-drop count rest)) ∙ sym (append_assoc so_far.0 (take count rest) (drop count rest)) ∙ ap (λ z. (so_far.0 ++ take count rest) ++ z) (sym (behind count rest)),
+    )

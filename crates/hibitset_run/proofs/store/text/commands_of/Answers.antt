@@ -1,4 +1,4 @@
-use Rattle.std.proofs.Common.{◌≡◌, ◌<◌, ℕ, ◌+◌, [], ◌∷◌, ◌++◌, length, refl, ap, sym, subst, arith, false-eqb, is_ok}
+use Rattle.std.proofs.Common.{◌≡◌, ◌<◌, ◌+◌, [], ◌∷◌, ◌++◌, length, refl, ap, sym, subst, arith, false-eqb, is_ok}
 use Rattle.std.proofs.ResultArms.{chosen}
 use Rattle.std.specs.Option.{option_map}
 use Rattle.hibitset_run.specs.Text.{lines_of}
