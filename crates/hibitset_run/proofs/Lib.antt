@@ -6,3 +6,10 @@ pub mod Runs
 pub mod Ranges
 pub mod Splits
 pub mod Storing
+pub mod Numbers
+pub mod Lines
+pub mod Texts
+pub mod StoreLines
+pub mod Programs
+pub mod OneText
+pub mod StoreOneText

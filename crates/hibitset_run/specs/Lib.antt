@@ -2,3 +2,8 @@ pub mod Script
 pub mod Ended
 pub mod Parts
 pub mod Store
+pub mod Text
+pub mod Reading
+pub mod StoreText
+pub mod StoreReading
+pub mod Program

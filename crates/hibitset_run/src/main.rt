@@ -8,7 +8,7 @@ use script::Ended;
 use std::process::ExitCode;
 
 fn main(rt: HostRuntime) -> ExitCode {
-    let ended = script::run_text(rt.alloc(), rt.stdin(), rt.stdout());
+    let ended = script::run_text(rt.alloc(), &mut rt.stdin(), &mut rt.stdout());
     if ended != Ended::Done {
         let _ = eprintln!(rt; "{ended}");
     }

@@ -12,7 +12,7 @@ mod text;
 
 use hibitset::util::MAX_EID;
 use hibitset::{BitSet, BitSetLike, Index};
-pub(crate) use parse::id_of;
+pub(crate) use parse::{cut, id_of};
 pub(crate) use print::{Printed, print};
 use std::alloc::{AllocError, Global};
 pub use text::{Ended, run_text};

@@ -9,7 +9,7 @@ use std::test::Fail;
 // What a script prints, and how it ends.
 pub(crate) fn printed(alloc: Global, script: &str) -> (Vec<u8>, Ended) {
     let mut output = Vec::new(alloc);
-    let ended = run_text(alloc, script.as_bytes(), &mut output);
+    let ended = run_text(alloc, &mut script.as_bytes(), &mut output);
     (output, ended)
 }
 

@@ -136,14 +136,14 @@ fn lines(alloc: Global, line: &str, count: u32) -> Result<String, AllocError> {
 #[test]
 fn ends_where_a_read_fails(rt: HostRuntime) {
     for kind in [ErrorKind::Other, ErrorKind::OutOfMemory] {
-        let reader = Breaking {
+        let mut reader = Breaking {
             bytes: b"add a 5\n",
             most: 3,
             reads_left: 3,
             kind,
         };
         let mut output = Vec::new(rt.alloc());
-        let ended = run_text(rt.alloc(), reader, &mut output);
+        let ended = run_text(rt.alloc(), &mut reader, &mut output);
         assert_eq!(rt; ended, Ended::InputFailed);
         assert_eq!(rt; output.len(), 0);
     }
@@ -153,14 +153,14 @@ fn ends_where_a_read_fails(rt: HostRuntime) {
 #[test]
 fn ends_where_the_second_read_fails(rt: HostRuntime) {
     for most in [3, 8] {
-        let reader = Breaking {
+        let mut reader = Breaking {
             bytes: b"add a 5\n",
             most,
             reads_left: 1,
             kind: ErrorKind::Other,
         };
         let mut output = Vec::new(rt.alloc());
-        let ended = run_text(rt.alloc(), reader, &mut output);
+        let ended = run_text(rt.alloc(), &mut reader, &mut output);
         assert!(rt; ended.status() == 4 && output.is_empty());
     }
 }
@@ -168,18 +168,18 @@ fn ends_where_the_second_read_fails(rt: HostRuntime) {
 #[test]
 fn ends_where_the_first_write_fails(rt: HostRuntime) {
     let mut writer = Taking::new(rt.alloc(), usize::MAX, 0, ErrorKind::Other);
-    let ended = run_text(rt.alloc(), b"add a 5\n".as_slice(), &mut writer);
+    let ended = run_text(rt.alloc(), &mut b"add a 5\n".as_slice(), &mut writer);
     assert!(rt; ended.status() == 5 && writer.bytes.is_empty());
 }
 
 #[test]
 fn reads_on_after_an_interruption(rt: HostRuntime) {
-    let reader = Halting {
+    let mut reader = Halting {
         bytes: b"add a 5\n",
         halted: false,
     };
     let mut output = Vec::new(rt.alloc());
-    assert_eq!(rt; run_text(rt.alloc(), reader, &mut output), Ended::Done);
+    assert_eq!(rt; run_text(rt.alloc(), &mut reader, &mut output), Ended::Done);
     assert_eq!(rt; output.as_slice(), b"false\n".as_slice());
 }
 
@@ -197,7 +197,7 @@ fn ends_where_a_write_fails(rt: HostRuntime) -> Result<(), Fail> {
                 writes: 0,
                 takes_text,
             };
-            let ended = run_text(rt.alloc(), script.as_bytes(), &mut writer);
+            let ended = run_text(rt.alloc(), &mut script.as_bytes(), &mut writer);
             assert_eq!(rt; ended, Ended::OutputFailed);
             assert_eq!(rt; writer.writes, 1);
         }
@@ -212,7 +212,7 @@ fn writes_nothing_where_nothing_is_asked(rt: HostRuntime) {
         writes: 0,
         takes_text: false,
     };
-    let ended = run_text(rt.alloc(), b"".as_slice(), &mut writer);
+    let ended = run_text(rt.alloc(), &mut b"".as_slice(), &mut writer);
     assert_eq!(rt; ended, Ended::Done);
     assert_eq!(rt; writer.writes, 0);
 }
@@ -224,14 +224,14 @@ fn ends_where_a_read_would_wait_or_ends_early(rt: HostRuntime) {
         ErrorKind::UnexpectedEof,
         ErrorKind::TimedOut,
     ] {
-        let reader = Breaking {
+        let mut reader = Breaking {
             bytes: b"add a 5\nlist a\n",
             most: 3,
             reads_left: 5,
             kind,
         };
         let mut output = Vec::new(rt.alloc());
-        let ended = run_text(rt.alloc(), reader, &mut output);
+        let ended = run_text(rt.alloc(), &mut reader, &mut output);
         assert_eq!(rt; ended, Ended::InputFailed);
         assert_eq!(rt; output.len(), 0);
     }
@@ -239,26 +239,26 @@ fn ends_where_a_read_would_wait_or_ends_early(rt: HostRuntime) {
 
 #[test]
 fn reads_to_the_first_end(rt: HostRuntime) {
-    let reader = EndingOnce {
+    let mut reader = EndingOnce {
         bytes: b"add a 5\nlist a",
         rest: b"\nadd a 6\n",
         ended: false,
     };
     let mut output = Vec::new(rt.alloc());
-    assert_eq!(rt; run_text(rt.alloc(), reader, &mut output), Ended::Done);
+    assert_eq!(rt; run_text(rt.alloc(), &mut reader, &mut output), Ended::Done);
     assert_eq!(rt; output.as_slice(), b"false\n5\n".as_slice());
 }
 
 #[test]
 fn reads_byte_by_byte(rt: HostRuntime) -> Result<(), Fail> {
     let script = lines(rt.alloc(), "add h 16777215\n", 7000)?;
-    let reader = EndingOnce {
+    let mut reader = EndingOnce {
         bytes: script.as_bytes(),
         rest: b"",
         ended: false,
     };
     let mut output = Vec::new(rt.alloc());
-    assert_eq!(rt; run_text(rt.alloc(), reader, &mut output), Ended::Done);
+    assert_eq!(rt; run_text(rt.alloc(), &mut reader, &mut output), Ended::Done);
     let mut wanted = String::new(rt.alloc());
     wanted.push_str("false\n")?;
     wanted.push_str(lines(rt.alloc(), "true\n", 6999)?.as_str())?;
@@ -270,7 +270,7 @@ fn reads_byte_by_byte(rt: HostRuntime) -> Result<(), Fail> {
 fn writes_three_bytes_at_a_time(rt: HostRuntime) {
     let script = b"add a 5\nadd a 16777215\nlist a\nsplit a 3\n";
     let mut writer = Taking::new(rt.alloc(), 3, 1000, ErrorKind::Other);
-    let ended = run_text(rt.alloc(), script.as_slice(), &mut writer);
+    let ended = run_text(rt.alloc(), &mut script.as_slice(), &mut writer);
     assert_eq!(rt; ended, Ended::Done);
     assert_eq!(rt;
         writer.bytes.as_slice(),
@@ -284,7 +284,7 @@ fn ends_where_the_second_write_fails(rt: HostRuntime) -> Result<(), Fail> {
     let script = lines(rt.alloc(), "has a 5\n", 20_000)?;
     for kind in [ErrorKind::Other, ErrorKind::BrokenPipe] {
         let mut writer = Taking::new(rt.alloc(), usize::MAX, 1, kind);
-        let ended = run_text(rt.alloc(), script.as_bytes(), &mut writer);
+        let ended = run_text(rt.alloc(), &mut script.as_bytes(), &mut writer);
         assert_eq!(rt; ended, Ended::OutputFailed);
         assert_eq!(rt; writer.writes_left, 0);
         let written = writer.bytes.len();
@@ -296,7 +296,7 @@ fn ends_where_the_second_write_fails(rt: HostRuntime) -> Result<(), Fail> {
 #[test]
 fn ends_where_a_write_takes_nothing(rt: HostRuntime) {
     let mut writer = Taking::new(rt.alloc(), 0, 1000, ErrorKind::Other);
-    let ended = run_text(rt.alloc(), b"has a 5\n".as_slice(), &mut writer);
+    let ended = run_text(rt.alloc(), &mut b"has a 5\n".as_slice(), &mut writer);
     assert_eq!(rt; ended, Ended::OutputFailed);
     assert_eq!(rt; writer.bytes.len(), 0);
 }
@@ -315,7 +315,7 @@ fn writes_a_long_last_list(rt: HostRuntime) -> Result<(), Fail> {
     script.push_str("list a")?;
     wanted.push_str("\n")?;
     let mut output = Vec::new(rt.alloc());
-    let ended = run_text(rt.alloc(), script.as_bytes(), &mut output);
+    let ended = run_text(rt.alloc(), &mut script.as_bytes(), &mut output);
     assert_eq!(rt; ended, Ended::Done);
     assert!(rt; output.as_slice() == wanted.as_bytes());
     Ok(())

@@ -1,0 +1,12 @@
+use Rattle.std.proofs.Common.{length}
+use Rattle.hibitset_run.specs.Text.{lines_of}
+use Rattle.hibitset_run.specs.StoreText.{IsLine}
+use Rattle.hibitset_run.proofs.Texts.{IsSaid}
+use Rattle.hibitset_run.proofs.store.text.commands_of.Given as goal
+
+-- the commands so far are those of the lines before the rest
+abbrev pub invariant-loop-rest : goal.invariant-loop-rest
+invariant-loop-rest l = IsSaid IsLine l.commands.items (lines_of l.lines) (lines_of l.rest)
+
+abbrev pub decreases-loop-rest : goal.decreases-loop-rest
+decreases-loop-rest l = length l.rest
