@@ -5,15 +5,24 @@
 //! An index that is out of range and a failed allocation are statuses. No export has a `requires`.
 #![tactic(auto)]
 
+pub mod atomic;
+pub mod atomic_set;
 pub mod build;
 pub mod change;
+mod collect;
 mod fill;
 pub mod handle;
+pub mod held_seat;
+pub mod kept;
+pub mod kept_handle;
+pub mod member;
 pub mod order;
 pub mod pair;
 mod raw_box;
 pub mod read;
+pub mod seat;
 pub mod seen;
 pub mod set;
+pub mod shared;
 pub mod status;
 pub mod words;

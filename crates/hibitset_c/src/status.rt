@@ -11,3 +11,12 @@ pub const NO_MEMORY: u32 = 2;
 
 /// An index or a length lies past the range, and nothing was changed.
 pub const OUT_OF_RANGE: u32 = 3;
+
+/// Of a shared set: another seat has it still, and nothing was changed.
+pub const SHARED: u32 = 4;
+
+/// The seat has one share of its set, and can't be divided.
+pub const ONE_SHARE: u32 = 5;
+
+/// There is no seat.
+pub const NO_SEAT: u32 = 6;
