@@ -268,6 +268,7 @@ struct worker {
     hibitset_seat_t seat;
     uint32_t step;
     size_t fresh;
+    bool keeps; /* Else it frees its seat when it ends. */
 };
 
 /* Adds the multiples of the step, and looks at each of them at once. */
@@ -280,6 +281,7 @@ static void *add_multiples(void *param) {
         worker->fresh += status == HIBITSET_OK;
         CHECK(hibitset_seat_contains(&worker->seat, index));
     }
+    if (!worker->keeps) hibitset_seat_free(&worker->seat);
     return NULL;
 }
 
@@ -312,17 +314,18 @@ static void many_adders(void) {
         workers[i].seat = seats[i + 1];
         workers[i].step = steps[i];
         workers[i].fresh = 0;
+        workers[i].keeps = i == 0;
         CHECK(pthread_create(&threads[i], NULL, add_multiples, &workers[i]) == 0);
     }
     watch(&seats[0]);
     for (i = 0; i < THREADS; i++) {
         CHECK(pthread_join(threads[i], NULL) == 0);
         fresh += workers[i].fresh;
-        CHECK(hibitset_seat_settle(&seats[0], &set) == HIBITSET_SHARED);
-        hibitset_seat_free(&workers[i].seat);
     }
     /* Each index was new to one call alone. */
     CHECK(fresh == ADDED - 2 && !hibitset_seat_is_whole(&seats[0]));
+    CHECK(hibitset_seat_settle(&seats[0], &set) == HIBITSET_SHARED);
+    hibitset_seat_free(&workers[0].seat);
     CHECK(hibitset_seat_settle(&seats[0], &set) == HIBITSET_OK && hibitset_atomic_len(&set) == ADDED);
     hibitset_atomic_free(&set);
 }
