@@ -1,5 +1,5 @@
 /*
- * hibitset.h: hierarchical bit sets of uint32_t indices below 2^30, and sets that threads add to at once, for C99 and C++.
+ * hibitset.h: hierarchical bit sets of uint32_t indices below 2^30, and sets that threads add to, for C99 and C++.
  *
  *     hibitset_t set = hibitset_new();
  *     if (hibitset_failed(hibitset_add(&set, 70000))) { ... }
@@ -349,9 +349,9 @@ bool hibitset_atomic_last(hibitset_atomic_t *set, uint32_t *index);
 /* Writes the members from `start` on into `buffer`, as hibitset_next_many does. */
 size_t hibitset_atomic_next_many(hibitset_atomic_t *set, uint32_t start, uint32_t *buffer, size_t len);
 
-/* Returns the word of a layer, 0 to 4, at a position, and 0 past the layers and their ends. Bit b of word p of layer 0 is
- * set if index 64 * p + b is a member; bit b of word p of a layer above, if word 64 * p + b of the layer below is not 0.
- * Layer 4 is one word, whatever the position is. */
+/* Returns the word of a layer, 0 to 4, at a position, and 0 past the layers and their ends. Bit b of word p of layer 0
+ * is set if index 64 * p + b is a member; bit b of word p of a layer above, if word 64 * p + b of the layer below is not
+ * 0. Layer 4 is one word, whatever the position is. */
 size_t hibitset_atomic_word(hibitset_atomic_t *set, size_t layer, size_t position);
 
 /* ---- Shared sets ---- */
@@ -394,8 +394,7 @@ static inline hibitset_status hibitset_seat_divide_among(hibitset_seat_t *seats,
 hibitset_status hibitset_seat_add(hibitset_seat_t *seat, uint32_t index);
 
 /* Returns whether an index is there. It is true of each index that the set had when it was shared, that this seat added,
- * or that it has seen before. Another thread's addition that has not ended may be seen or not. Without a seat it is false.
- */
+ * or that it has seen before. What another thread adds may be seen or not. Without a seat it is false. */
 bool hibitset_seat_contains(hibitset_seat_t *seat, uint32_t index);
 
 /* Walks over the shared set while others add, and adds to `set` what it gives: each index that the set had when it was

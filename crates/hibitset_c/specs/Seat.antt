@@ -1,6 +1,6 @@
 -- What a contract sees of a seat that C keeps.
 use Rattle.std.specs.Prelude.{◌≡◌, ℕ, ◌-◌, ◌/◌, Bool, List, [], Option, None, Some, is_some}
-use Rattle.hibitset_atomic.specs.Seats.{IsOld as IsOldOf, Known as KnownTo, weight_of as weight, reports_of as reports}
+use Rattle.hibitset_atomic.specs.Seats.{IsOld as IsOldOf, Known as KnownTo, weight_of as weight, reports_of as reports, loads_by as loads, exchanges_by as exchanges}
 use Rattle.hibitset_atomic.specs.declared.shared.parts.Seat.{Seat}
 use Rattle.hibitset_atomic.specs.declared.shared.parts.SharedBitSet.{SharedBitSet}
 use Rattle.hibitset_c.specs.Shared.{set_of as set_in}
@@ -64,6 +64,21 @@ reports_at (Some seat) = reports seat
 -- the indices that the seat's own additions put in, the newest first
 abbrev pub reports_of : HeldSeat → List ℕ
 reports_of h = reports_at (seat_of h)
+
+abbrev pub loads_at : Option Seat → ℕ
+loads_at None = 0
+loads_at (Some seat) = loads seat
+
+-- how many words the seat has loaded, and how many it has exchanged
+abbrev pub loads_by : HeldSeat → ℕ
+loads_by h = loads_at (seat_of h)
+
+abbrev pub exchanges_at : Option Seat → ℕ
+exchanges_at None = 0
+exchanges_at (Some seat) = exchanges seat
+
+abbrev pub exchanges_by : HeldSeat → ℕ
+exchanges_by h = exchanges_at (seat_of h)
 
 -- It is of the same set, with the same weight, and knows what it knew.
 pub record Keeps (old new : HeldSeat) : Type 0 where

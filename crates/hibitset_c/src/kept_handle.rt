@@ -10,7 +10,7 @@ use crate::raw_box::RawBox;
 use std::alloc::Global;
 use std::marker::Model;
 
-/// An atomic set, a seat, or neither: then the pointer is never followed.
+/// An atomic set or a seat, or neither: then the pointer is never followed.
 #[repr(C)]
 #[derive(Drop)]
 pub struct KeptHandle {

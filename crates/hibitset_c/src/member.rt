@@ -36,9 +36,9 @@ pub(crate) enum Settled {
 }
 
 impl Member {
-    ghost use Rattle.std.specs.Prelude.{◌≡◌, ◌≢◌, ◌⊎◌, ℕ, ◌<◌, ◌∷◌, true, false, Contains};
+    ghost use Rattle.std.specs.Prelude.{◌≡◌, ◌≢◌, ◌⊎◌, ℕ, ◌+◌, ◌<◌, ◌≤◌, ◌∷◌, true, false, Contains};
     ghost use Rattle.hibitset.specs.BitSet.{has as bits_have};
-    ghost use Rattle.hibitset_atomic.specs.Seats.{IsOld, Known, weight_of, reports_of};
+    ghost use Rattle.hibitset_atomic.specs.Seats.{IsOld, Known, weight_of, reports_of, loads_by, exchanges_by};
     ghost use Rattle.hibitset_atomic.specs.declared.atomic.TheConstants.{ATOMIC_MAX_EID};
     ghost use Rattle.hibitset_atomic.specs.declared.shared.sizes.TheConstants.{SHARES};
     ghost use Rattle.hibitset_c.specs.Member.{Keeps, DividesTo, SettlesTo};
@@ -64,6 +64,9 @@ impl Member {
         ensures there { result ≡ true → reports_of self.new.seat ≡ reports_of self.old.seat }
         ensures new { result ≡ false → (reports_of self.new.seat ≡ index ∷ reports_of self.old.seat) × ¬ IsOld (set_of self.old.set) index × ¬ Known self.old.seat index }
         ensures once { result ≡ false → ¬ Contains (reports_of self.old.seat) index }
+        ensures loads { loads_by self.new.seat ≤ loads_by self.old.seat + 7 }
+        ensures exchanges { exchanges_by self.new.seat ≤ exchanges_by self.old.seat + 4 }
+        ensures still { IsOld (set_of self.old.set) index ⊎ Known self.old.seat index → (loads_by self.new.seat ≤ loads_by self.old.seat + 4) × (exchanges_by self.new.seat ≡ exchanges_by self.old.seat) }
     {
         self.set.as_set().add_atomic(&mut self.seat, index)
     }
@@ -76,6 +79,7 @@ impl Member {
         ensures reports { reports_of self.new.seat ≡ reports_of self.old.seat }
         ensures yes { result ≡ true → (index < ATOMIC_MAX_EID) × Known self.new.seat index }
         ensures no { result ≡ false → ¬ IsOld (set_of self.old.set) index × ¬ Known self.new.seat index }
+        ensures steps { (loads_by self.new.seat ≤ loads_by self.old.seat + 4) × (exchanges_by self.new.seat ≡ exchanges_by self.old.seat) }
     {
         self.set.as_set().contains(&mut self.seat, index)
     }

@@ -1,13 +1,13 @@
 //! Calls on a seat of a shared set.
 #![tactic(auto)]
 
-ghost use Rattle.std.specs.Prelude.{◌≡◌, ◌≢◌, ◌⊎◌, ◌↔◌, ℕ, ◌<◌, ◌≤◌, ◌∷◌, true, false, Contains};
+ghost use Rattle.std.specs.Prelude.{◌≡◌, ◌≢◌, ◌⊎◌, ◌↔◌, ℕ, ◌+◌, ◌<◌, ◌≤◌, ◌∷◌, true, false, Contains};
 ghost use Rattle.hibitset_atomic.specs.declared.atomic.TheConstants.{ATOMIC_MAX_EID};
 ghost use Rattle.hibitset_atomic.specs.declared.shared.sizes.TheConstants.{SHARES};
 ghost use Rattle.hibitset_c.specs.Atomic.{has, HasAllRoom, OwnsNoMemory, IsSame as IsSameSet};
 ghost use Rattle.hibitset_c.specs.Kept.{IsOpening};
 ghost use Rattle.hibitset_c.specs.Member.{EndsAs};
-ghost use Rattle.hibitset_c.specs.Seat.{Holds, has_seat, set_of, IsOld, Known, weight_of, reports_of, Keeps, IsSame, AreHalves};
+ghost use Rattle.hibitset_c.specs.Seat.{Holds, has_seat, set_of, IsOld, Known, weight_of, reports_of, loads_by, exchanges_by, Keeps, IsSame, AreHalves};
 ghost use Rattle.hibitset_c.specs.Set.{has as plain_has};
 ghost use Rattle.hibitset_c.specs.declared.status.TheConstants.{OK, PRESENT, NO_MEMORY, OUT_OF_RANGE, SHARED, ONE_SHARE, NO_SEAT};
 
@@ -63,6 +63,9 @@ pub extern "C" fn hibitset_seat_add(seat: &mut HeldSeat, index: u32) -> u32
     ensures there { result ≢ OK → reports_of seat.new ≡ reports_of seat.old }
     ensures new { result ≡ OK → (reports_of seat.new ≡ index ∷ reports_of seat.old) × ¬ IsOld seat.old index × ¬ Known seat.old index }
     ensures once { result ≡ OK → ¬ Contains (reports_of seat.old) index }
+    ensures loads { loads_by seat.new ≤ loads_by seat.old + 7 }
+    ensures exchanges { exchanges_by seat.new ≤ exchanges_by seat.old + 4 }
+    ensures still { IsOld seat.old index ⊎ Known seat.old index → (loads_by seat.new ≤ loads_by seat.old + 4) × (exchanges_by seat.new ≡ exchanges_by seat.old) }
     ensures status { (result ≤ PRESENT) ⊎ (result ≡ OUT_OF_RANGE) ⊎ (result ≡ NO_SEAT) }
 {
     if !seat.made {
@@ -84,6 +87,7 @@ pub extern "C" fn hibitset_seat_contains(seat: &mut HeldSeat, index: u32) -> boo
     ensures no { result ≡ false → ¬ IsOld seat.old index × ¬ Known seat.new index }
     ensures keeps { Keeps seat.old seat.new }
     ensures reports { reports_of seat.new ≡ reports_of seat.old }
+    ensures steps { (loads_by seat.new ≤ loads_by seat.old + 4) × (exchanges_by seat.new ≡ exchanges_by seat.old) }
 {
     if !seat.made {
         return false;
