@@ -371,7 +371,7 @@ hibitset_status hibitset_atomic_share(hibitset_atomic_t *set, hibitset_seat_t *s
 
 /* Makes two seats of one, and leaves the second in `other`, for another thread. A seat that was there is freed. Of the
  * 65,536 shares of the set, the second seat has half of those that the first had.
- * HIBITSET_NO_MEMORY, HIBITSET_ONE_SHARE: the seat has one share, HIBITSET_NO_SEAT: both are unchanged. */
+ * HIBITSET_NO_MEMORY, HIBITSET_ONE_SHARE (the seat has one), HIBITSET_NO_SEAT: both are unchanged. */
 hibitset_status hibitset_seat_divide(hibitset_seat_t *seat, hibitset_seat_t *other);
 
 /* Makes `count` seats, at most 65,536, of the one in seats[0]. Those that were in the other places are freed.
@@ -407,7 +407,7 @@ bool hibitset_seat_is_whole(hibitset_seat_t *seat);
 
 /* Ends the shared set. Leaves in `set`, whose members are freed, the set held alone again, and no seat in `seat`. It has
  * exactly the indices from before it was shared and those that its seats put in. No addition to it allocates.
- * HIBITSET_SHARED: another seat is not freed yet, HIBITSET_NO_MEMORY, HIBITSET_NO_SEAT: both are unchanged. */
+ * HIBITSET_SHARED (another seat is not freed yet), HIBITSET_NO_MEMORY, HIBITSET_NO_SEAT: both are unchanged. */
 hibitset_status hibitset_seat_settle(hibitset_seat_t *seat, hibitset_atomic_t *set);
 
 /* Gives the seat up. What it added stays in the set, which is freed with the last seat. There is no seat then, as
