@@ -3,7 +3,8 @@
 
 Functions  Each function that the header declares without a body is an export of the crate, with the same parameters, in
            name and type, and the same result; and each export is declared.
-Layouts    `Set` and `Seen` of the crate have the same fields in the same places, and `hibitset_t` has them too.
+Layouts    `Set` and `Seen` of the crate have the same fields in the same places, and `hibitset_t` has them too; so do
+           `AtomicSet` and `hibitset_atomic_t`, and `HeldSeat` and `hibitset_seat_t`.
 Statuses   The enumerators of hibitset_status are the constants of status.rt.
 
 It prints a line for each fault, and ends with status 1 where there is one.
@@ -21,6 +22,8 @@ TYPES = {
     "Global": [],
     "&mut Set": [("hibitset_t *", "")],
     "&Seen<'_>": [("const hibitset_t *", "")],
+    "&mut AtomicSet": [("hibitset_atomic_t *", "")],
+    "&mut HeldSeat": [("hibitset_seat_t *", "")],
     "u32": [("uint32_t", "")],
     "usize": [("size_t", "")],
     "&mut u32": [("uint32_t *", "")],
@@ -30,6 +33,9 @@ TYPES = {
     "&[usize]": [("const uint64_t *", ""), ("size_t", "len")],
 }
 RESULTS = {"": "void", "bool": "bool", "usize": "size_t", "u32": "hibitset_status"}
+
+# The structs of the crate that are seen as a struct of the header.
+LAYOUTS = [(["Set", "Seen"], "hibitset"), (["AtomicSet"], "hibitset_atomic"), (["HeldSeat"], "hibitset_seat")]
 
 # The size of a field; all are aligned to it.
 SIZES = {"usize": 8, "*const usize": 8, "bool": 1}
@@ -87,12 +93,12 @@ def placed(sizes):
     return found
 
 
-def c_fields(header):
-    """The fields of hibitset_t, in the same form."""
-    body = re.search(r"typedef struct hibitset \{\n(.*?)^\} hibitset_t;", header, re.M | re.S)[1]
+def c_fields(name, header):
+    """The fields of a struct of the header, in the same form."""
+    body = re.search(rf"typedef struct {name} \{{\n(.*?)^\}} {name}_t;", header, re.M | re.S)[1]
     layers = re.search(r"struct \{\s*const uint64_t \*words;\s*size_t len;\s*\} layers_\[4\];", body)
-    rest = re.findall(r"^    (uint64_t |void \*|bool )\w+;", body[layers.end() :], re.M)
-    return placed([8, 8] * 4 + [{"uint64_t ": 8, "void *": 8, "bool ": 1}[kind] for kind in rest])
+    rest = re.findall(r"^    (uint64_t |void \*|bool )\w+;", body[layers.end() if layers else 0 :], re.M)
+    return placed(([8, 8] * 4 if layers else []) + [{"uint64_t ": 8, "void *": 8, "bool ": 1}[kind] for kind in rest])
 
 
 def faults():
@@ -102,10 +108,12 @@ def faults():
         ours, theirs = of_crate.get(name), of_header.get(name)
         if ours != theirs:
             yield f"{name}: the crate exports {ours}, the header declares {theirs}"
-    types = "".join((CRATE / f"{name}.rt").read_text(encoding="utf-8") for name in ("words", "handle", "set", "seen"))
-    layouts = {"Set": fields("Set", types), "Seen": fields("Seen", types), "hibitset_t": c_fields(header)}
-    if len(set(map(tuple, layouts.values()))) > 1:
-        yield f"the layouts differ: {layouts}"
+    files = ("words", "handle", "set", "seen", "kept_handle", "atomic_set", "held_seat")
+    types = "".join((CRATE / f"{name}.rt").read_text(encoding="utf-8") for name in files)
+    for ours, theirs in LAYOUTS:
+        layouts = {name: fields(name, types) for name in ours} | {f"{theirs}_t": c_fields(theirs, header)}
+        if len(set(map(tuple, layouts.values()))) > 1:
+            yield f"the layouts differ: {layouts}"
     status = (CRATE / "status.rt").read_text(encoding="utf-8")
     ours = {f"HIBITSET_{name}": value for name, value in re.findall(r"pub const (\w+): u32 = (\d+);", status)}
     theirs = dict(re.findall(r"^    (HIBITSET_\w+) = (\d+)", header, re.M))

@@ -1,5 +1,5 @@
 /*
- * hibitset.h: hierarchical bit sets of uint32_t indices below 2^30, for C99 and C++.
+ * hibitset.h: hierarchical bit sets of uint32_t indices below 2^30, and sets that threads add to, for C99 and C++.
  *
  *     hibitset_t set = hibitset_new();
  *     if (hibitset_failed(hibitset_add(&set, 70000))) { ... }
@@ -16,6 +16,9 @@
  * - A function that takes a set as `hibitset_t *` has it alone. Any number of functions may take one as
  *   `const hibitset_t *` at once, on any threads, while no function changes it. A set may go from one thread to another,
  *   as any other memory.
+ * - The same holds of a hibitset_atomic_t, which hibitset_atomic_new returns, and of a hibitset_seat_t, which
+ *   hibitset_seat_new returns: each is moved and never copied. Every function has it alone, those that only look too.
+ *   Seats of one shared set are in calls at once, on any threads, as long as each seat is in one.
  * - No pointer is NULL, unless a length of 0 goes with it, and as much memory lies behind each as is said. Sets, buffers
  *   and results do not overlap, except that two operands may be the same set.
  * - malloc, realloc and free are those of one allocator. No function is called from a signal handler, nor in the child
@@ -39,15 +42,21 @@ extern "C" {
 /* Every index in a set is less than this. */
 #define HIBITSET_MAX_EID UINT32_C(1073741824)
 
+/* Every index in an atomic set or a shared set is less than this. */
+#define HIBITSET_ATOMIC_MAX_EID UINT32_C(16777216)
+
 /* The most words that layer 0 of a set has. */
 #define HIBITSET_MAX_WORDS UINT32_C(16777216)
 
 /* What a function returns that can fail. */
 typedef enum hibitset_status {
-    HIBITSET_OK = 0,          /* Done. Of hibitset_add: the index was not a member before. */
-    HIBITSET_PRESENT = 1,     /* Of hibitset_add: the index was a member before. */
-    HIBITSET_NO_MEMORY = 2,   /* An allocation failed. The function says what it leaves. */
-    HIBITSET_OUT_OF_RANGE = 3 /* An index or a length is out of range. The function says what it leaves. */
+    HIBITSET_OK = 0,           /* Done. Of an addition of one index: it was not a member before. */
+    HIBITSET_PRESENT = 1,      /* Of an addition of one index: it was a member before. */
+    HIBITSET_NO_MEMORY = 2,    /* An allocation failed. The function says what it leaves. */
+    HIBITSET_OUT_OF_RANGE = 3, /* An index or a length is out of range. The function says what it leaves. */
+    HIBITSET_SHARED = 4,       /* Of hibitset_seat_settle: the set has another seat. */
+    HIBITSET_ONE_SHARE = 5,    /* Of hibitset_seat_divide: the seat has one share of its set. */
+    HIBITSET_NO_SEAT = 6       /* Of the functions on a seat: there is none. */
 } hibitset_status;
 
 /* A set. Its fields are the library's. */
@@ -82,7 +91,7 @@ static inline hibitset_t hibitset_new(void) {
  * again, or left. */
 void hibitset_free(hibitset_t *set);
 
-/* Returns whether a status is an error: HIBITSET_NO_MEMORY or HIBITSET_OUT_OF_RANGE. */
+/* Returns whether a status is an error: neither HIBITSET_OK nor HIBITSET_PRESENT. */
 static inline bool hibitset_failed(hibitset_status status) { return status >= HIBITSET_NO_MEMORY; }
 
 /* ---- Capacity ---- */
@@ -285,6 +294,125 @@ size_t hibitset_xor_next_many(const hibitset_t *a, const hibitset_t *b, uint32_t
 
 /* As hibitset_next_many, of the members of `a` that `b` lacks. */
 size_t hibitset_andnot_next_many(const hibitset_t *a, const hibitset_t *b, uint32_t start, uint32_t *buffer, size_t len);
+
+/* ---- Atomic sets ---- */
+
+/* A set of indices below HIBITSET_ATOMIC_MAX_EID that can be shared by threads. Its fields are the library's. */
+typedef struct hibitset_atomic {
+    void *set_;
+    bool made_;
+} hibitset_atomic_t;
+
+/* A seat of a shared set: what one thread adds and looks with. Its fields are the library's. */
+typedef struct hibitset_seat {
+    void *seat_;
+    bool made_;
+} hibitset_seat_t;
+
+/* Returns an empty set. It takes no memory until the first member. */
+static inline hibitset_atomic_t hibitset_atomic_new(void) {
+    hibitset_atomic_t set;
+    set.set_ = NULL;
+    set.made_ = false;
+    return set;
+}
+
+/* Removes all members and frees the memory. The set is then as hibitset_atomic_new returns one. */
+void hibitset_atomic_free(hibitset_atomic_t *set);
+
+/* Adds an index, less than HIBITSET_ATOMIC_MAX_EID. HIBITSET_OK: it is new. HIBITSET_PRESENT: it was a member.
+ * HIBITSET_NO_MEMORY (never if an index of the same 4,096 was added before, nor to a set that hibitset_seat_settle left),
+ * HIBITSET_OUT_OF_RANGE: the members are unchanged. */
+hibitset_status hibitset_atomic_add(hibitset_atomic_t *set, uint32_t index);
+
+/* Removes an index, and returns whether it was a member. */
+bool hibitset_atomic_remove(hibitset_atomic_t *set, uint32_t index);
+
+/* Removes all members. The memory is kept for later ones. */
+void hibitset_atomic_clear(hibitset_atomic_t *set);
+
+/* Returns whether an index is a member; false for one out of range. */
+bool hibitset_atomic_contains(hibitset_atomic_t *set, uint32_t index);
+
+/* Returns the number of members. */
+size_t hibitset_atomic_len(hibitset_atomic_t *set);
+
+/* Returns whether there is no member. */
+bool hibitset_atomic_is_empty(hibitset_atomic_t *set);
+
+/* Leaves the least member in `*index` and returns true. If there is none, returns false and leaves `*index`. */
+bool hibitset_atomic_first(hibitset_atomic_t *set, uint32_t *index);
+
+/* Leaves the greatest member in `*index` and returns true. If there is none, returns false and leaves `*index`. */
+bool hibitset_atomic_last(hibitset_atomic_t *set, uint32_t *index);
+
+/* Writes the members from `start` on into `buffer`, as hibitset_next_many does. */
+size_t hibitset_atomic_next_many(hibitset_atomic_t *set, uint32_t start, uint32_t *buffer, size_t len);
+
+/* Returns the word of a layer, 0 to 4, at a position, and 0 past the layers and their ends. Bit b of word p of layer 0
+ * is set if index 64 * p + b is a member; bit b of word p of a layer above, if word 64 * p + b of the layer below is not
+ * 0. Layer 4 is one word, whatever the position is. */
+size_t hibitset_atomic_word(hibitset_atomic_t *set, size_t layer, size_t position);
+
+/* ---- Shared sets ---- */
+
+/* Returns no seat: what hibitset_atomic_share and hibitset_seat_divide put one into. */
+static inline hibitset_seat_t hibitset_seat_new(void) {
+    hibitset_seat_t seat;
+    seat.seat_ = NULL;
+    seat.made_ = false;
+    return seat;
+}
+
+/* Makes a shared set of `set`, which is empty then, and leaves the first of its seats in `seat`. A seat that was there is
+ * freed. All words are made here, 2 MB, so that no addition allocates.
+ * HIBITSET_NO_MEMORY: the members of `set`, and `seat`, are unchanged. */
+hibitset_status hibitset_atomic_share(hibitset_atomic_t *set, hibitset_seat_t *seat);
+
+/* Makes two seats of one, and leaves the second in `other`, for another thread. A seat that was there is freed. Of the
+ * 65,536 shares of the set, the second seat has half of those that the first had.
+ * HIBITSET_NO_MEMORY, HIBITSET_ONE_SHARE (the seat has one), HIBITSET_NO_SEAT: both are unchanged. */
+hibitset_status hibitset_seat_divide(hibitset_seat_t *seat, hibitset_seat_t *other);
+
+/* Makes `count` seats, at most 65,536, of the one in seats[0]. Those that were in the other places are freed.
+ * An error of hibitset_seat_divide: some of the other places have a seat of the set, and seats[0] has one still. */
+static inline hibitset_status hibitset_seat_divide_among(hibitset_seat_t *seats, size_t count) {
+    size_t have, i;
+    for (have = 1; have < count; have *= 2) {
+        for (i = 0; i < have && have + i < count; i++) {
+            hibitset_status status = hibitset_seat_divide(&seats[i], &seats[have + i]);
+            if (hibitset_failed(status)) return status;
+        }
+    }
+    return HIBITSET_OK;
+}
+
+/* Adds an index, less than HIBITSET_ATOMIC_MAX_EID, while other seats add too. It takes no lock, allocates nothing, and
+ * makes at most seven loads and four exchanges. HIBITSET_OK: this call put it in. HIBITSET_PRESENT: it was there. Either
+ * way hibitset_seat_contains finds it with this seat from then on.
+ * HIBITSET_OUT_OF_RANGE, HIBITSET_NO_SEAT: nothing is changed. */
+hibitset_status hibitset_seat_add(hibitset_seat_t *seat, uint32_t index);
+
+/* Returns whether an index is there. It is true of each index that the set had when it was shared, that this seat added,
+ * or that it has seen before. What another thread adds may be seen or not. Without a seat it is false. */
+bool hibitset_seat_contains(hibitset_seat_t *seat, uint32_t index);
+
+/* Walks over the shared set while others add, and adds to `set` what it gives: each index that the set had when it was
+ * shared, that this seat added, or that it has seen before. An index that comes in meanwhile may be given or not.
+ * HIBITSET_NO_MEMORY: `set` has its old members, and a part of those. HIBITSET_NO_SEAT: nothing is changed. */
+hibitset_status hibitset_seat_collect(hibitset_seat_t *seat, hibitset_t *set);
+
+/* Returns whether the seat has all shares of its set: no other has been made of it. */
+bool hibitset_seat_is_whole(hibitset_seat_t *seat);
+
+/* Ends the shared set. Leaves in `set`, whose members are freed, the set held alone again, and no seat in `seat`. It has
+ * exactly the indices from before it was shared and those that its seats put in. No addition to it allocates.
+ * HIBITSET_SHARED (another seat is not freed yet), HIBITSET_NO_MEMORY, HIBITSET_NO_SEAT: both are unchanged. */
+hibitset_status hibitset_seat_settle(hibitset_seat_t *seat, hibitset_atomic_t *set);
+
+/* Gives the seat up. What it added stays in the set, which is freed with the last seat. There is no seat then, as
+ * hibitset_seat_new returns it. */
+void hibitset_seat_free(hibitset_seat_t *seat);
 
 #ifdef __cplusplus
 }

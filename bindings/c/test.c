@@ -1,18 +1,6 @@
-/* Tests of each function of hibitset.h beside a model. They end with status 0, or say which line failed. malloc and
- * realloc are wrapped (-Wl,--wrap), so that each allocation can fail in turn. */
-#include "hibitset.h"
+/* Tests of each function on a hibitset_t beside a model. They end with status 0, or say which line failed. */
+#include "testing.h"
 #include <pthread.h>
-#include <stdio.h>
-#include <stdlib.h>
-#include <string.h>
-
-#define CHECK(x)                                                   \
-    do {                                                           \
-        if (!(x)) {                                                \
-            fprintf(stderr, "%s:%d: %s\n", __FILE__, __LINE__, #x); \
-            exit(1);                                               \
-        }                                                          \
-    } while (0)
 
 /* The library returns a status as a uint32_t, and takes a set as 88 bytes. */
 typedef char status_has_4_bytes[sizeof(hibitset_status) == 4 ? 1 : -1];
@@ -20,38 +8,6 @@ typedef char set_has_88_bytes[sizeof(hibitset_t) == 88 ? 1 : -1];
 typedef char top_is_at_64[offsetof(hibitset_t, top_) == 64 ? 1 : -1];
 typedef char set_is_at_72[offsetof(hibitset_t, set_) == 72 ? 1 : -1];
 typedef char made_is_at_80[offsetof(hibitset_t, made_) == 80 ? 1 : -1];
-
-/* ---- Allocations that fail ---- */
-
-void *__real_malloc(size_t size);
-void *__real_realloc(void *block, size_t size);
-void *__wrap_malloc(size_t size);
-void *__wrap_realloc(void *block, size_t size);
-
-static long allocations_left = -1; /* So many succeed; -1: all do. */
-static long allocations;
-
-static bool fails(void) {
-    allocations++;
-    if (allocations_left < 0) return false;
-    if (allocations_left == 0) return true;
-    allocations_left--;
-    return false;
-}
-
-void *__wrap_malloc(size_t size) { return fails() ? NULL : __real_malloc(size); }
-void *__wrap_realloc(void *block, size_t size) { return fails() ? NULL : __real_realloc(block, size); }
-
-/* ---- Random numbers ---- */
-
-static uint64_t state = 88172645463325252u;
-
-static uint32_t random_below(uint32_t bound) {
-    state ^= state << 13;
-    state ^= state >> 7;
-    state ^= state << 17;
-    return (uint32_t)((state >> 20) % bound);
-}
 
 /* ---- One set beside its model, a byte for each index below RANGE ---- */
 
@@ -368,6 +324,20 @@ static void empty_sets(void) {
     hibitset_free(&other);
 }
 
+/* NULL is a buffer of length 0, also where there are members. */
+static void null_buffers(void) {
+    hibitset_t set = hibitset_new();
+    size_t added = 7;
+    CHECK(hibitset_add_range(&set, 5, 5000) == HIBITSET_OK);
+    CHECK(hibitset_next_many(&set, 0, NULL, 0) == 0 && hibitset_not_next_many(&set, 0, NULL, 0) == 0);
+    CHECK(hibitset_prev_many(&set, HIBITSET_MAX_EID, NULL, 0) == 0);
+    CHECK(hibitset_and_next_many(&set, &set, 0, NULL, 0) == 0 && hibitset_or_next_many(&set, &set, 0, NULL, 0) == 0);
+    CHECK(hibitset_xor_next_many(&set, &set, 0, NULL, 0) == 0 && hibitset_andnot_next_many(&set, &set, 0, NULL, 0) == 0);
+    CHECK(hibitset_add_many(&set, NULL, 0, &added) == HIBITSET_OK && added == 0 && hibitset_len(&set) == 4995);
+    CHECK(hibitset_assign_words(&set, NULL, 0) == HIBITSET_OK && hibitset_is_empty(&set) && hibitset_capacity(&set) == 0);
+    hibitset_free(&set);
+}
+
 static void out_of_range(void) {
     static const uint32_t list[] = {5, 9, HIBITSET_MAX_EID, 6}, bad[] = {UINT32_MAX};
     hibitset_t set = hibitset_new();
@@ -553,6 +523,7 @@ static void many_readers(void) {
 int main(void) {
     random_changes();
     empty_sets();
+    null_buffers();
     out_of_range();
     one_set_twice();
     failing_allocations();

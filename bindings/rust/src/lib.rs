@@ -34,6 +34,7 @@
 //! | `last` and `first_gap` of these; all of a virtual set that is nested deeper, or has another type's set in it | this crate's Rust, over the words of the sets |
 //! | an assignment by such a set | this crate's Rust makes a copy of it, then proved code |
 //! | `contains` of a virtual set | proved `contains` of its operands, put together by this crate's Rust |
+//! | those of [`AtomicBitSet`] and [`Seat`] | proved code; an iteration of an [`AtomicBitSet`], and a virtual set over one, is this crate's Rust, over words that proved code reads |
 //! | [`Ranked`] | counts by proved calls; the sum of a count and a proved [`len_range`](BitSet::len_range), and the search for a position, by this crate's Rust |
 //! | single words, as [`BitSetLike::layer0`], and slices | this crate's Rust, which reads the words that the library made |
 //!
@@ -52,6 +53,7 @@
 compile_error!("the library is built for targets of 64 bits");
 
 mod assign;
+mod atomic;
 mod cursor;
 mod drain;
 mod error;
@@ -63,15 +65,18 @@ mod ops;
 mod order;
 mod ranked;
 mod raw;
+mod seat;
 mod set;
 mod virt;
 
+pub use atomic::AtomicBitSet;
 pub use drain::DrainBitIter;
 pub use error::AllocError;
 pub use iter::BitIter;
 pub use like::{BitSetLike, DrainableBitSet};
 pub use order::BitRevIter;
 pub use ranked::Ranked;
+pub use seat::{Seat, SettleError};
 pub use set::BitSet;
 pub use virt::{BitSetAll, BitSetAnd, BitSetNot, BitSetOr, BitSetXor};
 
@@ -83,6 +88,9 @@ pub const LAYERS: usize = 5;
 
 /// Indices lie below this bound, 2<sup>30</sup>.
 pub const MAX_EID: usize = 1 << (BITS * LAYERS);
+
+/// Indices of an [`AtomicBitSet`] lie below this bound, 2<sup>24</sup>.
+pub const ATOMIC_MAX_EID: usize = 1 << (BITS * (LAYERS - 1));
 
 // The base two logarithm of the bits of a word.
 const BITS: usize = 6;

@@ -2,6 +2,7 @@
 
 use std::ops::{BitAnd, BitOr, BitXor, Not, Sub};
 
+use crate::atomic::AtomicBitSet;
 use crate::iter::BitIter;
 use crate::like::BitSetLike;
 use crate::set::BitSet;
@@ -67,6 +68,8 @@ macro_rules! operators {
 operators! {
     <> BitSet;
     <'a> &'a BitSet;
+    <> AtomicBitSet;
+    <'a> &'a AtomicBitSet;
     <A> BitSetNot<A>;
     <'a A> &'a BitSetNot<A>;
     <A, B> BitSetAnd<A, B>;

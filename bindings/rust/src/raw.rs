@@ -1,4 +1,4 @@
-//! The library's functions, as `hibitset.h` declares them, and the struct that they work on.
+//! The library's functions, as `hibitset.h` declares them, and the structs that they work on.
 //!
 //! All that this crate trusts of the library is here.
 
@@ -13,6 +13,10 @@ pub(crate) const OK: u32 = 0;
 pub(crate) const PRESENT: u32 = 1;
 /// An allocation failed.
 pub(crate) const NO_MEMORY: u32 = 2;
+/// Of `hibitset_seat_settle`: another seat has the set still.
+pub(crate) const SHARED: u32 = 4;
+/// Of `hibitset_seat_divide`: the seat has one share of its set.
+pub(crate) const ONE_SHARE: u32 = 5;
 
 /// A layer without words begins here.
 const NO_WORD: &usize = &0;
@@ -77,6 +81,62 @@ impl Set {
     #[inline]
     pub(crate) fn top(&self) -> usize {
         self.top
+    }
+}
+
+/// `hibitset_atomic_t`. It is moved and never copied, and only `new` and the functions below write its fields.
+#[repr(C)]
+pub(crate) struct Atomic {
+    block: *mut u8,
+    made: bool,
+}
+
+/// `hibitset_seat_t`, as `Atomic` is `hibitset_atomic_t`.
+#[repr(C)]
+pub(crate) struct Seat {
+    block: *mut u8,
+    made: bool,
+}
+
+const _: () = assert!(size_of::<Atomic>() == 16 && align_of::<Atomic>() == 8);
+const _: () = assert!(size_of::<Seat>() == 16 && align_of::<Seat>() == 8);
+
+// SAFETY: what it points to is its own, and the library keeps nothing of a thread. Each function takes it by `&mut`.
+unsafe impl Send for Atomic {}
+
+// SAFETY: the words of its set are shared with other seats, whose calls on any threads change them by atomic steps. All
+// else is its own, and the library keeps nothing of a thread. Each function takes it by `&mut`.
+unsafe impl Send for Seat {}
+
+impl Atomic {
+    /// The empty set, which has no memory.
+    pub(crate) const fn new() -> Atomic {
+        Atomic {
+            block: null_mut(),
+            made: false,
+        }
+    }
+
+    /// Whether the set has memory, which is to be freed.
+    #[inline]
+    pub(crate) fn has_memory(&self) -> bool {
+        self.made
+    }
+}
+
+impl Seat {
+    /// No seat.
+    pub(crate) const fn new() -> Seat {
+        Seat {
+            block: null_mut(),
+            made: false,
+        }
+    }
+
+    /// Whether there is a seat, which is to be freed.
+    #[inline]
+    pub(crate) fn has_memory(&self) -> bool {
+        self.made
     }
 }
 
@@ -159,6 +219,36 @@ unsafe extern "C" {
         buffer: *mut Index,
         len: usize,
     ) -> usize;
+
+    pub(crate) safe fn hibitset_atomic_free(set: &mut Atomic);
+    pub(crate) safe fn hibitset_atomic_add(set: &mut Atomic, index: Index) -> u32;
+    pub(crate) safe fn hibitset_atomic_remove(set: &mut Atomic, index: Index) -> bool;
+    pub(crate) safe fn hibitset_atomic_clear(set: &mut Atomic);
+    pub(crate) safe fn hibitset_atomic_contains(set: &mut Atomic, index: Index) -> bool;
+    pub(crate) safe fn hibitset_atomic_len(set: &mut Atomic) -> usize;
+    pub(crate) safe fn hibitset_atomic_is_empty(set: &mut Atomic) -> bool;
+    pub(crate) safe fn hibitset_atomic_first(set: &mut Atomic, index: &mut Index) -> bool;
+    pub(crate) safe fn hibitset_atomic_last(set: &mut Atomic, index: &mut Index) -> bool;
+    fn hibitset_atomic_next_many(
+        set: &mut Atomic,
+        start: Index,
+        buffer: *mut Index,
+        len: usize,
+    ) -> usize;
+    pub(crate) safe fn hibitset_atomic_word(
+        set: &mut Atomic,
+        layer: usize,
+        position: usize,
+    ) -> usize;
+
+    pub(crate) safe fn hibitset_atomic_share(set: &mut Atomic, seat: &mut Seat) -> u32;
+    pub(crate) safe fn hibitset_seat_free(seat: &mut Seat);
+    pub(crate) safe fn hibitset_seat_add(seat: &mut Seat, index: Index) -> u32;
+    pub(crate) safe fn hibitset_seat_contains(seat: &mut Seat, index: Index) -> bool;
+    pub(crate) safe fn hibitset_seat_is_whole(seat: &mut Seat) -> bool;
+    pub(crate) safe fn hibitset_seat_divide(seat: &mut Seat, other: &mut Seat) -> u32;
+    pub(crate) safe fn hibitset_seat_collect(seat: &mut Seat, set: &mut Set) -> u32;
+    pub(crate) safe fn hibitset_seat_settle(seat: &mut Seat, set: &mut Atomic) -> u32;
 }
 
 /// Adds the indices in order, up to the first that fails. Returns how many were added, and what the call returns.
@@ -201,4 +291,11 @@ next_many! {
 pub(crate) fn prev_many(set: &Set, end: Index, buffer: &mut [Index]) -> usize {
     // SAFETY: the buffer is lent for the call, which writes within it alone.
     unsafe { hibitset_prev_many(set, end, buffer.as_mut_ptr(), buffer.len()) }
+}
+
+/// Writes members of an atomic set from `start` on into a buffer, ascending, until it is full or none is left. Returns how
+/// many it wrote.
+pub(crate) fn atomic_next_many(set: &mut Atomic, start: Index, buffer: &mut [Index]) -> usize {
+    // SAFETY: the buffer is lent for the call, which writes within it alone.
+    unsafe { hibitset_atomic_next_many(set, start, buffer.as_mut_ptr(), buffer.len()) }
 }

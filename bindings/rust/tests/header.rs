@@ -31,6 +31,8 @@ fn type_of_c(text: &str) -> String {
     };
     let name = match words[0] {
         "hibitset_t" => "Set",
+        "hibitset_atomic_t" => "Atomic",
+        "hibitset_seat_t" => "Seat",
         "hibitset_status" | "uint32_t" => "u32",
         "uint64_t" | "size_t" => "usize",
         "void" => "()",
@@ -120,10 +122,16 @@ fn constants_are_those_of_the_header() {
         value("define HIBITSET_MAX_EID", ')'),
         Some(hibitset::MAX_EID)
     );
+    assert_eq!(
+        value("define HIBITSET_ATOMIC_MAX_EID", ')'),
+        Some(hibitset::ATOMIC_MAX_EID)
+    );
     for (name, constant) in [
         ("OK", "OK"),
         ("PRESENT", "PRESENT"),
         ("NO_MEMORY", "NO_MEMORY"),
+        ("SHARED", "SHARED"),
+        ("ONE_SHARE", "ONE_SHARE"),
     ] {
         let number: Option<usize> = value(&format!("HIBITSET_{name} ="), ',');
         let line = format!(

@@ -10,7 +10,7 @@ use std::ffi::c_void;
 use std::process::Command;
 use std::ptr::null_mut;
 
-use hibitset::{AllocError, BitSet, BitSetLike, Index, Ranked, MAX_EID};
+use hibitset::{AllocError, AtomicBitSet, BitSet, BitSetLike, Index, Ranked, SettleError, MAX_EID};
 
 thread_local! {
     // How many requests are let through before one is refused; none is refused if it is negative.
@@ -134,6 +134,83 @@ fn a_refused_item_ends_an_extension() {
     );
 }
 
+/// What `call` answers if request `refused` is refused, and whether it came so far.
+fn with_refused<T>(refused: i64, call: impl FnOnce() -> T) -> (T, bool) {
+    REFUSED.set(refused);
+    let answer = call();
+    (answer, REFUSED.replace(-1) < 0)
+}
+
+#[test]
+fn a_refused_call_leaves_an_atomic_set() {
+    let mut met = 0;
+    for refused in 0.. {
+        let mut set = AtomicBitSet::from_iter([5]);
+        let (added, was_refused) = with_refused(refused, || set.try_add(70_000));
+        assert_eq!(
+            added,
+            if was_refused {
+                Err(AllocError)
+            } else {
+                Ok(false)
+            }
+        );
+        assert_eq!(set.contains(70_000), !was_refused);
+        assert_eq!(set.add(70_000), !was_refused);
+        let (shared, was_refused) = with_refused(refused, || set.try_share());
+        match shared {
+            Ok(seat) => assert!(!was_refused && seat.to_bit_set().to_vec() == [5, 70_000]),
+            Err(set) => assert!(was_refused && set.to_vec() == [5, 70_000]),
+        }
+        met += u32::from(was_refused);
+        if !was_refused {
+            break;
+        }
+    }
+    assert!(met > 0);
+}
+
+#[test]
+fn a_refused_call_leaves_a_seat() {
+    let mut met = 0;
+    for refused in 0.. {
+        let seat = AtomicBitSet::from_iter([5]).share();
+        let (other, was_refused) = with_refused(refused, || seat.try_divide());
+        assert_eq!(other.is_err(), was_refused);
+        assert_eq!(seat.is_whole(), was_refused);
+        drop(other);
+        let mut set = BitSet::from_iter([1]);
+        let (collected, was_refused) = with_refused(refused, || seat.try_collect_into(&mut set));
+        assert_eq!(collected.is_err(), was_refused);
+        assert!(set.contains(1) && set.contains(5) != was_refused);
+        let (settled, was_refused) = with_refused(refused, || seat.try_settle());
+        match settled {
+            Ok(set) => assert!(!was_refused && set.to_vec() == [5]),
+            Err(SettleError::NoMemory(seat)) => assert!(was_refused && seat.contains(5)),
+            Err(SettleError::Shared(_)) => panic!("there is one seat"),
+        }
+        met += u32::from(was_refused);
+        if !was_refused {
+            break;
+        }
+    }
+    assert!(met > 1);
+}
+
+#[test]
+fn shared_additions_take_no_memory() {
+    let seat = AtomicBitSet::new().share();
+    REFUSED.set(0);
+    let fresh = (0..70_000).filter(|&i| !seat.add_atomic(i)).count();
+    let there = (0..80_000).filter(|&i| seat.contains(i)).count();
+    assert_eq!(REFUSED.replace(-1), 0);
+    assert_eq!((fresh, there), (70_000, 70_000));
+    let mut set = seat.settle().expect("it is the only seat");
+    REFUSED.set(0);
+    let was = set.add(16_000_000);
+    assert_eq!((REFUSED.replace(-1), was), (0, false));
+}
+
 #[test]
 fn calls_within_the_capacity_take_no_memory() {
     let other: BitSet = (0..50_000).filter(|i| i % 7 == 0).collect();
@@ -180,8 +257,12 @@ fn the_error_has_a_text() {
 fn call_refused(call: &str) {
     let mut set = BitSet::from_iter([5]);
     let other = BitSet::from_iter([70_000]);
+    let seat = AtomicBitSet::new().share();
     REFUSED.set(0);
     match call {
+        "divide" => drop(seat.divide()),
+        "collect_into" => drop(seat.to_bit_set()),
+        "settle" => drop(seat.settle()),
         "add" => _ = set.add(70_000),
         "extend" => set.extend([6, 70_000]),
         "collect" => drop(BitSet::from_iter([1])),
@@ -192,6 +273,8 @@ fn call_refused(call: &str) {
         "with_capacity" => drop(BitSet::with_capacity(MAX_EID as Index)),
         "from_words" => drop(BitSet::from_words(&[1])),
         "to_bit_set" => drop((&set | &other).to_bit_set()),
+        "atomic add" => _ = AtomicBitSet::new().add(5),
+        "share" => drop(AtomicBitSet::new().share()),
         _ => unreachable!("no call has this name"),
     }
 }
@@ -212,6 +295,11 @@ fn a_call_without_an_error_ends_the_process() {
         "with_capacity",
         "from_words",
         "to_bit_set",
+        "atomic add",
+        "share",
+        "divide",
+        "collect_into",
+        "settle",
     ] {
         let child = Command::new(env::current_exe().expect("the test has a path"))
             .args([

@@ -1,4 +1,7 @@
+mod Came
+mod Emptiness
 mod Handles
+mod KeptHandles
 mod Lengths
 mod ListLemmas
 mod NoMembers

@@ -1,13 +1,12 @@
 -- What a handle owns.
 use Rattle.std.specs.Prelude.{Option, None, Some}
 use base.Fml.{Fml, ftrue}
+use denote.RattleType.{RattleType}
 use mir.Syntax.{Ty}
 use Rattle.std.specs.Box.Ownership.{box_owns}
 use Rattle.std.specs.Ptr.{Ptr}
 use Rattle.std.specs.contracts.impls.GlobalAllocator.TheImpl.{ghosts}
 use Rattle.std.specs.declared.alloc.Global.{Global}
-use Rattle.hibitset.specs.contracts.set.BitSet.{the_row as set_row}
-use Rattle.hibitset.specs.declared.set.BitSet.{BitSet}
 
 -- the one allocator there is
 abbrev pub heap : Global
@@ -17,7 +16,7 @@ heap = record { memory = record { seal = tt } }
 abbrev pub may_free : Ty → Ptr → Fml
 may_free = ghosts.dealloc_token heap
 
--- the set at a pointer and the right to free its block, or nothing
-abbrev pub handle_owns : Ptr → Option BitSet → Fml
-handle_owns at None = ftrue
-handle_owns at (Some set) = box_owns may_free set_row at set
+-- the value at a pointer and the right to free its block, or nothing
+abbrev pub handle_owns : (R : RattleType) → Ptr → Option R.Denot → Fml
+handle_owns R at None = ftrue
+handle_owns R at (Some x) = box_owns may_free R at x

@@ -1,7 +1,13 @@
+pub mod Atomic
 pub mod Buffer
 pub mod Handle
+pub mod Kept
+pub mod KeptLending
 pub mod Lending
 pub mod List
+pub mod Member
+pub mod Seat
 pub mod Seen
 pub mod Set
+pub mod Shared
 pub mod Words

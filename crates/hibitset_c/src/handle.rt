@@ -2,6 +2,7 @@
 ghost use Rattle.std.specs.Prelude.{◌≡◌, true, is_some, None, Option, Some};
 ghost use Rattle.std.specs.Borrow.{sem};
 ghost use Rattle.hibitset.specs.declared.set.BitSet.{BitSet};
+ghost use Rattle.hibitset.specs.contracts.set.BitSet.{the_row as set_row};
 ghost use Rattle.hibitset_c.specs.Handle.{handle_owns};
 
 use crate::raw_box::RawBox;
@@ -18,7 +19,7 @@ pub struct Handle {
 }
 
 impl Model for Handle {
-    ghost also_owns = { λ h. handle_owns h.at h.set };
+    ghost also_owns = { λ h. handle_owns set_row h.at h.set };
 }
 
 // A set is plain memory, and its block may be freed on any thread.

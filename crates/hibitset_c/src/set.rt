@@ -95,7 +95,7 @@ impl Set {
     }
 }
 
-fn sent<T: Send>(value: T) -> T
+pub(crate) fn sent<T: Send>(value: T) -> T
     ensures { result ≡ value }
 {
     value

@@ -1,13 +1,22 @@
 //! What a call returns that can fail.
 
-/// It is done; of `hibitset_add`, the index was not a member before.
+/// It is done; of an addition of one index, it was not a member before.
 pub const OK: u32 = 0;
 
 /// The index was a member before.
 pub const PRESENT: u32 = 1;
 
-/// An allocation failed, and the members are as they were.
+/// An allocation failed. The call says what it leaves.
 pub const NO_MEMORY: u32 = 2;
 
-/// An index or a length lies past the range, and nothing was changed.
+/// An index or a length is out of range. The call says what it leaves.
 pub const OUT_OF_RANGE: u32 = 3;
+
+/// Of a shared set: another seat has it still, and nothing was changed.
+pub const SHARED: u32 = 4;
+
+/// The seat has one share of its set, and can't be divided.
+pub const ONE_SHARE: u32 = 5;
+
+/// There is no seat.
+pub const NO_SEAT: u32 = 6;

@@ -12,7 +12,7 @@ use Rattle.hibitset.specs.declared.set.BitSet.{BitSet}
 use Rattle.hibitset_c.specs.Handle.{heap, handle_owns}
 use Rattle.hibitset_c.specs.contracts.handle.Handle.{the_row, the_type}
 
-keyless : (at : Ptr) (held : Option BitSet) → Keyless (handle_owns at held)
+keyless : (at : Ptr) (held : Option BitSet) → Keyless (handle_owns set_row at held)
 keyless at None = tt
 keyless null_ptr (Some x) = (tt, frees.frees heap (raw (lone set_row.mir)) null_ptr)
 keyless (block_ptr b o) (Some x) = (part_keyless set_row set.the_send full_share x b o, frees.frees heap (raw (lone set_row.mir)) (block_ptr b o))

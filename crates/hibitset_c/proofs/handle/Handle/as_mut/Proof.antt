@@ -55,7 +55,7 @@ as_mut_spec 𝓤 𝓛 𝓜 𝓡 wired =
     fsplit3 ! $ move ! (1 ∷ 2 ∷ 3 ∷ []) $ opens ! tt R own.0 own.1 (λ us.
     move ! (1 ∷ []) $ peeks ! R _ (shows 𝓛 R) h us (λ is. fsplit ! $ move ! (1 ∷ []) $
     -- [the set with its block; the fields; the cell of the handle; the open borrow in three entries]
-    rewrite ! 0 (λ (set : Option BitSet). ‵ (handle_owns h.at set)) is_x refl $
+    rewrite ! 0 (λ (set : Option BitSet). ‵ (handle_owns set_row h.at set)) is_x refl $
     in_a_block ! h.at (λ p. box_owns may_free set_row p x) (fst∗ 𝓤 (never 𝓤) (sem 𝓛 (may_free (bare (lone set_row.mir)) null_ptr))) (λ b o lies.
     let word = lowers.val_is h us is ∙ ap (λ (p : Ptr). lowers.lowered (record h { at = p }) ∷ []) lies in
     let Cell = λ (ws : List Val). ‵ (cell_at full_share R.mir ws own.0 own.1) in

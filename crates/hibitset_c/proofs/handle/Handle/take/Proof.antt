@@ -74,7 +74,7 @@ take_spec 𝓤 𝓛 𝓜 𝓡 wired =
     nothing ! $ move ! (2 ∷ 0 ∷ []) $ fjoin ! $ move ! (2 ∷ 0 ∷ 3 ∷ 4 ∷ 5 ∷ []) $ closes ! tt R emptied us own.0 own.1 $
     -- [the reference, in two entries; the token; the set with its block; the rest of the reference; the allocator]
     returns ! (look_at ! 0 refl) $ free_all ! refl $
-    move ! (3 ∷ 5 ∷ []) $ rewrite ! 0 (λ (set : Option BitSet). ‵ (handle_owns h.at set)) is_x refl $ raw_closes set_row Z heap_laws.the_row_laws ghosts ! h.at alloc a x $
+    move ! (3 ∷ 5 ∷ []) $ rewrite ! 0 (λ (set : Option BitSet). ‵ (handle_owns set_row h.at set)) is_x refl $ raw_closes set_row Z heap_laws.the_row_laws ghosts ! h.at alloc a x $
     let none : Option BitSet = None in
     use0 𝓛 (raw (fact 𝓤 (none ≡ none))) (fact_i 𝓤 (none ≡ none) (emp 𝓤) refl) $ use0 𝓛 (raw (fact 𝓤 (h.set ≡ Some x))) (fact_i 𝓤 (h.set ≡ Some x) (emp 𝓤) is_x) $ join ! $
     move ! (5 ∷ 2 ∷ 3 ∷ []) $ fjoin3 ! $ rewrite ! 0 (Self emptied) (sym self_is) refl $ nothing ! $ nothing ! $ fjoin ! $ move ! (1 ∷ []) $ fjoin ! $ nothing ! $ move ! (4 ∷ []) $ join ! $

@@ -1,0 +1,54 @@
+-- What a contract sees of an atomic set that C keeps.
+use Rattle.std.specs.Prelude.{◌≡◌, ℕ, Bool, false, Option, None, Some}
+use Rattle.hibitset_atomic.specs.AtomicBitSet.{has as atomic_has, topped_word, LacksBlock as LacksItsBlock, HasAllRoom as HasRoomForAll}
+use Rattle.hibitset_c.specs.declared.atomic_set.AtomicSet.{AtomicSet}
+use Rattle.hibitset_c.specs.declared.kept.Kept.{Kept}
+use Rattle.hibitset_c.specs.declared.kept.Kept.TheVariants.{Alone, Seated, Nothing}
+
+abbrev pub has_in : Option Kept → ℕ → Bool
+has_in None i = false
+has_in (Some (Alone set)) i = atomic_has set i
+has_in (Some (Seated m)) i = false
+has_in (Some Nothing) i = false
+
+-- the set has the number
+abbrev pub has : AtomicSet → ℕ → Bool
+has set = has_in set.handle.kept
+
+abbrev pub word_in : Option Kept → ℕ → ℕ → ℕ
+word_in None l p = 0
+word_in (Some (Alone set)) l p = topped_word set l p
+word_in (Some (Seated m)) l p = 0
+word_in (Some Nothing) l p = 0
+
+-- the word of a layer at a position
+abbrev pub word_of : AtomicSet → ℕ → ℕ → ℕ
+word_of set = word_in set.handle.kept
+
+abbrev pub LacksBlockIn : Option Kept → ℕ → Type 0
+LacksBlockIn None i = Unit {0}
+LacksBlockIn (Some (Alone set)) i = LacksItsBlock set i
+LacksBlockIn (Some (Seated m)) i = Unit {0}
+LacksBlockIn (Some Nothing) i = Unit {0}
+
+-- The block of 4,096 indices that has the number is not made, so that an addition there needs memory.
+abbrev pub LacksBlock : AtomicSet → ℕ → Type 0
+LacksBlock set = LacksBlockIn set.handle.kept
+
+abbrev pub HasAllRoomIn : Option Kept → Type 0
+HasAllRoomIn None = ⊥
+HasAllRoomIn (Some (Alone set)) = HasRoomForAll set
+HasAllRoomIn (Some (Seated m)) = ⊥
+HasAllRoomIn (Some Nothing) = ⊥
+
+-- No addition needs memory.
+abbrev pub HasAllRoom : AtomicSet → Type 0
+HasAllRoom set = HasAllRoomIn set.handle.kept
+
+-- there is no set, and so no block of memory
+abbrev pub OwnsNoMemory : AtomicSet → Type 0
+OwnsNoMemory set = set.handle.kept ≡ None
+
+-- The set is as it was.
+abbrev pub IsSame : AtomicSet → AtomicSet → Type 0
+IsSame old new = new.handle.kept ≡ old.handle.kept

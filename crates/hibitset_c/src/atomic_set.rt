@@ -1,0 +1,99 @@
+//! An atomic set that C keeps.
+#![tactic(auto)]
+
+ghost use Rattle.std.specs.Prelude.{◌≡◌, is_some};
+ghost use Rattle.hibitset_c.specs.Kept.{is_alone_at};
+
+use crate::kept::Kept;
+use crate::kept_handle::KeptHandle;
+use crate::raw_box::RawBox;
+use crate::set::sent;
+use hibitset::AtomicBitSet;
+use std::alloc::Global;
+
+/// An atomic set as C keeps it, once there is one. It is empty until then.
+///
+/// C owes that the bytes are those that the last call with the set left, or those of `hibitset_atomic_new`, and that no other call has the set meanwhile.
+#[repr(C)]
+#[derive(Drop)]
+pub struct AtomicSet {
+    pub(crate) handle: KeptHandle,
+    pub(crate) made: bool,
+    ghost tells: { made ≡ is_some handle.kept },
+    ghost alone: { made ≡ is_alone_at handle.kept },
+}
+
+impl AtomicSet {
+    ghost use Rattle.std.specs.Prelude.{◌↔◌, ℕ, true, false, Some};
+    ghost use Rattle.hibitset_c.specs.Atomic.{has, LacksBlock, HasAllRoom, OwnsNoMemory};
+    ghost use Rattle.hibitset_c.specs.Kept.{is_alone};
+
+    // Makes an empty set where there is none.
+    #[inline(never)]
+    fn make_first(&mut self, alloc: Global) -> bool
+        requires { self.old.made ≡ false }
+        ensures made { self.new.made ≡ result }
+        ensures members { (i : ℕ) → has self.new i ≡ false }
+        ensures lacks { (i : ℕ) → LacksBlock self.new i }
+    {
+        let Ok(set) = AtomicBitSet::new(alloc) else {
+            return false;
+        };
+        match Box::new(alloc, Kept::Alone(set)) {
+            Ok(kept) => {
+                self.handle = KeptHandle::of(RawBox::from_box(kept));
+                self.made = true;
+                true
+            }
+            Err(_) => false,
+        }
+    }
+
+    // Makes an empty set where there is none. Returns whether there is one now.
+    #[inline]
+    pub(crate) fn make(&mut self, alloc: Global) -> bool
+        ensures made { self.new.made ≡ result }
+        ensures members { (i : ℕ) → has self.new i ≡ has self.old i }
+        ensures blocks { (i : ℕ) → LacksBlock self.new i ↔ LacksBlock self.old i }
+        ensures room { HasAllRoom self.old → (result ≡ true) × HasAllRoom self.new }
+        ensures err { result ≡ false → (i : ℕ) → LacksBlock self.old i }
+    {
+        self.made || self.make_first(alloc)
+    }
+
+    // Gives the set up, with its memory.
+    pub(crate) fn release(&mut self, alloc: Global)
+        ensures freed { OwnsNoMemory self.new }
+    {
+        if self.made {
+            drop(self.take(alloc));
+        }
+    }
+
+    // Takes the set out.
+    pub(crate) fn take(&mut self, alloc: Global) -> Box<Kept, Global>
+        requires { self.old.made ≡ true }
+        ensures taken { self.old.handle.kept ≡ Some result.value }
+        ensures freed { OwnsNoMemory self.new }
+    {
+        self.made = false;
+        self.handle.take(alloc).into_box()
+    }
+
+    // Puts a set in the place of what there is.
+    pub(crate) fn replace(&mut self, alloc: Global, kept: Box<Kept, Global>)
+        requires { is_alone kept.value ≡ true }
+        ensures { self.new.handle.kept ≡ Some kept.value }
+    {
+        self.release(alloc);
+        self.handle = KeptHandle::of(RawBox::from_box(kept));
+        self.made = true;
+    }
+}
+
+// C may hand it on to another thread.
+pub(crate) fn handed_on(set: AtomicSet) -> AtomicSet
+    ensures { result ≡ set }
+{
+    sent(set)
+}

@@ -1,0 +1,98 @@
+//! What lies behind the handle of an atomic set or of a seat.
+#![tactic(auto)]
+
+use crate::member::{Divided, Member, Settled};
+use crate::status::{NO_MEMORY, OK, ONE_SHARE, SHARED};
+use hibitset::AtomicBitSet;
+use std::alloc::Global;
+use std::mem;
+
+/// An atomic set held alone, or a seat of a shared one.
+#[derive(Drop)]
+pub enum Kept {
+    Alone(AtomicBitSet),
+    Seated(Member),
+    /// Within a call alone, which makes the one of the other.
+    Nothing,
+}
+
+impl Kept {
+    ghost use Rattle.std.specs.Prelude.{◌≡◌, ◌≢◌, ◌⊎◌, true, false};
+    ghost use Rattle.hibitset_c.specs.Kept.{is_alone, is_seated, Opens, Halves, HasOneShare, KeepsAll, Settles, IsSameSeat};
+    ghost use Rattle.hibitset_c.specs.declared.status.TheConstants.{OK, NO_MEMORY, SHARED, ONE_SHARE};
+
+    // Shares the set. Returns false if an allocation failed.
+    pub(crate) fn share(&mut self) -> bool
+        requires { is_alone self.old ≡ true }
+        ensures shared { result ≡ true → Opens self.old self.new }
+        ensures err { result ≡ false → self.new ≡ self.old }
+    {
+        let Kept::Alone(set) = mem::replace(self, Kept::Nothing) else {
+            unreachable!()
+        };
+        match set.share() {
+            Ok((set, seat)) => {
+                *self = Kept::Seated(Member::new(set, seat));
+                true
+            }
+            Err(set) => {
+                *self = Kept::Alone(set);
+                false
+            }
+        }
+    }
+
+    // Divides the seat, and puts the second one into `other`. Returns the status.
+    pub(crate) fn divide(&mut self, alloc: Global, other: &mut Kept) -> u32
+        requires { is_seated self.old ≡ true }
+        ensures halves { result ≡ OK → Halves self.old self.new other.new }
+        ensures one { result ≡ ONE_SHARE → HasOneShare self.old }
+        ensures stays { result ≢ OK → KeepsAll self.old self.new }
+        ensures status { (result ≡ OK) ⊎ (result ≡ NO_MEMORY) ⊎ (result ≡ ONE_SHARE) }
+    {
+        let Kept::Seated(member) = mem::replace(self, Kept::Nothing) else {
+            unreachable!()
+        };
+        match member.divide(alloc) {
+            Divided::Two(first, second) => {
+                *self = Kept::Seated(first);
+                *other = Kept::Seated(second);
+                OK
+            }
+            Divided::Single(member) => {
+                *self = Kept::Seated(member);
+                ONE_SHARE
+            }
+            Divided::NoMemory(member) => {
+                *self = Kept::Seated(member);
+                NO_MEMORY
+            }
+        }
+    }
+
+    // Makes of the last seat the set held alone. Returns the status.
+    pub(crate) fn settle(&mut self) -> u32
+        requires { is_seated self.old ≡ true }
+        ensures settled { result ≡ OK → Settles self.old self.new }
+        ensures stays { result ≢ OK → IsSameSeat self.old self.new }
+        ensures status { (result ≡ OK) ⊎ (result ≡ NO_MEMORY) ⊎ (result ≡ SHARED) }
+    {
+        let Kept::Seated(member) = mem::replace(self, Kept::Nothing) else {
+            unreachable!()
+        };
+        match member.settle() {
+            Settled::Alone(set) => {
+                *self = Kept::Alone(set);
+                OK
+            }
+            Settled::Shared(member) => {
+                *self = Kept::Seated(member);
+                SHARED
+            }
+            Settled::NoMemory(member) => {
+                *self = Kept::Seated(member);
+                NO_MEMORY
+            }
+        }
+    }
+}

@@ -1,0 +1,195 @@
+//! Calls on a seat of a shared set.
+#![tactic(auto)]
+
+ghost use Rattle.std.specs.Prelude.{◌≡◌, ◌≢◌, ◌⊎◌, ◌↔◌, ℕ, ◌+◌, ◌<◌, ◌≤◌, ◌∷◌, true, false, Contains};
+ghost use Rattle.hibitset_atomic.specs.declared.atomic.TheConstants.{ATOMIC_MAX_EID};
+ghost use Rattle.hibitset_atomic.specs.declared.shared.sizes.TheConstants.{SHARES};
+ghost use Rattle.hibitset_c.specs.Atomic.{has, HasAllRoom, OwnsNoMemory, IsSame as IsSameSet};
+ghost use Rattle.hibitset_c.specs.Kept.{IsOpening};
+ghost use Rattle.hibitset_c.specs.Member.{EndsAs};
+ghost use Rattle.hibitset_c.specs.Seat.{Holds, has_seat, set_of, IsOld, Known, weight_of, reports_of, loads_by, exchanges_by, Keeps, IsSame, AreHalves};
+ghost use Rattle.hibitset_c.specs.Set.{has as plain_has};
+ghost use Rattle.hibitset_c.specs.declared.status.TheConstants.{OK, PRESENT, NO_MEMORY, OUT_OF_RANGE, SHARED, ONE_SHARE, NO_SEAT};
+
+use crate::atomic_set::AtomicSet;
+use crate::held_seat::HeldSeat;
+use crate::kept::Kept;
+use crate::set::Set;
+use crate::status::{NO_MEMORY, NO_SEAT, OK, OUT_OF_RANGE, PRESENT};
+use hibitset::ATOMIC_MAX_EID;
+use std::alloc::Global;
+
+/// Makes a shared set of an atomic set, which is empty then, and leaves its first seat in `seat`.
+#[unsafe(no_mangle)]
+pub extern "C" fn hibitset_atomic_share(
+    alloc: Global,
+    set: &mut AtomicSet,
+    seat: &mut HeldSeat,
+) -> u32
+    ensures opening { result ≡ OK → Holds seat.new (IsOpening (has set.old)) }
+    ensures empty { result ≡ OK → OwnsNoMemory set.new }
+    ensures err { result ≢ OK → (i : ℕ) → has set.new i ≡ has set.old i }
+    ensures stays { result ≢ OK → IsSame seat.old seat.new }
+    ensures status { (result ≡ OK) ⊎ (result ≡ NO_MEMORY) }
+{
+    if !set.make(alloc) {
+        return NO_MEMORY;
+    }
+    let mut kept = set.take(alloc);
+    if kept.share() {
+        seat.replace(alloc, kept);
+        OK
+    } else {
+        set.replace(alloc, kept);
+        NO_MEMORY
+    }
+}
+
+/// Gives the seat up, and with the last one of a set the set.
+#[unsafe(no_mangle)]
+pub extern "C" fn hibitset_seat_free(alloc: Global, seat: &mut HeldSeat)
+    ensures { has_seat seat.new ≡ false }
+{
+    seat.release(alloc);
+}
+
+/// Adds an index. Returns whether it was there, or why it is not.
+#[unsafe(no_mangle)]
+pub extern "C" fn hibitset_seat_add(seat: &mut HeldSeat, index: u32) -> u32
+    ensures no_seat { (result ≡ NO_SEAT) ↔ (has_seat seat.old ≡ false) }
+    ensures range { (result ≡ OUT_OF_RANGE) ↔ (has_seat seat.old ≡ true) × (ATOMIC_MAX_EID ≤ index) }
+    ensures keeps { Keeps seat.old seat.new }
+    ensures known { result ≤ PRESENT → Known seat.new index }
+    ensures there { result ≢ OK → reports_of seat.new ≡ reports_of seat.old }
+    ensures new { result ≡ OK → (reports_of seat.new ≡ index ∷ reports_of seat.old) × ¬ IsOld seat.old index × ¬ Known seat.old index }
+    ensures once { result ≡ OK → ¬ Contains (reports_of seat.old) index }
+    ensures loads { loads_by seat.new ≤ loads_by seat.old + 7 }
+    ensures exchanges { exchanges_by seat.new ≤ exchanges_by seat.old + 4 }
+    ensures still { IsOld seat.old index ⊎ Known seat.old index → (loads_by seat.new ≤ loads_by seat.old + 4) × (exchanges_by seat.new ≡ exchanges_by seat.old) }
+    ensures status { (result ≤ PRESENT) ⊎ (result ≡ OUT_OF_RANGE) ⊎ (result ≡ NO_SEAT) }
+{
+    if !seat.made {
+        return NO_SEAT;
+    }
+    if index as usize >= ATOMIC_MAX_EID {
+        return OUT_OF_RANGE;
+    }
+    let Kept::Seated(member) = seat.handle.as_mut() else {
+        unreachable!()
+    };
+    if member.add(index) { PRESENT } else { OK }
+}
+
+/// Returns whether an index is there, as far as the seat sees.
+#[unsafe(no_mangle)]
+pub extern "C" fn hibitset_seat_contains(seat: &mut HeldSeat, index: u32) -> bool
+    ensures yes { result ≡ true → (index < ATOMIC_MAX_EID) × Known seat.new index }
+    ensures no { result ≡ false → ¬ IsOld seat.old index × ¬ Known seat.new index }
+    ensures keeps { Keeps seat.old seat.new }
+    ensures reports { reports_of seat.new ≡ reports_of seat.old }
+    ensures steps { (loads_by seat.new ≤ loads_by seat.old + 4) × (exchanges_by seat.new ≡ exchanges_by seat.old) }
+{
+    if !seat.made {
+        return false;
+    }
+    let Kept::Seated(member) = seat.handle.as_mut() else {
+        unreachable!()
+    };
+    member.contains(index)
+}
+
+/// Returns whether the seat has all shares of its set.
+#[unsafe(no_mangle)]
+pub extern "C" fn hibitset_seat_is_whole(seat: &mut HeldSeat) -> bool
+    ensures answer { (result ≡ true) ↔ (weight_of seat.old ≡ SHARES) }
+    ensures same { IsSame seat.old seat.new }
+{
+    if !seat.made {
+        return false;
+    }
+    let Kept::Seated(member) = seat.handle.as_mut() else {
+        unreachable!()
+    };
+    member.is_whole()
+}
+
+/// Divides the seat, and leaves the second one in `other`.
+#[unsafe(no_mangle)]
+pub extern "C" fn hibitset_seat_divide(
+    alloc: Global,
+    seat: &mut HeldSeat,
+    other: &mut HeldSeat,
+) -> u32
+    ensures no_seat { (result ≡ NO_SEAT) ↔ (has_seat seat.old ≡ false) }
+    ensures halves { result ≡ OK → AreHalves seat.old seat.new other.new }
+    ensures one { result ≡ ONE_SHARE → weight_of seat.old ≡ 1 }
+    ensures err { result ≢ OK → Keeps seat.old seat.new × (reports_of seat.new ≡ reports_of seat.old) }
+    ensures stays { result ≢ OK → IsSame other.old other.new }
+    ensures status { (result ≡ OK) ⊎ (result ≡ NO_MEMORY) ⊎ (result ≡ ONE_SHARE) ⊎ (result ≡ NO_SEAT) }
+{
+    if !seat.made {
+        return NO_SEAT;
+    }
+    let Ok(mut second) = Box::new(alloc, Kept::Nothing) else {
+        return NO_MEMORY;
+    };
+    let status = seat.handle.as_mut().divide(alloc, second.as_mut());
+    if status == OK {
+        other.replace(alloc, second);
+    }
+    status
+}
+
+/// Adds to a set what a walk over the shared set gives.
+#[unsafe(no_mangle)]
+pub extern "C" fn hibitset_seat_collect(alloc: Global, seat: &mut HeldSeat, set: &mut Set) -> u32
+    ensures no_seat { (result ≡ NO_SEAT) ↔ (has_seat seat.old ≡ false) }
+    ensures all { result ≡ OK → (i : ℕ) → IsOld seat.old i ⊎ Known seat.old i → plain_has set.new i ≡ true }
+    ensures found { (i : ℕ) → plain_has set.new i ≡ true → (plain_has set.old i ≡ true) ⊎ Known seat.new i }
+    ensures stays { (i : ℕ) → plain_has set.old i ≡ true → plain_has set.new i ≡ true }
+    ensures keeps { Keeps seat.old seat.new }
+    ensures reports { reports_of seat.new ≡ reports_of seat.old }
+    ensures status { (result ≡ OK) ⊎ (result ≡ NO_MEMORY) ⊎ (result ≡ NO_SEAT) }
+{
+    if !seat.made {
+        return NO_SEAT;
+    }
+    if !set.make(alloc) {
+        return NO_MEMORY;
+    }
+    let Kept::Seated(member) = seat.handle.as_mut() else {
+        unreachable!()
+    };
+    let bits = set.handle.as_mut();
+    let all = member.collect(bits);
+    set.words.show(bits);
+    if all { OK } else { NO_MEMORY }
+}
+
+/// Makes of the shared set an atomic set held alone, which takes the place of what `set` was, if no other seat has it. The seat is given up then.
+#[unsafe(no_mangle)]
+pub extern "C" fn hibitset_seat_settle(
+    alloc: Global,
+    seat: &mut HeldSeat,
+    set: &mut AtomicSet,
+) -> u32
+    ensures no_seat { (result ≡ NO_SEAT) ↔ (has_seat seat.old ≡ false) }
+    ensures settled { result ≡ OK → Holds seat.old (λ shared s. EndsAs shared s (has set.new)) }
+    ensures room { result ≡ OK → HasAllRoom set.new }
+    ensures given_up { result ≡ OK → has_seat seat.new ≡ false }
+    ensures err { result ≢ OK → IsSameSet set.old set.new }
+    ensures stays { result ≢ OK → IsSame seat.old seat.new }
+    ensures status { (result ≡ OK) ⊎ (result ≡ NO_MEMORY) ⊎ (result ≡ SHARED) ⊎ (result ≡ NO_SEAT) }
+{
+    if !seat.made {
+        return NO_SEAT;
+    }
+    let mut kept = seat.take(alloc);
+    let status = kept.settle();
+    if status == OK {
+        set.replace(alloc, kept);
+    } else {
+        seat.replace(alloc, kept);
+    }
+    status
+}
