@@ -1,0 +1,11 @@
+pub mod Testing
+pub mod Putting
+pub mod Placing
+pub mod Containing
+pub mod Parts
+pub mod Heading
+pub mod Keeping
+pub mod Listing
+pub mod Noting
+pub mod Marking
+pub mod Written

@@ -1,0 +1,4 @@
+pub mod Numbers
+pub mod Format
+pub mod Reading
+pub mod Writing

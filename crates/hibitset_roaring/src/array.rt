@@ -1,0 +1,67 @@
+//! Members written as an array.
+
+ghost use Rattle.std.specs.Prelude.{◌≡◌, ℕ, ◌+◌, ◌-◌, ◌*◌, ◌^◌, ◌<◌, ◌≤◌, ◌||◌, ◌&&◌, nat_lt, get_or, length};
+ghost use Rattle.std.specs.Int.RustNames.{count_ones};
+ghost use Rattle.hibitset.specs.Numbers.{stands_in};
+ghost use Rattle.hibitset_roaring.specs.Numbers.{u16_at, u32_at, u64_at};
+ghost use Rattle.hibitset_roaring.specs.Format.{in_array, IsArray};
+ghost use Rattle.hibitset_roaring.specs.Writing.{SameBefore, TakesLowest, in_word, ones_from, ones_under};
+
+use crate::number::put_u16;
+use crate::places::WORDS;
+
+// The word at a place, which is 0 past the end.
+#[inline]
+pub(crate) fn word_of(words: &[usize], place: usize) -> usize
+    ensures { result ≡ get_or words.now place 0 }
+{
+    if place < words.len() { words[place] } else { 0 }
+}
+
+// Takes the lowest bit out of a word, and answers its number.
+#[inline]
+fn take_lowest(word: &mut usize) -> usize
+    requires { 0 < word.old }
+    ensures { TakesLowest word.old result word.new }
+{
+    let bit = word.trailing_zeros();
+    *word &= *word - 1;
+    bit as usize
+}
+
+// Writes the bits of a word, whose first bit has the number `first`, behind the `len` numbers of an array, and answers how many it has then.
+#[inline]
+fn write_word(out: &mut [u8], at: usize, len: usize, first: usize, word: usize) -> usize
+    requires room { at + 2 * (len + count_ones word) ≤ length out.old }
+    requires first { first + 64 ≤ 65536 }
+    ensures len { result ≡ len + count_ones word }
+    ensures before { SameBefore (at + 2 * len) out.old out.new }
+    ensures members { (v : ℕ) → in_array out.new at result v ≡ (in_array out.old at len v || in_word first word v) }
+    ensures low { (i : ℕ) → len ≤ i → i < result → first ≤ u16_at out.new (at + 2 * i) }
+    ensures high { (i : ℕ) → len ≤ i → i < result → u16_at out.new (at + 2 * i) < first + 64 }
+    ensures ascending { (i : ℕ) → len ≤ i → i + 1 < result → u16_at out.new (at + 2 * i) < u16_at out.new (at + 2 * (i + 1)) }
+{
+    let mut end = len;
+    let mut rest = word;
+    'bits: while rest != 0 {
+        let bit = take_lowest(&mut rest);
+        put_u16(out, at + 2 * end, first + bit);
+        end += 1;
+    }
+    end
+}
+
+// Writes the members with these high bits as an array.
+pub(crate) fn write_array(out: &mut [u8], at: usize, words: &[usize], key: usize)
+    requires room { at + 2 * ones_under words.now key ≤ length out.old }
+    requires key { key < 65536 }
+    ensures before { SameBefore at out.old out.new }
+    ensures array { IsArray out.new at (ones_under words.now key) }
+    ensures members { (v : ℕ) → v < 65536 → in_array out.new at (ones_under words.now key) v ≡ stands_in words.now (65536 * key + v) }
+{
+    let base = WORDS * key;
+    let mut len = 0;
+    'words: for j in 0..WORDS {
+        len = write_word(out, at, len, 64 * j, word_of(words, base + j));
+    }
+}
