@@ -1,4 +1,4 @@
--- Numbers in bytes, the lowest byte first, and what holds of some number below another. Past the end of a list of bytes all bytes are 0.
+-- Numbers in bytes, the lowest byte first. Past the end of a list of bytes all bytes are 0.
 use Rattle.std.specs.Prelude.{ℕ, zero, suc, ◌+◌, ◌*◌, Bool, false, ◌||◌, List, get_or}
 use Rattle.std.specs.Int.RustNames.{count_ones}
 
@@ -19,7 +19,7 @@ unfoldable pub any_below : ℕ → (ℕ → Bool) → Bool
 any_below zero test = false
 any_below (suc n) test = test n || any_below n test
 
--- how many bits stand in so many numbers of eight bytes, from a position on
+-- how many bits are set in n numbers of eight bytes, from a position on
 unfoldable pub ones_in : List ℕ → ℕ → ℕ → ℕ
 ones_in bytes at zero = 0
 ones_in bytes at (suc n) = ones_in bytes at n + count_ones (u64_at bytes (at + 8 * n))

@@ -5,17 +5,18 @@ ghost use Rattle.std.specs.Int.RustNames.{count_ones};
 ghost use Rattle.hibitset.specs.Numbers.{stands_in};
 ghost use Rattle.hibitset_roaring.specs.Numbers.{u16_at, u32_at, u64_at};
 ghost use Rattle.hibitset_roaring.specs.Format.{in_array, IsArray};
-ghost use Rattle.hibitset_roaring.specs.Writing.{SameBefore, TakesLowest, in_word, ones_from, ones_under};
+ghost use Rattle.hibitset_roaring.specs.Streams.{SameBefore};
+ghost use Rattle.hibitset_roaring.specs.Words.{TakesLowest, in_word, ones_from, ones_under};
 
 use crate::number::put_u16;
-use crate::places::WORDS;
+use crate::layout::CONTAINER_WORDS;
 
-// The word at a place, which is 0 past the end.
+// The word at a slot, which is 0 past the end.
 #[inline]
-pub(crate) fn word_of(words: &[usize], place: usize) -> usize
-    ensures { result ≡ get_or words.now place 0 }
+pub(crate) fn word_of(words: &[usize], slot: usize) -> usize
+    ensures { result ≡ get_or words.now slot 0 }
 {
-    if place < words.len() { words[place] } else { 0 }
+    if slot < words.len() { words[slot] } else { 0 }
 }
 
 // Takes the lowest bit out of a word, and answers its number.
@@ -59,9 +60,9 @@ pub(crate) fn write_array(out: &mut [u8], at: usize, words: &[usize], key: usize
     ensures array { IsArray out.new at (ones_under words.now key) }
     ensures members { (v : ℕ) → v < 65536 → in_array out.new at (ones_under words.now key) v ≡ stands_in words.now (65536 * key + v) }
 {
-    let base = WORDS * key;
+    let base = CONTAINER_WORDS * key;
     let mut len = 0;
-    'words: for j in 0..WORDS {
+    'words: for j in 0..CONTAINER_WORDS {
         len = write_word(out, at, len, 64 * j, word_of(words, base + j));
     }
 }

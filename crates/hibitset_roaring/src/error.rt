@@ -1,4 +1,4 @@
-//! Why a stream is not read.
+//! Why bytes are no stream, or no set is made of them.
 
 ghost use Rattle.std.specs.Prelude.{◌≡◌};
 ghost use Rattle.hibitset_roaring.specs.declared.error.ReadError.TheVariants as errors;
@@ -10,17 +10,17 @@ use std::fmt;
 /// What is wrong with a stream.
 #[derive(Clone, Copy, Debug, PartialEq, Eq)]
 pub enum Fault {
-    /// The stream ends before what begins here does.
+    /// The header, or a container, begins here and would end past the bytes.
     TooShort,
-    /// The stream goes on here, after its last container.
+    /// The last container ends here, and bytes follow.
     TooLong,
     /// The first number is neither of the two that a stream begins with.
     BadCookie,
-    /// More than 65,536 containers are announced.
+    /// The header announces more than 65,536 containers.
     TooManyContainers,
     /// A key is not above the one before it.
     KeysNotAscending,
-    /// A key stands for indices that a set does not have, from 1,073,741,824 on.
+    /// A key stands for indices from the bound on.
     OutOfRange,
     /// An offset is not the position where its container begins.
     WrongOffset,
@@ -28,24 +28,25 @@ pub enum Fault {
     WrongCardinality,
     /// A number of an array is not above the one before it.
     NotAscending,
-    /// A run begins within the run before it or right after it, or ends past the 65,536 numbers of its container.
-    BadRun,
+    /// A run begins within the run before it, or right behind it.
+    RunsNotApart,
+    /// A run ends past the 65,536 numbers of its container.
+    RunPastEnd,
 }
 
-/// A stream that is not well formed, or has an index that a set does not have.
+/// A fault and the position of its first byte.
 #[derive(Clone, Copy, Debug, PartialEq, Eq)]
 pub struct Malformed {
     pub fault: Fault,
-    /// The position of the first byte of what is wrong.
     pub at: usize,
 }
 
-/// Why a stream is not read.
+/// Why no set is read.
 #[derive(Clone, Copy, Debug, PartialEq, Eq)]
 pub enum ReadError {
-    /// There was no memory for the set.
+    /// An allocation failed.
     Memory,
-    /// The stream is not that of a set.
+    /// The bytes are no stream of members in range.
     Malformed(Malformed),
 }
 
@@ -68,16 +69,17 @@ impl From<Malformed> for ReadError {
 impl fmt::Display for Fault {
     fn fmt<W: fmt::Write>(&self, f: &mut fmt::Formatter<W>) -> fmt::Result {
         match self {
-            Fault::TooShort => write!(f, "the stream ends too soon"),
-            Fault::TooLong => write!(f, "the stream goes on after its end"),
+            Fault::TooShort => write!(f, "the bytes end too soon"),
+            Fault::TooLong => write!(f, "bytes follow the last container"),
             Fault::BadCookie => write!(f, "no stream begins so"),
             Fault::TooManyContainers => write!(f, "too many containers"),
             Fault::KeysNotAscending => write!(f, "the keys do not ascend"),
-            Fault::OutOfRange => write!(f, "an index is out of range"),
+            Fault::OutOfRange => write!(f, "a key is out of range"),
             Fault::WrongOffset => write!(f, "no container begins at this offset"),
             Fault::WrongCardinality => write!(f, "a container has another number of members"),
             Fault::NotAscending => write!(f, "the numbers of an array do not ascend"),
-            Fault::BadRun => write!(f, "a run does not fit"),
+            Fault::RunsNotApart => write!(f, "a run meets the one before it"),
+            Fault::RunPastEnd => write!(f, "a run ends past its container"),
         }
     }
 }
@@ -85,7 +87,7 @@ impl fmt::Display for Fault {
 impl fmt::Display for ReadError {
     fn fmt<W: fmt::Write>(&self, f: &mut fmt::Formatter<W>) -> fmt::Result {
         match self {
-            ReadError::Memory => write!(f, "no memory for the set"),
+            ReadError::Memory => write!(f, "an allocation failed"),
             ReadError::Malformed(m) => write!(f, "{} at byte {}", m.fault, m.at),
         }
     }

@@ -1,9 +1,10 @@
 //! The header of a stream.
 
-ghost use Rattle.std.specs.Prelude.{◌≡◌, ℕ, ◌+◌, ◌*◌, ◌/◌, ◌<◌, ◌≤◌, ◌⊎◌, true, false, not, ◌||◌, nat_le, if◌then◌else◌, length, IfOk, OnOk, OnErr};
+ghost use Rattle.std.specs.Prelude.{◌≡◌, ℕ, ◌+◌, ◌*◌, ◌/◌, ◌<◌, ◌≤◌, ◌⊎◌, true, false, not, ◌||◌, nat_le, if◌then◌else◌, length, IfOk, IfErr, OnOk};
 ghost use Rattle.hibitset_roaring.specs.Numbers.{u16_at, u32_at};
-ghost use Rattle.hibitset_roaring.specs.Format.{has_runs, container_count, keys_at, has_offsets, offsets_at, first_at, key_of, cardinality_of, is_run, place, IsStream};
-ghost use Rattle.hibitset_roaring.specs.Reading.{IsHeader, IsInRange};
+ghost use Rattle.hibitset_roaring.specs.Format.{has_runs, container_count, keys_at, has_offsets, offsets_at, first_at, key_of, cardinality_of, is_run, container_at, HasKeysBelow};
+ghost use Rattle.hibitset_roaring.specs.Faults.{IsFault};
+ghost use Rattle.hibitset_roaring.specs.Headers.{IsHeader};
 
 use crate::error::{Fault, Malformed};
 use crate::number::{read_u16, read_u32};
@@ -14,14 +15,14 @@ pub(crate) const NO_RUNS: usize = 12346;
 /// The low half of the cookie of a stream with runs.
 pub(crate) const RUNS: usize = 12347;
 
-// A stream with runs has offsets from so many containers on.
+// A stream with runs has offsets if it has at least this many containers.
 const LEAST_WITH_OFFSETS: usize = 4;
 
 // How many containers there are at most, and how many numbers each has at most.
-pub(crate) const CHUNK: usize = 65536;
+pub(crate) const CONTAINER_NUMBERS: usize = 65536;
 
-// How many containers a set can have: keys lie below.
-pub(crate) const KEYS: usize = 16384;
+/// How many keys the indices of a set have: those below `MAX_EID`, divided by 65,536.
+pub const KEYS: usize = 16384;
 
 /// What the header says, and where its parts are.
 #[derive(Clone, Copy)]
@@ -39,7 +40,7 @@ fn read_count(bytes: &[u8]) -> Result<(bool, usize), Malformed>
     ensures runs { IfOk result (λ found. found.0 ≡ has_runs bytes.now) }
     ensures count { IfOk result (λ found. found.1 ≡ container_count bytes.now) }
     ensures few { IfOk result (λ found. found.1 ≤ 65536) }
-    ensures refused { OnErr result (IsStream bytes.now → ⊥) }
+    ensures fault { IfErr result (λ m. (end : ℕ) → IsFault bytes.now end m.fault m.at) }
 {
     if bytes.len() < 8 {
         return Err(Malformed {
@@ -59,7 +60,7 @@ fn read_count(bytes: &[u8]) -> Result<(bool, usize), Malformed>
         });
     }
     let count = read_u32(bytes, 4);
-    if count > CHUNK {
+    if count > CONTAINER_NUMBERS {
         return Err(Malformed {
             fault: Fault::TooManyContainers,
             at: 4,
@@ -97,10 +98,10 @@ fn first_after(offsets: bool, keys: usize, count: usize) -> usize
 }
 
 impl Header {
-    // Reads the header, which lies within the bytes.
+    // The header, which lies within the bytes.
     pub(crate) fn read(bytes: &[u8]) -> Result<Header, Malformed>
         ensures header { IfOk result (λ header. IsHeader bytes.now header) }
-        ensures refused { OnErr result (IsStream bytes.now → ⊥) }
+        ensures fault { IfErr result (λ m. (end : ℕ) → IsFault bytes.now end m.fault m.at) }
     {
         let (runs, count) = read_count(bytes)?;
         let keys = keys_after(runs, count);
@@ -109,7 +110,7 @@ impl Header {
         if bytes.len() < first {
             return Err(Malformed {
                 fault: Fault::TooShort,
-                at: keys.min(bytes.len()),
+                at: 0,
             });
         }
         Ok(Header {
@@ -133,7 +134,7 @@ impl Header {
         read_u16(bytes, self.keys + 4 * k)
     }
 
-    // How many members a container is to have.
+    // The number of members that the header gives for a container.
     #[inline]
     #[tactic(auto, unfolding(crate::specs::Format::cardinality_of))]
     pub(crate) fn cardinality(&self, bytes: &[u8], k: usize) -> usize
@@ -157,14 +158,15 @@ impl Header {
         self.runs && bytes[4 + k / 8] >> (k % 8) & 1 == 1
     }
 
-    // Sees that the offset of a container is where it begins.
+    // Checks that the offset of a container, if there are offsets, is where it begins.
     #[inline]
     #[tactic(auto, unfolding(crate::specs::Format::offsets_at))]
     pub(crate) fn check_offset(&self, bytes: &[u8], k: usize, at: usize) -> Result<(), Malformed>
         requires header { IsHeader bytes.now self.now }
         requires within { k < self.now.count }
+        requires at { at ≡ container_at bytes.now k }
         ensures ok { OnOk result (has_offsets bytes.now ≡ true → u32_at bytes.now (offsets_at bytes.now + 4 * k) ≡ at) }
-        ensures refused { OnErr result ((has_offsets bytes.now ≡ true → u32_at bytes.now (offsets_at bytes.now + 4 * k) ≡ at) → ⊥) }
+        ensures fault { IfErr result (λ m. (end : ℕ) → IsFault bytes.now end m.fault m.at) }
     {
         if !self.offsets {
             return Ok(());
@@ -180,13 +182,13 @@ impl Header {
         }
     }
 
-    // Sees that the keys ascend, and answers how many numbers of 16 bits lie up to the last.
-    pub(crate) fn check_keys(&self, bytes: &[u8]) -> Result<usize, Malformed>
+    // Checks that the keys ascend and lie below `end`, and returns the number after the last.
+    pub(crate) fn check_keys(&self, bytes: &[u8], end: usize) -> Result<usize, Malformed>
         requires header { IsHeader bytes.now self.now }
         ensures ascending { OnOk result ((k : ℕ) → k + 1 < container_count bytes.now → key_of bytes.now k < key_of bytes.now (k + 1)) }
-        ensures below { IfOk result (λ keys. (k : ℕ) → k < container_count bytes.now → key_of bytes.now k < keys) }
-        ensures few { IfOk result (λ keys. keys ≤ 16384) }
-        ensures refused { OnErr result (IsStream bytes.now → IsInRange bytes.now → ⊥) }
+        ensures below { IfOk result (λ next. HasKeysBelow bytes.now next) }
+        ensures few { IfOk result (λ next. next ≤ end) }
+        ensures fault { IfErr result (λ m. IsFault bytes.now end m.fault m.at) }
     {
         let mut next = 0;
         'keys: for k in 0..self.count {
@@ -197,7 +199,7 @@ impl Header {
                     at: self.keys + 4 * k,
                 });
             }
-            if key >= KEYS {
+            if key >= end {
                 return Err(Malformed {
                     fault: Fault::OutOfRange,
                     at: self.keys + 4 * k,

@@ -2,10 +2,11 @@
 
 ghost use Rattle.std.specs.Prelude.{◌≡◌, ℕ, ◌+◌, ◌-◌, ◌*◌, ◌/◌, ◌^◌, ◌<◌, ◌≤◌, get_or, length, IfOk, OnOk};
 ghost use Rattle.std.specs.Int.RustNames.{count_ones};
-ghost use Rattle.hibitset_roaring.specs.Writing.{ones_from, ones_under, AreHeads};
+ghost use Rattle.hibitset_roaring.specs.Words.{ones_from, ones_under};
+ghost use Rattle.hibitset_roaring.specs.Streams.{AreHeads};
 
 use crate::array::word_of;
-use crate::places::WORDS;
+use crate::layout::CONTAINER_WORDS;
 use std::alloc::{AllocError, Global};
 
 /// The keys of the containers of a set, and how many members each has.
@@ -22,7 +23,7 @@ fn count_whole(words: &[usize], base: usize) -> usize
     ensures few { result ≤ 65536 }
 {
     let mut ones = 0;
-    'words: for j in 0..WORDS {
+    'words: for j in 0..CONTAINER_WORDS {
         ones += words[base + j].count_ones() as usize;
     }
     ones
@@ -35,7 +36,7 @@ fn count_rest(words: &[usize], base: usize) -> usize
     ensures few { result ≤ 65536 }
 {
     let mut ones = 0;
-    'words: for j in 0..WORDS {
+    'words: for j in 0..CONTAINER_WORDS {
         ones += word_of(words, base + j).count_ones() as usize;
     }
     ones
@@ -47,8 +48,8 @@ pub(crate) fn count_under(words: &[usize], key: usize) -> usize
     ensures count { result ≡ ones_under words.now key }
     ensures few { result ≤ 65536 }
 {
-    let base = WORDS * key;
-    if base + WORDS <= words.len() {
+    let base = CONTAINER_WORDS * key;
+    if base + CONTAINER_WORDS <= words.len() {
         count_whole(words, base)
     } else {
         count_rest(words, base)
@@ -80,7 +81,7 @@ impl Heads {
             keys: Vec::new(alloc),
             counts: Vec::new(alloc),
         };
-        'keys: for key in 0..(words.len() + (WORDS - 1)) / WORDS {
+        'keys: for key in 0..(words.len() + (CONTAINER_WORDS - 1)) / CONTAINER_WORDS {
             heads.note(words, key)?;
         }
         Ok(heads)

@@ -8,7 +8,7 @@ mod header;
 mod heads;
 pub mod laws;
 mod number;
-mod places;
+mod layout;
 mod reader;
 mod words;
 mod writer;

@@ -2,7 +2,7 @@
 
 ghost use Rattle.std.specs.Prelude.{◌≡◌, ◌+◌, ◌<◌, ◌≤◌, ◌^◌, length};
 ghost use Rattle.hibitset_roaring.specs.Numbers.{u16_at, u32_at, u64_at};
-ghost use Rattle.hibitset_roaring.specs.Writing.{SameBefore};
+ghost use Rattle.hibitset_roaring.specs.Streams.{SameBefore};
 
 // The number of two bytes.
 #[inline]

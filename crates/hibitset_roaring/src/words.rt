@@ -13,8 +13,8 @@ pub(crate) fn set_bit(words: &mut [usize], number: usize)
     requires { number / 64 < length words.old }
     ensures { (i : ℕ) → stands_in words.new i ≡ (stands_in words.old i || i == number) }
 {
-    let place = number / 64;
-    words[place] = with_bit(words[place], number % 64, true);
+    let slot = number / 64;
+    words[slot] = with_bit(words[slot], number % 64, true);
 }
 
 // A word of so many ones, from its lowest bit on.
@@ -30,13 +30,13 @@ fn low_bits(count: usize) -> usize
     }
 }
 
-// The bits of the word at a place that stand for the numbers of a range.
+// The bits of the word at a slot that stand for the numbers of a range.
 #[inline]
-fn bits_within(place: usize, start: usize, end: usize) -> usize
-    requires { 64 * place < 2 ^ 63 }
-    ensures { (b : ℕ) → b < 64 → bit_at result b ≡ bit_of (in_range start end (64 * place + b)) }
+fn bits_within(slot: usize, start: usize, end: usize) -> usize
+    requires { 64 * slot < 2 ^ 63 }
+    ensures { (b : ℕ) → b < 64 → bit_at result b ≡ bit_of (in_range start end (64 * slot + b)) }
 {
-    let first = 64 * place;
+    let first = 64 * slot;
     let before = low_bits(start.saturating_sub(first).min(64));
     low_bits(end.saturating_sub(first).min(64)) & !before
 }
@@ -48,7 +48,7 @@ pub(crate) fn set_range(words: &mut [usize], start: usize, end: usize)
     requires small { end < 2 ^ 62 }
     ensures { (i : ℕ) → stands_in words.new i ≡ (stands_in words.old i || in_range start end i) }
 {
-    'places: for place in start / 64..(end + 63) / 64 {
-        words[place] |= bits_within(place, start, end);
+    'slots: for slot in start / 64..(end + 63) / 64 {
+        words[slot] |= bits_within(slot, start, end);
     }
 }

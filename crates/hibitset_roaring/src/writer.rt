@@ -5,14 +5,16 @@ ghost use Rattle.hibitset.specs.BitSet.{has};
 ghost use Rattle.hibitset.specs.Numbers.{stands_in};
 ghost use Rattle.hibitset_roaring.specs.Numbers.{u16_at, u32_at, u64_at, ones_in};
 ghost use Rattle.hibitset_roaring.specs.Format.{in_bits, holds, IsStream};
-ghost use Rattle.hibitset_roaring.specs.Reading.{IsInRange};
-ghost use Rattle.hibitset_roaring.specs.Writing.{SameBefore, ones_from, ones_under, flat_bytes, start, AreHeads, IsWritten, IsHeaded};
+ghost use Rattle.hibitset_roaring.specs.Format.{HasKeysBelow};
+ghost use Rattle.hibitset_roaring.specs.declared.header.TheConstants.{KEYS};
+ghost use Rattle.hibitset_roaring.specs.Streams.{SameBefore, flat_bytes, start, AreHeads, IsWritten, IsHeaded};
+ghost use Rattle.hibitset_roaring.specs.Words.{ones_from, ones_under};
 
 use crate::array::{word_of, write_array};
 use crate::header::NO_RUNS;
 use crate::heads::Heads;
 use crate::number::{put_u16, put_u32, put_u64};
-use crate::places::{MOST_IN_ARRAY, WORDS, flat_size};
+use crate::layout::{MOST_IN_ARRAY, CONTAINER_WORDS, flat_size};
 use hibitset::BitSet;
 use std::alloc::{AllocError, Global};
 
@@ -24,8 +26,8 @@ fn write_bits(out: &mut [u8], at: usize, words: &[usize], key: usize)
     ensures ones { ones_in out.new at 1024 ≡ ones_under words.now key }
     ensures members { (v : ℕ) → v < 65536 → in_bits out.new at v ≡ stands_in words.now (65536 * key + v) }
 {
-    let base = WORDS * key;
-    'words: for j in 0..WORDS {
+    let base = CONTAINER_WORDS * key;
+    'words: for j in 0..CONTAINER_WORDS {
         put_u64(out, at + 8 * j, word_of(words, base + j));
     }
 }
@@ -117,7 +119,7 @@ fn write_stream(out: &mut [u8], keys: &[usize], counts: &[usize], words: &[usize
     requires short { length words.now ≤ 16777216 }
     requires room { length out.old ≡ start counts.now (length keys.now) }
     ensures stream { IsStream out.new }
-    ensures range { IsInRange out.new }
+    ensures range { HasKeysBelow out.new 16384 }
     ensures members { (i : ℕ) → holds out.new i ≡ stands_in words.now i }
 {
     write_header(out, keys, counts);
@@ -134,7 +136,7 @@ pub fn serialized_len(alloc: Global, set: &BitSet) -> Result<usize, AllocError> 
 /// A set as a stream in the portable Roaring format, without runs: arrays where at most 4,096 members share their high 16 bits, and bits where more do. It is what CRoaring writes of the same set where it has no runs. The error is want of memory.
 pub fn write(alloc: Global, set: &BitSet) -> Result<Vec<u8>, AllocError>
     ensures stream { IfOk result (λ out. IsStream out.items) }
-    ensures range { IfOk result (λ out. IsInRange out.items) }
+    ensures range { IfOk result (λ out. HasKeysBelow out.items KEYS) }
     ensures members { IfOk result (λ out. (i : ℕ) → holds out.items i ≡ has set.now i) }
 {
     let words = set.layer0_as_slice();

@@ -1,5 +1,5 @@
 use Rattle.std.proofs.Common.{arith}
-use Rattle.hibitset_roaring.proofs.Listing.{takes_lowest}
+use Rattle.hibitset_roaring.proofs.WordLemmas.{takes_lowest}
 use Rattle.hibitset_roaring.proofs.array.take_lowest.Goals as goal
 
 pub returns : goal.returns

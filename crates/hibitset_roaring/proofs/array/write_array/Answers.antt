@@ -4,10 +4,10 @@ use Rattle.std.specs.Int.RustNames.{count_ones}
 use Rattle.std.proofs.lemmas.Bool.{cases_lt, le-ltb}
 use Rattle.hibitset.specs.Numbers.{stands_in}
 use Rattle.hibitset_roaring.specs.Numbers.{u16_at}
-use Rattle.hibitset_roaring.specs.Writing.{in_word}
-use Rattle.hibitset_roaring.proofs.Parts.{array_none}
-use Rattle.hibitset_roaring.proofs.Keeping.{before_none, before_both, before_less, u16_same}
-use Rattle.hibitset_roaring.proofs.Listing.{ones_first, ones_more, ones_mono, word_more}
+use Rattle.hibitset_roaring.specs.Words.{in_word}
+use Rattle.hibitset_roaring.proofs.PartLemmas.{array_none}
+use Rattle.hibitset_roaring.proofs.FrameLemmas.{before_none, before_both, before_less, u16_same}
+use Rattle.hibitset_roaring.proofs.WordLemmas.{ones_first, ones_more, ones_mono, word_more}
 use Rattle.hibitset_roaring.proofs.array.write_array.Goals as goal
 
 pub words-init : goal.words-init

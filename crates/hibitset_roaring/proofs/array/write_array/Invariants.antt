@@ -3,7 +3,8 @@ use Rattle.std.specs.Prelude.{nat_lt}
 use Rattle.hibitset.specs.Numbers.{stands_in}
 use Rattle.hibitset_roaring.specs.Numbers.{u16_at}
 use Rattle.hibitset_roaring.specs.Format.{in_array}
-use Rattle.hibitset_roaring.specs.Writing.{SameBefore, ones_from}
+use Rattle.hibitset_roaring.specs.Streams.{SameBefore}
+use Rattle.hibitset_roaring.specs.Words.{ones_from}
 use Rattle.hibitset_roaring.proofs.array.write_array.Given as goal
 
 -- the members of so many words are written

@@ -3,11 +3,11 @@ use Rattle.std.specs.Int.{bit_at}
 use Rattle.std.proofs.lemmas.Bool.{cases_lt}
 use Rattle.hibitset_roaring.specs.Numbers.{u16_at}
 use Rattle.hibitset_roaring.specs.Format.{in_array}
-use Rattle.hibitset_roaring.specs.Writing.{in_word}
-use Rattle.hibitset_roaring.proofs.Testing.{or_move}
-use Rattle.hibitset_roaring.proofs.Parts.{array_next}
-use Rattle.hibitset_roaring.proofs.Keeping.{before_both, before_less, u16_same, in_array_same}
-use Rattle.hibitset_roaring.proofs.Listing.{taken_word}
+use Rattle.hibitset_roaring.specs.Words.{in_word}
+use Rattle.hibitset_roaring.proofs.TestLemmas.{or_move}
+use Rattle.hibitset_roaring.proofs.PartLemmas.{array_next}
+use Rattle.hibitset_roaring.proofs.FrameLemmas.{before_both, before_less, u16_same, in_array_same}
+use Rattle.hibitset_roaring.proofs.WordLemmas.{taken_word}
 use Rattle.hibitset_roaring.proofs.array.write_word.Goals as goal
 
 pub bits-preserved : goal.bits-preserved

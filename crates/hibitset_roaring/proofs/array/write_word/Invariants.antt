@@ -3,7 +3,8 @@ use Rattle.std.specs.Int.{bit_at}
 use Rattle.std.specs.Int.RustNames.{count_ones}
 use Rattle.hibitset_roaring.specs.Numbers.{u16_at}
 use Rattle.hibitset_roaring.specs.Format.{in_array}
-use Rattle.hibitset_roaring.specs.Writing.{SameBefore, in_word}
+use Rattle.hibitset_roaring.specs.Streams.{SameBefore}
+use Rattle.hibitset_roaring.specs.Words.{in_word}
 use Rattle.hibitset_roaring.proofs.array.write_word.Given as goal
 
 -- what is written or still to be written is the same, and what is written is less than the rest

@@ -1,9 +1,9 @@
-use Rattle.std.proofs.Common.{◌≡◌, ℕ, ◌+◌, ◌-◌, ◌*◌, ◌<◌, ◌==◌, ◌||◌, ap, ◌∙◌, sym, refl, arith, inl, inr}
+use Rattle.std.proofs.Common.{◌≡◌, ℕ, ◌+◌, ◌-◌, ◌*◌, ◌<◌, ◌≤◌, ◌==◌, ◌||◌, ap, ◌∙◌, sym, refl, arith, inl, inr}
 use Rattle.std.proofs.lemmas.Bool.{cases_lt}
 use Rattle.hibitset_roaring.specs.Numbers.{u16_at}
 use Rattle.hibitset_roaring.specs.Format.{in_array}
-use Rattle.hibitset_roaring.proofs.Parts.{array_none, array_next}
-use Rattle.hibitset_roaring.proofs.Putting.{adds_none, adds_one}
+use Rattle.hibitset_roaring.proofs.PartLemmas.{array_none, array_next}
+use Rattle.hibitset_roaring.proofs.AddLemmas.{adds_none, adds_one}
 use Rattle.hibitset_roaring.proofs.container.read_array.Goals as goal
 
 pub numbers-init : goal.numbers-init
@@ -14,10 +14,12 @@ numbers-init c = record {
   members = adds_none c.args.key (in_array c.args.bytes.now c.args.at 0) c.args.words.now (array_none c.args.bytes.now c.args.at);
 }
 
-pub returns-then-low-next-clause-refused : goal.returns-then-low-next-clause-refused
-returns-then-low-next-clause-refused c = λ array.
+pub returns-then-low-next-clause-fault : goal.returns-then-low-next-clause-fault
+returns-then-low-next-clause-fault c =
     let h = c.numbers.invariant in
     let j : ℕ = c.numbers.j in
+    let bytes = c.args.bytes.now in
+    let at : ℕ = c.args.at in
     let below : j < c.args.len = c.numbers-test.true in
     let less = c.if-low-next.true in
     let number = c.read_u16-low.ensures.number in
@@ -25,10 +27,9 @@ returns-then-low-next-clause-refused c = λ array.
       | inl some ↦
           let e : j - 1 + 1 ≡ j = omega (arith, some) in
           let last = h.last (j - 1) e in
-          let a = array.ascending (j - 1) (omega (arith, e, below)) in
-          let b : u16_at c.args.bytes.now (c.args.at + 2 * (j - 1)) < u16_at c.args.bytes.now (c.args.at + 2 * j) = rw e at a in
-          omega (arith, last, b, less, number)
-      | inr none ↦ (let z = h.none (omega (arith, none)) in omega (arith, z, less))
+          let low : u16_at bytes (at + 2 * j) ≤ u16_at bytes (at + 2 * (j - 1)) = omega (arith, last, less, number) in
+          (refl, record { number = j - 1; counted = omega (arith, e, below); here = omega (arith, e); low = rw e low })
+      | inr none ↦ absurd (let z = h.none (omega (arith, none)) in omega (arith, z, less))
     ]
 
 pub numbers-preserved : goal.numbers-preserved

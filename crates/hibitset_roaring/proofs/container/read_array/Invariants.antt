@@ -1,7 +1,7 @@
 use Rattle.std.proofs.Common.{◌≡◌, ℕ, ◌+◌, ◌*◌, ◌<◌}
 use Rattle.hibitset_roaring.specs.Numbers.{u16_at}
 use Rattle.hibitset_roaring.specs.Format.{in_array}
-use Rattle.hibitset_roaring.specs.Reading.{Adds}
+use Rattle.hibitset_roaring.specs.Words.{Adds}
 use Rattle.hibitset_roaring.proofs.container.read_array.Given as goal
 
 -- the numbers so far ascend, and are put in

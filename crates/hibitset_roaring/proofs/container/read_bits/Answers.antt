@@ -4,8 +4,8 @@ use Rattle.std.proofs.lemmas.Bool.{cases_lt}
 use Rattle.std.proofs.lemmas.List.{get_or-set_same, get_or-set_other}
 use Rattle.hibitset_base.proofs.Counting.{few_ones}
 use Rattle.hibitset_roaring.specs.Numbers.{u64_at}
-use Rattle.hibitset_roaring.proofs.Parts.{ones_none, ones_next}
-use Rattle.hibitset_roaring.proofs.Putting.{adds_words}
+use Rattle.hibitset_roaring.proofs.PartLemmas.{ones_none, ones_next}
+use Rattle.hibitset_roaring.proofs.AddLemmas.{adds_words}
 use Rattle.hibitset_roaring.proofs.container.read_bits.Goals as goal
 
 pub words-init : goal.words-init

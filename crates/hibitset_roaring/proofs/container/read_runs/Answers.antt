@@ -1,12 +1,12 @@
-use Rattle.std.proofs.Common.{◌≡◌, ℕ, ◌+◌, ◌-◌, ◌*◌, ◌/◌, ◌%◌, ◌<◌, ◌==◌, ◌&&◌, ap, ◌∙◌, sym, refl, arith, inl, inr}
+use Rattle.std.proofs.Common.{◌≡◌, ℕ, ◌+◌, ◌-◌, ◌*◌, ◌/◌, ◌%◌, ◌<◌, ◌≤◌, ◌==◌, ◌&&◌, ap, ◌∙◌, sym, refl, arith, inl, inr}
 use Rattle.std.specs.Prelude.{nat_le}
 use Rattle.std.proofs.lemmas.Bool.{cases_lt}
 use Rattle.hibitset.specs.Numbers.{in_range}
 use Rattle.hibitset_roaring.specs.Numbers.{any_below}
 use Rattle.hibitset_roaring.specs.Format.{run_count, run_first, run_last, run_total, in_run, in_runs}
-use Rattle.hibitset_roaring.proofs.Testing.{any_next, any_none, range_test}
-use Rattle.hibitset_roaring.proofs.Parts.{count_is, first_is, last_is, total_none, total_next}
-use Rattle.hibitset_roaring.proofs.Putting.{adds_none, adds_more, adds_same}
+use Rattle.hibitset_roaring.proofs.TestLemmas.{any_next, any_none, range_test}
+use Rattle.hibitset_roaring.proofs.PartLemmas.{count_is, first_is, last_is, total_none, total_next}
+use Rattle.hibitset_roaring.proofs.AddLemmas.{adds_none, adds_more, adds_same}
 use Rattle.hibitset_roaring.proofs.container.read_runs.Goals as goal
 
 pub runs-init : goal.runs-init
@@ -20,8 +20,8 @@ runs-init c = record {
   members = adds_none c.args.key (λ low. any_below 0 (λ i. in_run c.args.bytes.now c.args.at i low)) c.args.words.now (λ v. any_none (λ i. in_run c.args.bytes.now c.args.at i v));
 }
 
-pub returns-then-first-next-clause-refused : goal.returns-then-first-next-clause-refused
-returns-then-first-next-clause-refused c = λ n runs.
+pub returns-then-first-next-clause-fault : goal.returns-then-first-next-clause-fault
+returns-then-first-next-clause-fault c =
     let h = c.runs.invariant in
     let r : ℕ = c.runs.r in
     let bytes = c.args.bytes.now in
@@ -34,24 +34,22 @@ returns-then-first-next-clause-refused c = λ n runs.
       | inl some ↦
           let e : r - 1 + 1 ≡ r = omega (arith, some) in
           let last = h.last (r - 1) e in
-          let a = runs.apart (r - 1) (omega (arith, e, below)) in
-          let b : run_last bytes at (r - 1) + 1 < run_first bytes at r = rw e at a in
-          omega (arith, last, b, less, number, first)
-      | inr none ↦ (let z = h.none (omega (arith, none)) in omega (arith, z, less))
+          let close : run_first bytes at r ≤ run_last bytes at (r - 1) + 1 = omega (arith, last, less, number, first) in
+          inl (refl, record { run = r - 1; counted = omega (arith, e, below); here = omega (arith, e); close = rw e close })
+      | inr none ↦ absurd (let z = h.none (omega (arith, none)) in omega (arith, z, less))
     ]
 
-pub returns-then-last-ge-CHUNK-clause-refused : goal.returns-then-last-ge-CHUNK-clause-refused
-returns-then-last-ge-CHUNK-clause-refused c = λ n runs.
+pub returns-then-last-ge-CONTAINER_NUMBERS-clause-fault : goal.returns-then-last-ge-CONTAINER_NUMBERS-clause-fault
+returns-then-last-ge-CONTAINER_NUMBERS-clause-fault c =
     let r : ℕ = c.runs.r in
     let bytes = c.args.bytes.now in
     let at : ℕ = c.args.at in
     let below : r < run_count bytes at = (let t = c.runs-test.true in let k = count_is bytes at in omega (arith, t, k, c.read_u16-count.ensures.number)) in
-    let inside = runs.within r below in
     let last = last_is bytes at r in
     let first = c.read_u16-first.ensures.number in
     let rest = c.read_u16.ensures.number in
-    let more = c.if-last-ge-CHUNK.true in
-    omega (arith, inside, last, first, rest, more)
+    let more = c.if-last-ge-CONTAINER_NUMBERS.true in
+    inr (refl, record { run = r; counted = below; here = refl; long = omega (arith, last, first, rest, more) })
 
 pub runs-preserved : goal.runs-preserved
 runs-preserved c =
@@ -64,7 +62,7 @@ runs-preserved c =
     let high : ℕ = low + c.read_u16.result in
     let first : low ≡ run_first bytes at r = c.read_u16-first.ensures.number ∙ sym (first_is bytes at r) in
     let last : high ≡ run_last bytes at r = (let l = last_is bytes at r in let a = c.read_u16-first.ensures.number in let b = c.read_u16.ensures.number in omega (arith, l, a, b)) in
-    let small : high < 65536 = c.if-last-ge-CHUNK.false in
+    let small : high < 65536 = c.if-last-ge-CONTAINER_NUMBERS.false in
     let more = c.if-first-next.false in
     record {
       total = (let t = total_next bytes at r in omega (arith, t, h.total, first, last));

@@ -1,7 +1,7 @@
 use Rattle.std.proofs.Common.{◌≡◌, ℕ, ◌+◌, ◌*◌, ◌<◌, ◌≤◌}
 use Rattle.hibitset_roaring.specs.Numbers.{any_below}
 use Rattle.hibitset_roaring.specs.Format.{run_first, run_last, run_total, in_run}
-use Rattle.hibitset_roaring.specs.Reading.{Adds}
+use Rattle.hibitset_roaring.specs.Words.{Adds}
 use Rattle.hibitset_roaring.proofs.container.read_runs.Given as goal
 
 -- the runs so far lie apart, and their numbers are put in

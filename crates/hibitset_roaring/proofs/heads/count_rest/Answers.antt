@@ -1,7 +1,7 @@
 use Rattle.std.proofs.Common.{◌≡◌, ℕ, ◌+◌, get_or, ap, sym, arith}
 use Rattle.std.specs.Int.RustNames.{count_ones}
 use Rattle.hibitset_base.proofs.Counting.{few_ones}
-use Rattle.hibitset_roaring.proofs.Listing.{ones_first, ones_more}
+use Rattle.hibitset_roaring.proofs.WordLemmas.{ones_first, ones_more}
 use Rattle.hibitset_roaring.proofs.heads.count_rest.Goals as goal
 
 pub words-init : goal.words-init

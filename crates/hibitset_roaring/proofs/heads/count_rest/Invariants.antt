@@ -1,5 +1,5 @@
 use Rattle.std.proofs.Common.{◌≡◌, ◌*◌, ◌≤◌}
-use Rattle.hibitset_roaring.specs.Writing.{ones_from}
+use Rattle.hibitset_roaring.specs.Words.{ones_from}
 use Rattle.hibitset_roaring.proofs.heads.count_rest.Given as goal
 
 abbrev pub invariant-words : goal.invariant-words

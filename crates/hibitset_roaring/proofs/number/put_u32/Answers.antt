@@ -1,7 +1,7 @@
 use Rattle.std.proofs.Common.{◌≡◌, ◌+◌, ◌%◌, ◌∙◌, arith}
 use Rattle.hibitset_roaring.specs.Numbers.{u16_at}
-use Rattle.hibitset_roaring.proofs.Heading.{u32_is}
-use Rattle.hibitset_roaring.proofs.Keeping.{u16_same}
+use Rattle.hibitset_roaring.proofs.HeaderLemmas.{u32_is}
+use Rattle.hibitset_roaring.proofs.FrameLemmas.{u16_same}
 use Rattle.hibitset_roaring.proofs.number.put_u32.Goals as goal
 
 pub returns-clause-here : goal.returns-clause-here

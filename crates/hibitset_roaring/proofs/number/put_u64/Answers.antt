@@ -1,7 +1,7 @@
 use Rattle.std.proofs.Common.{◌≡◌, ◌+◌, ◌%◌, ◌∙◌, arith}
 use Rattle.hibitset_roaring.specs.Numbers.{u32_at}
-use Rattle.hibitset_roaring.proofs.Heading.{u64_is}
-use Rattle.hibitset_roaring.proofs.Keeping.{u32_same}
+use Rattle.hibitset_roaring.proofs.HeaderLemmas.{u64_is}
+use Rattle.hibitset_roaring.proofs.FrameLemmas.{u32_same}
 use Rattle.hibitset_roaring.proofs.number.put_u64.Goals as goal
 
 pub returns-clause-here : goal.returns-clause-here

@@ -2,13 +2,13 @@ use Rattle.std.proofs.Common.{◌≡◌, ℕ, ◌+◌, ◌/◌, ◌%◌, ◌<◌
 use Rattle.std.proofs.lemmas.Bool.{cases_lt}
 use Rattle.hibitset_roaring.specs.Numbers.{any_below}
 use Rattle.hibitset_roaring.specs.Format.{container_count, key_of, in_container, holds}
-use Rattle.hibitset_roaring.proofs.Testing.{any_none, any_next, or_comm, eq_comm}
-use Rattle.hibitset_roaring.proofs.Placing.{place_first, place_mono}
+use Rattle.hibitset_roaring.proofs.TestLemmas.{any_none, any_next, or_comm, eq_comm}
+use Rattle.hibitset_roaring.proofs.LayoutLemmas.{at_first, at_mono}
 use Rattle.hibitset_roaring.proofs.reader.read_containers.Goals as goal
 
 pub containers-init : goal.containers-init
 containers-init c = record {
-  at_is = c.requires.header.first_is ∙ sym (place_first c.args.bytes.now);
+  at_is = c.requires.header.first_is ∙ sym (at_first c.args.bytes.now);
   containers = λ i below. absurd (omega (arith, below));
   members = λ i. c.requires.empty i ∙ sym (any_none (λ k. (key_of c.args.bytes.now k == i / 65536) && in_container c.args.bytes.now k (i % 65536)));
 }
@@ -18,7 +18,7 @@ end-end-requires-clause-within c =
     let t = c.containers-test.true in
     let n = c.requires.header.count_is in
     let below : c.containers.k < container_count c.args.bytes.now = omega (arith, t, n) in
-    let m = place_mono c.args.bytes.now (c.containers.k + 1) (container_count c.args.bytes.now) (omega (arith, below)) in
+    let m = at_mono c.args.bytes.now (c.containers.k + 1) (container_count c.args.bytes.now) (omega (arith, below)) in
     let w = c.requires.whole in
     omega (arith, m, w)
 
@@ -27,7 +27,7 @@ read_container-requires-clause-within c =
     let t = c.containers-test.true in
     let n = c.requires.header.count_is in
     let below : c.containers.k < container_count c.args.bytes.now = omega (arith, t, n) in
-    let m = place_mono c.args.bytes.now (c.containers.k + 1) (container_count c.args.bytes.now) (omega (arith, below)) in
+    let m = at_mono c.args.bytes.now (c.containers.k + 1) (container_count c.args.bytes.now) (omega (arith, below)) in
     let w = c.requires.whole in
     omega (arith, m, w)
 

@@ -1,4 +1,4 @@
-use Rattle.hibitset_roaring.proofs.Putting.{set_one}
+use Rattle.hibitset_roaring.proofs.AddLemmas.{set_one}
 use Rattle.hibitset_roaring.proofs.words.set_bit.Goals as goal
 
 pub returns : goal.returns

@@ -1,6 +1,6 @@
 use Rattle.std.proofs.Common.{◌≡◌, ◌+◌, get_or, sym, arith}
-use Rattle.hibitset_roaring.specs.Writing.{start}
-use Rattle.hibitset_roaring.proofs.Noting.{start_first, start_next, start_mono, start_most, flat_from}
+use Rattle.hibitset_roaring.specs.Streams.{start}
+use Rattle.hibitset_roaring.proofs.HeadsLemmas.{start_first, start_next, start_mono, start_most, flat_from}
 use Rattle.hibitset_roaring.proofs.writer.len_of.Goals as goal
 
 pub counts-init : goal.counts-init

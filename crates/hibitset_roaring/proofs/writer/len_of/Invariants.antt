@@ -1,5 +1,5 @@
 use Rattle.std.proofs.Common.{◌≡◌}
-use Rattle.hibitset_roaring.specs.Writing.{start}
+use Rattle.hibitset_roaring.specs.Streams.{start}
 use Rattle.hibitset_roaring.proofs.writer.len_of.Given as goal
 
 abbrev pub invariant-counts : goal.invariant-counts

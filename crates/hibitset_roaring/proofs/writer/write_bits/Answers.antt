@@ -1,7 +1,7 @@
 use Rattle.std.proofs.Common.{◌≡◌, ℕ, ◌+◌, ◌*◌, ◌∙◌, arith, inl, inr}
 use Rattle.std.proofs.lemmas.Bool.{cases_lt}
-use Rattle.hibitset_roaring.proofs.Keeping.{before_both, before_less, u64_same}
-use Rattle.hibitset_roaring.proofs.Marking.{ones_marked, bits_marked}
+use Rattle.hibitset_roaring.proofs.FrameLemmas.{before_both, before_less, u64_same}
+use Rattle.hibitset_roaring.proofs.BitLemmas.{ones_marked, bits_marked}
 use Rattle.hibitset_roaring.proofs.writer.write_bits.Goals as goal
 
 pub words-preserved : goal.words-preserved

@@ -1,8 +1,8 @@
 use Rattle.std.proofs.Common.{◌≡◌, ℕ, ◌+◌, ◌*◌, get_or, length, sym, arith, inl, inr}
 use Rattle.std.proofs.lemmas.Bool.{cases_lt}
-use Rattle.hibitset_roaring.specs.Writing.{start}
-use Rattle.hibitset_roaring.proofs.Noting.{start_first, start_next, start_mono, start_most, flat_from, flat_is_small, flat_is_large}
-use Rattle.hibitset_roaring.proofs.Keeping.{before_none, before_both, before_less, written_same}
+use Rattle.hibitset_roaring.specs.Streams.{start}
+use Rattle.hibitset_roaring.proofs.HeadsLemmas.{start_first, start_next, start_mono, start_most, flat_from, flat_is_small, flat_is_large}
+use Rattle.hibitset_roaring.proofs.FrameLemmas.{before_none, before_both, before_less, written_same}
 use Rattle.hibitset_roaring.proofs.writer.write_containers.Goals as goal
 
 pub containers-init : goal.containers-init

@@ -1,5 +1,5 @@
 use Rattle.std.proofs.Common.{◌≡◌, ℕ, ◌+◌, ◌*◌, ◌<◌, get_or, length}
-use Rattle.hibitset_roaring.specs.Writing.{SameBefore, start, IsWritten}
+use Rattle.hibitset_roaring.specs.Streams.{SameBefore, start, IsWritten}
 use Rattle.hibitset_roaring.proofs.writer.write_containers.Given as goal
 
 -- so many containers are written

@@ -1,7 +1,7 @@
 use Rattle.std.proofs.Common.{◌≡◌, ℕ, ◌+◌, ◌*◌, ap, ◌∙◌, arith, inl, inr}
 use Rattle.std.proofs.lemmas.Bool.{cases_lt}
-use Rattle.hibitset_roaring.specs.Writing.{SameBefore}
-use Rattle.hibitset_roaring.proofs.Keeping.{before_both, before_less, u16_same, u32_same}
+use Rattle.hibitset_roaring.specs.Streams.{SameBefore}
+use Rattle.hibitset_roaring.proofs.FrameLemmas.{before_both, before_less, u16_same, u32_same}
 use Rattle.hibitset_roaring.proofs.writer.write_header.Goals as goal
 
 pub keys-init : goal.keys-init

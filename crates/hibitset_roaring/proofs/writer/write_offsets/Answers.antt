@@ -1,7 +1,7 @@
 use Rattle.std.proofs.Common.{◌≡◌, ℕ, ◌+◌, ◌*◌, get_or, length, sym, ◌∙◌, arith, inl, inr}
 use Rattle.std.proofs.lemmas.Bool.{cases_lt}
-use Rattle.hibitset_roaring.proofs.Noting.{start_first, start_next, start_most, flat_from}
-use Rattle.hibitset_roaring.proofs.Keeping.{before_none, before_both, before_less, u32_same}
+use Rattle.hibitset_roaring.proofs.HeadsLemmas.{start_first, start_next, start_most, flat_from}
+use Rattle.hibitset_roaring.proofs.FrameLemmas.{before_none, before_both, before_less, u32_same}
 use Rattle.hibitset_roaring.proofs.writer.write_offsets.Goals as goal
 
 pub offsets-init : goal.offsets-init

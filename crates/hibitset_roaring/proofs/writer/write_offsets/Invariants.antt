@@ -1,6 +1,6 @@
 use Rattle.std.proofs.Common.{◌≡◌, ℕ, ◌+◌, ◌*◌, ◌<◌, length}
 use Rattle.hibitset_roaring.specs.Numbers.{u32_at}
-use Rattle.hibitset_roaring.specs.Writing.{SameBefore, start}
+use Rattle.hibitset_roaring.specs.Streams.{SameBefore, start}
 use Rattle.hibitset_roaring.proofs.writer.write_offsets.Given as goal
 
 -- so many offsets are written

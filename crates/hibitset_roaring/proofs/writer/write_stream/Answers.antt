@@ -1,9 +1,9 @@
 use Rattle.std.proofs.Common.{◌≡◌, ℕ, ◌+◌, ◌*◌, ◌/◌, length, ap, ◌∙◌, arith}
 use Rattle.hibitset_roaring.specs.Numbers.{u32_at}
-use Rattle.hibitset_roaring.specs.Writing.{IsHeaded}
-use Rattle.hibitset_roaring.proofs.Keeping.{headed_same, u32_same}
-use Rattle.hibitset_roaring.proofs.Noting.{start_first, start_mono}
-use Rattle.hibitset_roaring.proofs.Written.{holds_written, stream_written, range_written}
+use Rattle.hibitset_roaring.specs.Streams.{IsHeaded}
+use Rattle.hibitset_roaring.proofs.FrameLemmas.{headed_same, u32_same}
+use Rattle.hibitset_roaring.proofs.HeadsLemmas.{start_first, start_mono}
+use Rattle.hibitset_roaring.proofs.StreamLemmas.{holds_written, stream_written, range_written}
 use Rattle.hibitset_roaring.proofs.writer.write_stream.Goals as goal
 
 pub returns-clause-members : goal.returns-clause-members

@@ -9,5 +9,5 @@ invariant-keys l = record {
   none : l.k ≡ 0 → l.next ≡ 0;
   last : (i : ℕ) → i + 1 ≡ l.k → key_of l.bytes i + 1 ≡ l.next;
   below : (i : ℕ) → i < l.k → key_of l.bytes i < l.next;
-  few : l.next ≤ 16384;
+  few : l.next ≤ l.end;
 }

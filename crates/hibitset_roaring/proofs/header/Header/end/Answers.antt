@@ -1,7 +1,7 @@
 use Rattle.std.proofs.Common.{◌*◌, ap, sym, ◌∙◌, arith}
-use Rattle.hibitset_roaring.proofs.Placing.{next_at}
-use Rattle.hibitset_roaring.proofs.Parts.{count_is}
-use Rattle.hibitset_roaring.proofs.Containing.{size_runs, size_flat}
+use Rattle.hibitset_roaring.proofs.LayoutLemmas.{next_at}
+use Rattle.hibitset_roaring.proofs.PartLemmas.{count_is}
+use Rattle.hibitset_roaring.proofs.ContainerLemmas.{size_runs, size_flat}
 use Rattle.hibitset_roaring.proofs.header.Header.end.Goals as goal
 
 pub overflow_add-result : goal.overflow_add-result

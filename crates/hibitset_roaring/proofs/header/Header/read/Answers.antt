@@ -1,14 +1,12 @@
-use Rattle.std.proofs.Common.{arith}
-use Rattle.hibitset_roaring.proofs.Heading.{reckoned_keys, reckoned_offsets, reckoned_first, flags_within, fields_within, places_within}
-use Rattle.hibitset_roaring.proofs.Placing.{first_within}
+use Rattle.std.proofs.Common.{refl, arith, inl}
+use Rattle.hibitset_roaring.proofs.HeaderLemmas.{reckoned_keys, reckoned_offsets, reckoned_first, flags_within, fields_within, offsets_within}
 use Rattle.hibitset_roaring.proofs.header.Header.read.Goals as goal
 
-pub returns-then-bytes-first-clause-refused : goal.returns-then-bytes-first-clause-refused
-returns-then-bytes-first-clause-refused c = λ stream.
-    let f = first_within c.args.bytes.now stream in
+pub returns-then-bytes-first-clause-fault : goal.returns-then-bytes-first-clause-fault
+returns-then-bytes-first-clause-fault c = λ end.
     let is = reckoned_first c.args.bytes.now c.in_ok-runs.runs c.in_ok-runs.count c.keys_after-keys.result c.offsets_are-offsets.result c.first_after-first.result c.in_ok-runs.ensures.runs c.in_ok-runs.ensures.count c.keys_after-keys.ensures c.offsets_are-offsets.ensures c.first_after-first.ensures in
     let less = c.if-bytes-first.true in
-    omega (arith, f, is, less)
+    inl (refl, omega (arith, is, less))
 
 pub returns-clause-header : goal.returns-clause-header
 returns-clause-header c =
@@ -25,5 +23,5 @@ returns-clause-header c =
       within = within;
       flags = λ yes. (let f = flags_within c.args.bytes.now c.in_ok-runs.runs c.in_ok-runs.count c.keys_after-keys.result c.offsets_are-offsets.result c.first_after-first.result c.in_ok-runs.ensures.runs c.in_ok-runs.ensures.count c.keys_after-keys.ensures c.offsets_are-offsets.ensures c.first_after-first.ensures yes in omega (arith, f, within));
       fields = omega (arith, fields, within);
-      places = λ yes. (let f = places_within c.args.bytes.now c.in_ok-runs.runs c.in_ok-runs.count c.keys_after-keys.result c.offsets_are-offsets.result c.first_after-first.result c.in_ok-runs.ensures.runs c.in_ok-runs.ensures.count c.keys_after-keys.ensures c.offsets_are-offsets.ensures c.first_after-first.ensures yes in omega (arith, f, within));
+      offsets_fit = λ yes. (let f = offsets_within c.args.bytes.now c.in_ok-runs.runs c.in_ok-runs.count c.keys_after-keys.result c.offsets_are-offsets.result c.first_after-first.result c.in_ok-runs.ensures.runs c.in_ok-runs.ensures.count c.keys_after-keys.ensures c.offsets_are-offsets.ensures c.first_after-first.ensures yes in omega (arith, f, within));
     }

@@ -1,4 +1,4 @@
-use Rattle.hibitset_roaring.specs.Writing.{AreHeads}
+use Rattle.hibitset_roaring.specs.Streams.{AreHeads}
 use Rattle.hibitset_roaring.proofs.heads.Heads.of.Given as goal
 
 abbrev pub invariant-keys : goal.invariant-keys

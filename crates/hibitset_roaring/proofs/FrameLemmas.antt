@@ -3,7 +3,7 @@ use Rattle.std.proofs.Common.{◌≡◌, ℕ, zero, suc, ◌+◌, ◌*◌, ◌/�
 use Rattle.std.specs.Int.RustNames.{count_ones}
 use Rattle.hibitset_roaring.specs.Numbers.{u16_at, u32_at, u64_at, any_below, ones_in}
 use Rattle.hibitset_roaring.specs.Format.{in_array, IsArray, in_bits}
-use Rattle.hibitset_roaring.specs.Writing.{SameBefore, IsWritten, IsHeaded}
+use Rattle.hibitset_roaring.specs.Streams.{SameBefore, IsWritten, IsHeaded}
 
 pub any_same : (n : ℕ) (p q : ℕ → Bool) → ((j : ℕ) → j < n → p j ≡ q j) → any_below n p ≡ any_below n q
 unfolding any_below

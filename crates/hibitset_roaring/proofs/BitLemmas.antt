@@ -5,7 +5,7 @@ use Rattle.std.specs.Int.RustNames.{count_ones}
 use Rattle.hibitset.specs.Numbers.{stands_in}
 use Rattle.hibitset_roaring.specs.Numbers.{u64_at, ones_in}
 use Rattle.hibitset_roaring.specs.Format.{in_bits}
-use Rattle.hibitset_roaring.specs.Writing.{ones_from}
+use Rattle.hibitset_roaring.specs.Words.{ones_from}
 
 module _ (out words : List ℕ) (at base : ℕ) where
   pub ones_marked : (n : ℕ) → ((q : ℕ) → q < n → u64_at out (at + 8 * q) ≡ get_or words (base + q) 0) → ones_in out at n ≡ ones_from words base n

@@ -3,7 +3,7 @@ use Rattle.std.proofs.Common.{◌≡◌, ℕ, ◌+◌, ◌-◌, ◌*◌, ◌==�
 use Rattle.std.specs.Int.RustNames.{count_ones}
 use Rattle.hibitset_roaring.specs.Numbers.{u16_at, u64_at, ones_in}
 use Rattle.hibitset_roaring.specs.Format.{in_array, run_count, run_first, run_last, run_total}
-use Rattle.hibitset_roaring.proofs.Testing.{any_next, any_none}
+use Rattle.hibitset_roaring.proofs.TestLemmas.{any_next, any_none}
 
 module _ (bytes : List ℕ) (at : ℕ) where
   pub array_none : (v : ℕ) → in_array bytes at 0 v ≡ false

@@ -5,7 +5,7 @@ use Rattle.std.proofs.lemmas.Bool.{cond-true, cond-false, cond_both, cases_Bool}
 use Rattle.hibitset_base.specs.Deciding.{eq_same, eq_other}
 use Rattle.hibitset_roaring.specs.Numbers.{u16_at, u32_at, u64_at}
 use Rattle.hibitset_roaring.specs.Format.{has_runs, container_count, keys_at, has_offsets, offsets_at, first_at, IsStream}
-use Rattle.hibitset_roaring.proofs.Placing.{first_within}
+use Rattle.hibitset_roaring.proofs.LayoutLemmas.{first_within}
 
 -- of an error that is handed on
 pub any_err : {T E : Type 0} (r : Result T E) (P : Type 0) → P → OnErr r P
@@ -53,7 +53,7 @@ module _ (bytes : List ℕ) where
   unfolding first_at
   offsets_first = cond_both (has_offsets bytes) (offsets_at bytes + 4 * container_count bytes) (offsets_at bytes) (λ n. offsets_at bytes ≤ n) (λ _. omega arith) (λ _. omega arith)
 
-  eight : 8 ≤ offsets_at bytes
+  pub eight : 8 ≤ offsets_at bytes
   eight = let o = offsets_at_is in elim (cases_Bool (has_runs bytes)) [
     | inl on ↦ (let n = count_with on in let k = keys_with on in omega (arith, o, n, k))
     | inr off ↦ (let k = keys_without off in omega (arith, o, k))
@@ -83,8 +83,8 @@ module _ (bytes : List ℕ) (runs : Bool) (count keys : ℕ) (offsets : Bool) (f
     | inr off ↦ (let f = first_is ∙ cond-false offsets _ _ off in omega (arith, f))
   ]
 
-  pub places_within : offsets ≡ true → keys + 8 * count ≤ first
-  places_within stands = let f = first_is ∙ cond-true offsets _ _ stands in omega (arith, f)
+  pub offsets_within : offsets ≡ true → keys + 8 * count ≤ first
+  offsets_within stands = let f = first_is ∙ cond-true offsets _ _ stands in omega (arith, f)
 
   pub flags_within : runs ≡ true → 4 + (count + 7) / 8 ≤ first
   flags_within e = let k : keys ≡ 4 + (count + 7) / 8 = keys_is ∙ cond-true runs _ _ e in let f = fields_within in omega (arith, k, f)

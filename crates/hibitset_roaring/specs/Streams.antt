@@ -1,43 +1,19 @@
--- What writing does, part by part.
-use Rattle.std.specs.Prelude.{◌≡◌, ◌≢◌, ℕ, zero, suc, ◌+◌, ◌-◌, ◌*◌, ◌<◌, ◌≤◌, Bool, ◌==◌, ◌&&◌, if◌then◌else◌, nat_le, nat_lt, List, get_or, length}
-use Rattle.std.specs.Int.{bit_at}
-use Rattle.std.specs.Int.RustNames.{count_ones}
+-- What is known of the bytes of a stream while it is written.
+use Rattle.std.specs.Prelude.{◌≡◌, ℕ, zero, suc, ◌+◌, ◌*◌, ◌<◌, ◌≤◌, if◌then◌else◌, nat_le, List, get_or, length}
 use Rattle.hibitset.specs.Numbers.{stands_in}
 use Rattle.hibitset_roaring.specs.Numbers.{u16_at, u32_at, ones_in}
 use Rattle.hibitset_roaring.specs.Format.{in_array, IsArray, in_bits}
+use Rattle.hibitset_roaring.specs.Words.{ones_under}
 
 -- the bytes before this position are as they were
 pub record SameBefore (end : ℕ) (old new : List ℕ) : Type 0 where
   pub byte : (p : ℕ) → p < end → get_or new p 0 ≡ get_or old p 0
 
--- The lowest bit that stands was taken out of a word.
-pub record TakesLowest (old bit new : ℕ) : Type 0 where
-  pub small : bit < 64
-  pub stood : bit_at old bit ≡ 1
-  pub lowest : (b : ℕ) → b < bit → bit_at old b ≡ 0
-  pub gone : bit_at new bit ≡ 0
-  pub others : (b : ℕ) → b < 64 → b ≢ bit → bit_at new b ≡ bit_at old b
-  pub fewer : count_ones old ≡ count_ones new + 1
-  pub less : new < old
-
--- the number is that of a bit of the word whose first bit has the number `first`
-abbrev pub in_word : ℕ → ℕ → ℕ → Bool
-in_word first word v = nat_le first v && (nat_lt v (first + 64) && (bit_at word (v - first) == 1))
-
--- how many bits stand in so many words, from one on
-unfoldable pub ones_from : List ℕ → ℕ → ℕ → ℕ
-ones_from words base zero = 0
-ones_from words base (suc n) = ones_from words base n + count_ones (get_or words (base + n) 0)
-
--- how many members have these high bits
-abbrev pub ones_under : List ℕ → ℕ → ℕ
-ones_under words key = ones_from words (1024 * key) 1024
-
 -- how many bytes a container takes that is no run
 abbrev pub flat_bytes : ℕ → ℕ
 flat_bytes count = if nat_le count 4096 then 2 * count else 8192
 
--- where container k begins that has no runs before it, by the number of members of each
+-- where container k of a stream without runs begins, by the number of members of each
 unfoldable pub start : List ℕ → ℕ → ℕ
 start counts zero = 8 + 8 * length counts
 start counts (suc k) = start counts k + flat_bytes (get_or counts k 0)
@@ -60,7 +36,7 @@ pub record IsWritten (words out : List ℕ) (at key count : ℕ) : Type 0 where
   pub bits : 4096 < count → ones_in out at 1024 ≡ count
   pub marked : 4096 < count → (v : ℕ) → v < 65536 → in_bits out at v ≡ stands_in words (65536 * key + v)
 
--- The bytes begin with a header without runs, for these keys and so many members of each.
+-- The bytes begin with a header without runs, for these keys and counts of members.
 pub record IsHeaded (out keys counts : List ℕ) : Type 0 where
   pub cookie : u32_at out 0 ≡ 12346
   pub count_is : u32_at out 4 ≡ length keys

@@ -10,8 +10,8 @@ use Rattle.hibitset_base.proofs.Masks.{takes_first}
 use Rattle.hibitset_base.proofs.Counting.{bits-count}
 use Rattle.hibitset_base.proofs.Left.{bits-first}
 use Rattle.hibitset.specs.Numbers.{stands_in}
-use Rattle.hibitset_roaring.specs.Writing.{TakesLowest, in_word, ones_from}
-use Rattle.hibitset_roaring.proofs.Testing.{and_false, or_false}
+use Rattle.hibitset_roaring.specs.Words.{TakesLowest, in_word, ones_from}
+use Rattle.hibitset_roaring.proofs.TestLemmas.{and_false, or_false}
 
 pub takes_lowest : (m : ℕ) → 0 < m → m < 2 ^ 64 → TakesLowest m (trailing_zeros w64 m) (bit_and m (m - 1))
 takes_lowest m some fits =

@@ -8,10 +8,10 @@ use Rattle.hibitset_base.specs.Deciding.{eq_same, eq_other}
 use Rattle.hibitset_base.proofs.Holding.{bit_test}
 use Rattle.hibitset.specs.Operators.{or_bits}
 use Rattle.hibitset.specs.Numbers.{stands_in}
-use Rattle.hibitset_roaring.specs.Reading.{Adds}
+use Rattle.hibitset_roaring.specs.Words.{Adds}
 use Rattle.hibitset_roaring.specs.Format.{in_bits}
 use Rattle.hibitset_roaring.specs.Numbers.{u64_at}
-use Rattle.hibitset_roaring.proofs.Testing.{or_true, or_false, or_under, and_false, place_test}
+use Rattle.hibitset_roaring.proofs.TestLemmas.{or_true, or_false, or_under, and_false, number_test}
 
 -- the bit of a number was set in its word
 pub set_one : (old : List ℕ) (number word : ℕ) → number / 64 < length old → ((b : ℕ) → b < 64 → b ≢ number % 64 → bit_at word b ≡ bit_at (get_or old (number / 64) 0) b) → bit_at word (number % 64) ≡ bit_of true → (i : ℕ) → stands_in (set old (number / 64) word) i ≡ (stands_in old i || (i == number))
@@ -51,7 +51,7 @@ module _ (high : ℕ) (test next : ℕ → Bool) (old mid new : List ℕ) (adds 
 
   -- one number was put in
   pub adds_one : (low : ℕ) → low < 65536 → ((i : ℕ) → stands_in new i ≡ (stands_in mid i || (i == 65536 * high + low))) → ((v : ℕ) → next v ≡ ((low == v) || test v)) → Adds high next old new
-  adds_one low small put is = adds_more (λ i. i == 65536 * high + low) (λ v. low == v) put (λ i. place_test high low i small) is
+  adds_one low small put is = adds_more (λ i. i == 65536 * high + low) (λ v. low == v) put (λ i. number_test high low i small) is
 
 -- The 1024 words from 1024 * high on have the bits of others too.
 module _ (high : ℕ) (bytes : List ℕ) (at : ℕ) (old new : List ℕ) where

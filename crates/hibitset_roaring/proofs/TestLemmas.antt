@@ -40,8 +40,8 @@ unfolding any_below
 any_none test = refl
 
 -- a number by its high and its low bits
-pub place_test : (high low i : ℕ) → low < 65536 → (i == 65536 * high + low) ≡ ((i / 65536 == high) && (low == i % 65536))
-place_test high low i small = grind (arith, nat_tests)
+pub number_test : (high low i : ℕ) → low < 65536 → (i == 65536 * high + low) ≡ ((i / 65536 == high) && (low == i % 65536))
+number_test high low i small = grind (arith, nat_tests)
 
 -- a range by the high bits, which its numbers share, and the low bits
 pub range_test : (high first last i : ℕ) → last < 65536 → in_range (65536 * high + first) (65536 * high + last + 1) i ≡ ((i / 65536 == high) && (nat_le first (i % 65536) && nat_le (i % 65536) last))

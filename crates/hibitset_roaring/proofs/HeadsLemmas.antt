@@ -3,7 +3,8 @@ use Rattle.std.proofs.Common.{◌≡◌, ℕ, zero, suc, ◌+◌, ◌*◌, ◌<�
 use Rattle.std.specs.Prelude.{nat_le}
 use Rattle.std.proofs.lemmas.Bool.{cases_lt, cond_both, cond-true, cond-false, leb-true, le-leb, lt-leb}
 use Rattle.std.proofs.lemmas.List.{length_push, get_or_push, get_or_append_left}
-use Rattle.hibitset_roaring.specs.Writing.{ones_under, flat_bytes, start, AreHeads}
+use Rattle.hibitset_roaring.specs.Words.{ones_under}
+use Rattle.hibitset_roaring.specs.Streams.{flat_bytes, start, AreHeads}
 
 pub heads_none : (words : List ℕ) → AreHeads words [] [] 0
 heads_none words = record {

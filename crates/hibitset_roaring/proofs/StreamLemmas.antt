@@ -10,13 +10,14 @@ use Rattle.hibitset_base.specs.Deciding.{eq_same}
 use Rattle.hibitset_base.proofs.Counting.{some_ones}
 use Rattle.hibitset.specs.Numbers.{stands_in}
 use Rattle.hibitset_roaring.specs.Numbers.{u16_at, u32_at, any_below}
-use Rattle.hibitset_roaring.specs.Format.{has_runs, container_count, keys_at, has_offsets, offsets_at, first_at, key_of, cardinality_of, is_run, place, size, in_container, holds, IsContainer, IsStream}
-use Rattle.hibitset_roaring.specs.Reading.{IsInRange}
-use Rattle.hibitset_roaring.specs.Writing.{ones_under, flat_bytes, start, AreHeads, IsWritten, IsHeaded}
-use Rattle.hibitset_roaring.proofs.Heading.{u32_is, no_runs_from, count_without, keys_without, offsets_at_is}
-use Rattle.hibitset_roaring.proofs.Placing.{place_first, place_next}
-use Rattle.hibitset_roaring.proofs.Listing.{ones_more, ones_mono}
-use Rattle.hibitset_roaring.proofs.Noting.{start_first, start_next}
+use Rattle.hibitset_roaring.specs.Format.{has_runs, container_count, keys_at, has_offsets, offsets_at, first_at, key_of, cardinality_of, is_run, container_at, size, in_container, holds, IsContainer, IsStream}
+use Rattle.hibitset_roaring.specs.Format.{HasKeysBelow}
+use Rattle.hibitset_roaring.specs.Words.{ones_under}
+use Rattle.hibitset_roaring.specs.Streams.{flat_bytes, start, AreHeads, IsWritten, IsHeaded}
+use Rattle.hibitset_roaring.proofs.HeaderLemmas.{u32_is, no_runs_from, count_without, keys_without, offsets_at_is}
+use Rattle.hibitset_roaring.proofs.LayoutLemmas.{at_first, at_next}
+use Rattle.hibitset_roaring.proofs.WordLemmas.{ones_more, ones_mono}
+use Rattle.hibitset_roaring.proofs.HeadsLemmas.{start_first, start_next}
 
 pub any_true : (n : ℕ) (test : ℕ → Bool) (k : ℕ) → k < n → test k ≡ true → any_below n test ≡ true
 unfolding any_below
@@ -71,12 +72,12 @@ module _ (words out keys counts : List ℕ) (bound : ℕ) (heads : AreHeads word
   unfolding has_offsets
   offsets_of_out = ap (λ r. not r || nat_le 4 (container_count out)) plain
 
-  pub offsets_place : offsets_at out ≡ 8 + 4 * length keys
-  offsets_place = let o = offsets_at_is out in let k = keys_of_out in let c = count_of_out in omega (arith, o, k, c)
+  pub offsets_at_out : offsets_at out ≡ 8 + 4 * length keys
+  offsets_at_out = let o = offsets_at_is out in let k = keys_of_out in let c = count_of_out in omega (arith, o, k, c)
 
-  first_place : first_at out ≡ 8 + 8 * length keys
+  first_at_is : first_at out ≡ 8 + 8 * length keys
   unfolding first_at
-  first_place = cond-true (has_offsets out) _ _ offsets_of_out ∙ (let o = offsets_place in let c = count_of_out in omega (arith, o, c))
+  first_at_is = cond-true (has_offsets out) _ _ offsets_of_out ∙ (let o = offsets_at_out in let c = count_of_out in omega (arith, o, c))
 
   pub key_is : (k : ℕ) → k < length keys → key_of out k ≡ get_or keys k 0
   unfolding key_of
@@ -94,18 +95,18 @@ module _ (words out keys counts : List ℕ) (bound : ℕ) (heads : AreHeads word
   unfolding size
   size_is k at below = cond-false (is_run out k) _ _ (no_run k) ∙ ap (λ n. flat_bytes n) (cardinality_is k below)
 
-  pub place_is : (k : ℕ) → k ≤ length keys → place out k ≡ start counts k
-  place_is zero below = let s = heads.same in let f = start_first counts in let p = place_first out in let q = first_place in omega (arith, s, f, p, q)
-  place_is (suc k) below =
-      let h = place_is k (omega (arith, below)) in
-      let p : place out (suc k) ≡ place out k + size out k (place out k) = rw (← add-one) (place_next out k) in
+  pub at_is_start : (k : ℕ) → k ≤ length keys → container_at out k ≡ start counts k
+  at_is_start zero below = let s = heads.same in let f = start_first counts in let p = at_first out in let q = first_at_is in omega (arith, s, f, p, q)
+  at_is_start (suc k) below =
+      let h = at_is_start k (omega (arith, below)) in
+      let p : container_at out (suc k) ≡ container_at out k + size out k (container_at out k) = rw (← add-one) (at_next out k) in
       let s : start counts (suc k) ≡ start counts k + flat_bytes (get_or counts k 0) = rw (← add-one) (start_next counts k) in
-      let z = size_is k (place out k) (omega (arith, below)) in
+      let z = size_is k (container_at out k) (omega (arith, below)) in
       omega (arith, h, p, s, z)
 
   module _ (written : (k : ℕ) → k < length keys → IsWritten words out (start counts k) (get_or keys k 0) (get_or counts k 0)) where
-    moved : (k : ℕ) → k < length keys → IsWritten words out (place out k) (get_or keys k 0) (cardinality_of out k)
-    moved k below = rw (place_is k (omega (arith, below)), cardinality_is k below) (written k below)
+    moved : (k : ℕ) → k < length keys → IsWritten words out (container_at out k) (get_or keys k 0) (cardinality_of out k)
+    moved k below = rw (at_is_start k (omega (arith, below)), cardinality_is k below) (written k below)
 
     container : (k : ℕ) → k < length keys → IsContainer out k
     container k below = let w = moved k below in record {
@@ -162,12 +163,12 @@ module _ (words out keys counts : List ℕ) (bound : ℕ) (heads : AreHeads word
           omega (arith, here, next, a);
       offsets = λ _ k below.
           let c = count_of_out in
-          ap (λ a. u32_at out (a + 4 * k)) offsets_place ∙ (offsets k (omega (arith, below, c)) ∙ sym (place_is k (omega (arith, below, c))));
+          ap (λ a. u32_at out (a + 4 * k)) offsets_at_out ∙ (offsets k (omega (arith, below, c)) ∙ sym (at_is_start k (omega (arith, below, c))));
       containers = λ k below. container k (let c = count_of_out in omega (arith, below, c));
-      whole = ap (λ n. place out n) count_of_out ∙ (place_is (length keys) (omega arith) ∙ sym long);
+      whole = ap (λ n. container_at out n) count_of_out ∙ (at_is_start (length keys) (omega arith) ∙ sym long);
     }
 
-    pub range_written : bound ≤ 16384 → IsInRange out
+    pub range_written : bound ≤ 16384 → HasKeysBelow out 16384
     range_written small = record {
       keys = λ k below.
           let c = count_of_out in
