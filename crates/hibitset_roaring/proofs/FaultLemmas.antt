@@ -1,6 +1,6 @@
 -- What a fault rules out, and the faults of containers within a stream.
-use Rattle.std.proofs.Common.{◌≡◌, ◌≢◌, ◌⊎◌, ℕ, ◌+◌, ◌*◌, ◌<◌, ◌≤◌, true, false, List, length, sym, ap, ◌∙◌, arith, inl, inr}
-use Rattle.hibitset_roaring.specs.Numbers.{u16_at, ones_in}
+use Rattle.std.proofs.Common.{◌≡◌, ◌≢◌, ◌⊎◌, ℕ, ◌+◌, ◌<◌, ◌≤◌, true, false, List, length, sym, ap, ◌∙◌, arith, inl, inr}
+use Rattle.hibitset_roaring.specs.Numbers.{ones_in}
 use Rattle.hibitset_roaring.specs.Format.{container_count, cardinality_of, is_run, run_count, run_total, container_at, size, IsStream, HasKeysBelow}
 use Rattle.hibitset_roaring.specs.Faults.{IsLowNumber, IsCloseRun, IsLongRun, IsFault}
 use Rattle.hibitset_roaring.specs.declared.error.Fault.{Fault}

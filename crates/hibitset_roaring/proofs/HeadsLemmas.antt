@@ -106,3 +106,29 @@ flat_is_small count small = cond-true (nat_le count 4096) (2 * count) 8192 (le-l
 
 pub flat_is_large : (count : ℕ) → 4096 < count → flat_bytes count ≡ 8192
 flat_is_large count large = cond-false (nat_le count 4096) (2 * count) 8192 (lt-leb count 4096 large)
+
+-- one container more moves the others by the eight bytes that the header has for it
+start_push : (counts : List ℕ) (count k : ℕ) → k ≤ length counts → start (counts ++ count ∷ []) k ≡ start counts k + 8
+start_push counts count zero order =
+    let a = start_first counts in
+    let b = start_first (counts ++ count ∷ []) in
+    let n = length_push counts count in
+    omega (arith, a, b, n)
+start_push counts count (suc k) order =
+    let e : k + 1 ≡ suc k = omega arith in
+    let h = start_push counts count k (omega (arith, order)) in
+    let a = start_next counts k in
+    let b = start_next (counts ++ count ∷ []) k in
+    let o : get_or (counts ++ count ∷ []) k 0 ≡ get_or counts k 0 = get_or_append_left counts (count ∷ []) 0 k (omega (arith, order)) in
+    let f = ap (λ n. flat_bytes n) o in
+    let x : start (counts ++ count ∷ []) (k + 1) ≡ start (counts ++ count ∷ []) (suc k) = ap (λ n. start (counts ++ count ∷ []) n) e in
+    let y : start counts (k + 1) ≡ start counts (suc k) = ap (λ n. start counts n) e in
+    omega (arith, h, a, b, f, x, y)
+
+pub start_pushed : (counts : List ℕ) (count n : ℕ) → n ≡ length counts → start (counts ++ count ∷ []) (n + 1) ≡ start counts n + 8 + flat_bytes count
+start_pushed counts count n is =
+    let h = start_push counts count n (omega (arith, is)) in
+    let a = start_next (counts ++ count ∷ []) n in
+    let o : get_or (counts ++ count ∷ []) n 0 ≡ count = get_or_push counts count 0 n (sym is) in
+    let f = ap (λ n. flat_bytes n) o in
+    omega (arith, h, a, f)

@@ -1,9 +1,9 @@
 -- What was written part by part is a stream of the members.
-use Rattle.std.proofs.Common.{◌≡◌, ℕ, zero, suc, ◌+◌, ◌*◌, ◌/◌, ◌%◌, ◌<◌, ◌≤◌, ◌==◌, ◌&&◌, ◌||◌, Bool, true, false, not, List, get_or, length, refl, sym, ap, ◌∙◌, add-one, arith, inl, inr}
+use Rattle.std.proofs.Common.{◌≡◌, ℕ, zero, suc, ◌+◌, ◌*◌, ◌/◌, ◌%◌, ◌<◌, ◌≤◌, ◌==◌, ◌&&◌, ◌||◌, true, false, not, List, get_or, length, sym, ap, ◌∙◌, add-one, arith, inl, inr}
 use Rattle.std.specs.Prelude.{nat_le}
 use Rattle.std.specs.Int.{bit_at}
 use Rattle.std.specs.Int.RustNames.{count_ones}
-use Rattle.std.proofs.lemmas.Bool.{cases_lt, cond-true, cond-false, le-leb, lt-leb, both_ways, or_cases, or_left, or_right, and_parts, and_from, cases_Bool, eqb-true, false_from_ne_true}
+use Rattle.std.proofs.lemmas.Bool.{cases_lt, cond-true, cond-false, le-leb, lt-leb, both_ways, and_parts, and_from, cases_Bool, eqb-true, false_from_ne_true}
 use Rattle.std.proofs.lemmas.Nat.Bits.{bit_at-zero}
 use Rattle.std.proofs.lemmas.List.{get_or_past}
 use Rattle.hibitset_base.specs.Deciding.{eq_same}
@@ -14,26 +14,11 @@ use Rattle.hibitset_roaring.specs.Format.{has_runs, container_count, keys_at, ha
 use Rattle.hibitset_roaring.specs.Format.{HasKeysBelow}
 use Rattle.hibitset_roaring.specs.Words.{ones_under}
 use Rattle.hibitset_roaring.specs.Streams.{flat_bytes, start, AreHeads, IsWritten, IsHeaded}
+use Rattle.hibitset_roaring.proofs.TestLemmas.{any_true, any_some}
 use Rattle.hibitset_roaring.proofs.HeaderLemmas.{u32_is, no_runs_from, count_without, keys_without, offsets_at_is}
 use Rattle.hibitset_roaring.proofs.LayoutLemmas.{at_first, at_next}
 use Rattle.hibitset_roaring.proofs.WordLemmas.{ones_more, ones_mono}
 use Rattle.hibitset_roaring.proofs.HeadsLemmas.{start_first, start_next}
-
-pub any_true : (n : ℕ) (test : ℕ → Bool) (k : ℕ) → k < n → test k ≡ true → any_below n test ≡ true
-unfolding any_below
-any_true zero test k below on = absurd (omega (arith, below))
-any_true (suc n) test k below on = elim (cases_lt k n) [
-  | inl lower ↦ or_right (test n) (any_below n test) (any_true n test k lower on)
-  | inr upper ↦ (let e : n ≡ k = omega (arith, below, upper) in or_left (test n) (any_below n test) (ap test e ∙ on))
-]
-
-pub any_some : (n : ℕ) (test : ℕ → Bool) → any_below n test ≡ true → (k : ℕ) × (k < n) × (test k ≡ true)
-unfolding any_below
-any_some zero test on = absurd (both_ways false refl on)
-any_some (suc n) test on = elim (or_cases (test n) (any_below n test) on) [
-  | inl here ↦ (n, omega arith, here)
-  | inr there ↦ (let h = any_some n test there in (h.0, (let b = h.1 in omega (arith, b)), h.2))
-]
 
 -- a member's key has ones
 pub some_under : (words : List ℕ) (i : ℕ) → stands_in words i ≡ true → 0 < ones_under words (i / 65536)
@@ -59,18 +44,18 @@ word_there words i on = elim (cases_lt (i / 64) (length words)) [
 ]
 
 module _ (words out keys counts : List ℕ) (bound : ℕ) (heads : AreHeads words keys counts bound) (headed : IsHeaded out keys counts) where
-  plain : has_runs out ≡ false
-  plain = let c = headed.cookie in let u = u32_is out 0 in no_runs_from out (λ e. absurd (omega (arith, c, u, e)))
+  pub plain_written : has_runs out ≡ false
+  plain_written = let c = headed.cookie in let u = u32_is out 0 in no_runs_from out (λ e. absurd (omega (arith, c, u, e)))
 
   pub count_of_out : container_count out ≡ length keys
-  count_of_out = count_without out plain ∙ headed.count_is
+  count_of_out = count_without out plain_written ∙ headed.count_is
 
   keys_of_out : keys_at out ≡ 8
-  keys_of_out = keys_without out plain
+  keys_of_out = keys_without out plain_written
 
   offsets_of_out : has_offsets out ≡ true
   unfolding has_offsets
-  offsets_of_out = ap (λ r. not r || nat_le 4 (container_count out)) plain
+  offsets_of_out = ap (λ r. not r || nat_le 4 (container_count out)) plain_written
 
   pub offsets_at_out : offsets_at out ≡ 8 + 4 * length keys
   offsets_at_out = let o = offsets_at_is out in let k = keys_of_out in let c = count_of_out in omega (arith, o, k, c)
@@ -89,7 +74,7 @@ module _ (words out keys counts : List ℕ) (bound : ℕ) (heads : AreHeads word
 
   no_run : (k : ℕ) → is_run out k ≡ false
   unfolding is_run
-  no_run k = ap (λ r. r && (bit_at (get_or out (4 + k / 8) 0) (k % 8) == 1)) plain
+  no_run k = ap (λ r. r && (bit_at (get_or out (4 + k / 8) 0) (k % 8) == 1)) plain_written
 
   size_is : (k at : ℕ) → k < length keys → size out k at ≡ flat_bytes (get_or counts k 0)
   unfolding size

@@ -1,6 +1,7 @@
 -- Tests put together.
-use Rattle.std.proofs.Common.{◌≡◌, ℕ, ◌+◌, ◌*◌, ◌/◌, ◌%◌, ◌<◌, ◌≤◌, ◌==◌, ◌&&◌, ◌||◌, Bool, true, false, refl, add-one, arith}
+use Rattle.std.proofs.Common.{◌≡◌, ℕ, zero, suc, ◌+◌, ◌*◌, ◌/◌, ◌%◌, ◌<◌, ◌≤◌, ◌==◌, ◌&&◌, ◌||◌, Bool, true, false, refl, ap, ◌∙◌, add-one, arith, inl, inr}
 use Rattle.std.specs.Prelude.{nat_le}
+use Rattle.std.proofs.lemmas.Bool.{cases_lt, both_ways, or_cases, or_left, or_right}
 use Rattle.std.proofs.lemmas.Bool.Decides.{nat_tests}
 use Rattle.hibitset.specs.Numbers.{in_range}
 use Rattle.hibitset_roaring.specs.Numbers.{any_below}
@@ -67,3 +68,19 @@ or_move true true w = refl
 or_move true false w = refl
 or_move false true w = refl
 or_move false false w = refl
+
+pub any_true : (n : ℕ) (test : ℕ → Bool) (k : ℕ) → k < n → test k ≡ true → any_below n test ≡ true
+unfolding any_below
+any_true zero test k below on = absurd (omega (arith, below))
+any_true (suc n) test k below on = elim (cases_lt k n) [
+  | inl lower ↦ or_right (test n) (any_below n test) (any_true n test k lower on)
+  | inr upper ↦ (let e : n ≡ k = omega (arith, below, upper) in or_left (test n) (any_below n test) (ap test e ∙ on))
+]
+
+pub any_some : (n : ℕ) (test : ℕ → Bool) → any_below n test ≡ true → (k : ℕ) × (k < n) × (test k ≡ true)
+unfolding any_below
+any_some zero test on = absurd (both_ways false refl on)
+any_some (suc n) test on = elim (or_cases (test n) (any_below n test) on) [
+  | inl here ↦ (n, omega arith, here)
+  | inr there ↦ (let h = any_some n test there in (h.0, (let b = h.1 in omega (arith, b)), h.2))
+]

@@ -1,7 +1,7 @@
 -- What is wrong with bytes that are no stream, and at which position.
 use Rattle.std.specs.Prelude.{◌≡◌, ◌≢◌, ℕ, ◌+◌, ◌*◌, ◌<◌, ◌≤◌, ◌⊎◌, true, false, List, length}
 use Rattle.hibitset_roaring.specs.Numbers.{u16_at, u32_at, ones_in}
-use Rattle.hibitset_roaring.specs.Format.{has_runs, container_count, keys_at, has_offsets, offsets_at, first_at, key_of, cardinality_of, is_run, run_count, run_first, run_last, run_total, container_at}
+use Rattle.hibitset_roaring.specs.Format.{container_count, keys_at, has_offsets, offsets_at, first_at, key_of, cardinality_of, is_run, run_count, run_first, run_last, run_total, container_at}
 use Rattle.hibitset_roaring.specs.declared.error.Fault.{Fault}
 use Rattle.hibitset_roaring.specs.declared.error.Fault.TheVariants as faults
 use Rattle.hibitset_roaring.specs.declared.error.ReadError.{ReadError}

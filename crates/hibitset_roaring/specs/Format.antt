@@ -1,7 +1,7 @@
 -- The portable Roaring format for sets of numbers below 2 ^ 32, as the public specification has it (github.com/RoaringBitmap/RoaringFormatSpec): which bytes are a stream, and which numbers it holds. Numbers have their lowest byte first, and positions count bytes from the start.
 --
 -- A stream is a header and then its containers, one after the other. The header has the number of containers, and of each its key, the high 16 bits of its members, and its cardinality, the number of its members. A container has the low 16 bits of its members: as an array of numbers, if there are at most 4096; as 65536 bits, if there are more; or as runs of consecutive numbers, if a flag of the header says so.
-use Rattle.std.specs.Prelude.{◌≡◌, ℕ, zero, suc, ◌+◌, ◌-◌, ◌*◌, ◌/◌, ◌%◌, ◌<◌, ◌≤◌, ◌⊎◌, Bool, true, false, ◌==◌, ◌&&◌, ◌||◌, not, if◌then◌else◌, nat_le, List, get_or, length}
+use Rattle.std.specs.Prelude.{◌≡◌, ℕ, zero, suc, ◌+◌, ◌-◌, ◌*◌, ◌/◌, ◌%◌, ◌<◌, ◌≤◌, ◌⊎◌, Bool, true, false, ◌==◌, ◌&&◌, ◌||◌, not, if◌then◌else◌, nat_le, List, ◌++◌, get_or, length}
 use Rattle.std.specs.Int.{bit_at}
 use Rattle.hibitset_roaring.specs.Numbers.{u16_at, u32_at, u64_at, any_below, ones_in}
 
@@ -123,12 +123,23 @@ pub record IsStream (bytes : List ℕ) : Type 0 where
 pub record HasKeysBelow (bytes : List ℕ) (end : ℕ) : Type 0 where
   pub keys : (k : ℕ) → k < container_count bytes → key_of bytes k < end
 
+pub record AreBytes (bytes : List ℕ) : Type 0 where
+  pub small : (p : ℕ) → get_or bytes p 0 < 256
+
 -- The bytes are a stream without runs, with these members.
 pub record IsPlainStream (has : ℕ → Bool) (bytes : List ℕ) : Type 0 where
+  pub are : AreBytes bytes
   pub stream : IsStream bytes
   pub plain : has_runs bytes ≡ false
   pub members : (i : ℕ) → holds bytes i ≡ has i
 
--- they are bytes
-pub record AreBytes (bytes : List ℕ) : Type 0 where
-  pub small : (p : ℕ) → get_or bytes p 0 < 256
+-- No other bytes are.
+pub record IsCanonicalStream (has : ℕ → Bool) (bytes : List ℕ) : Type 0 where
+  pub plain : IsPlainStream has bytes
+  pub only : (other : List ℕ) → IsPlainStream has other → other ≡ bytes
+
+-- Bytes with this property were put behind the old ones.
+pub record Appends (P : List ℕ → Type 0) (old new : List ℕ) : Type 0 where
+  pub bytes : List ℕ
+  pub is : new ≡ old ++ bytes
+  pub appended : P bytes

@@ -1,25 +1,18 @@
 //! Members written as an array.
 
-ghost use Rattle.std.specs.Prelude.{◌≡◌, ℕ, ◌+◌, ◌-◌, ◌*◌, ◌^◌, ◌<◌, ◌≤◌, ◌||◌, ◌&&◌, nat_lt, get_or, length};
+ghost use Rattle.std.specs.Prelude.{◌≡◌, ℕ, ◌+◌, ◌-◌, ◌*◌, ◌^◌, ◌<◌, ◌≤◌, ◌||◌, ◌&&◌, nat_lt, length};
 ghost use Rattle.std.specs.Int.RustNames.{count_ones};
 ghost use Rattle.hibitset.specs.Numbers.{stands_in};
-ghost use Rattle.hibitset_roaring.specs.Numbers.{u16_at, u32_at, u64_at};
+ghost use Rattle.hibitset_roaring.specs.Numbers.{u16_at};
 ghost use Rattle.hibitset_roaring.specs.Format.{in_array, IsArray};
 ghost use Rattle.hibitset_roaring.specs.Streams.{SameBefore};
-ghost use Rattle.hibitset_roaring.specs.Words.{TakesLowest, in_word, ones_from, ones_under};
+ghost use Rattle.hibitset_roaring.specs.Words.{TakesLowest, in_word, ones_from, ones_under, AreSummaries};
 
-use crate::number::put_u16;
 use crate::layout::CONTAINER_WORDS;
+use crate::number::put_u16;
+use crate::slots::{next_slot, word_of};
 
-// The word at a slot, which is 0 past the end.
-#[inline]
-pub(crate) fn word_of(words: &[usize], slot: usize) -> usize
-    ensures { result ≡ get_or words.now slot 0 }
-{
-    if slot < words.len() { words[slot] } else { 0 }
-}
-
-// Takes the lowest bit out of a word, and answers its number.
+// Takes the lowest bit out of a word, and returns its number.
 #[inline]
 fn take_lowest(word: &mut usize) -> usize
     requires { 0 < word.old }
@@ -30,7 +23,7 @@ fn take_lowest(word: &mut usize) -> usize
     bit as usize
 }
 
-// Writes the bits of a word, whose first bit has the number `first`, behind the `len` numbers of an array, and answers how many it has then.
+// Writes the bits of a word, whose first bit has the number `first`, behind the `len` numbers of an array, and returns how many it has then.
 #[inline]
 fn write_word(out: &mut [u8], at: usize, len: usize, first: usize, word: usize) -> usize
     requires room { at + 2 * (len + count_ones word) ≤ length out.old }
@@ -53,16 +46,19 @@ fn write_word(out: &mut [u8], at: usize, len: usize, first: usize, word: usize) 
 }
 
 // Writes the members with these high bits as an array.
-pub(crate) fn write_array(out: &mut [u8], at: usize, words: &[usize], key: usize)
+pub(crate) fn write_array(out: &mut [u8], at: usize, words: &[usize], above: &[usize], key: usize)
     requires room { at + 2 * ones_under words.now key ≤ length out.old }
     requires key { key < 65536 }
+    requires above { AreSummaries words.now above.now }
     ensures before { SameBefore at out.old out.new }
     ensures array { IsArray out.new at (ones_under words.now key) }
     ensures members { (v : ℕ) → v < 65536 → in_array out.new at (ones_under words.now key) v ≡ stands_in words.now (65536 * key + v) }
 {
     let base = CONTAINER_WORDS * key;
     let mut len = 0;
-    'words: for j in 0..CONTAINER_WORDS {
-        len = write_word(out, at, len, 64 * j, word_of(words, base + j));
+    let mut slot = next_slot(above, key, 0);
+    'slots: while slot < CONTAINER_WORDS {
+        len = write_word(out, at, len, 64 * slot, word_of(words, base + slot));
+        slot = next_slot(above, key, slot + 1);
     }
 }

@@ -10,10 +10,10 @@ use crate::writer::write;
 use hibitset::BitSet;
 use std::alloc::Global;
 
-/// A set, written and read again: what is written is never refused but for want of memory, and has the same members.
-pub fn written_and_read(alloc: Global, set: &BitSet) -> Result<BitSet, ReadError>
+/// A set, written and read again: it has the same members, and fails only if an allocation does.
+pub fn round_trip(alloc: Global, set: &BitSet) -> Result<BitSet, ReadError>
     ensures members { IfOk result (λ copy. (i : ℕ) → has copy i ≡ has set.now i) }
-    ensures refused { IfErr result (λ error. error ≡ errors.Memory) }
+    ensures reason { IfErr result (λ error. error ≡ errors.Memory) }
 {
     let bytes = write(alloc, set)?;
     read(alloc, &bytes)

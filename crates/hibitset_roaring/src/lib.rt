@@ -1,4 +1,4 @@
-//! Sets in the portable Roaring format, which CRoaring, RoaringBitmap of Java, Spark, Druid, ClickHouse, Lucene and Pilosa read and write.
+//! Sets in the portable Roaring format, which many libraries and programs read and write.
 #![tactic(auto)]
 
 mod array;
@@ -7,12 +7,14 @@ mod error;
 mod header;
 mod heads;
 pub mod laws;
-mod number;
 mod layout;
+mod number;
 mod reader;
+mod slots;
 mod words;
 mod writer;
 
 pub use error::{Fault, Malformed, ReadError};
-pub use reader::read;
-pub use writer::{serialized_len, write};
+pub use header::KEYS;
+pub use reader::{read, read_below};
+pub use writer::{serialized_len, write, write_to};

@@ -1,20 +1,20 @@
 //! A set written as a stream.
 
-ghost use Rattle.std.specs.Prelude.{◌≡◌, ℕ, ◌+◌, ◌-◌, ◌*◌, ◌/◌, ◌^◌, ◌<◌, ◌≤◌, get_or, length, vec_len, IfOk, OnOk};
+ghost use Rattle.std.specs.Prelude.{◌≡◌, ℕ, ◌+◌, ◌-◌, ◌*◌, ◌/◌, ◌^◌, ◌<◌, ◌≤◌, List, drop, get_or, length, vec_len, IfOk, OnOk, OnErr};
 ghost use Rattle.hibitset.specs.BitSet.{has};
 ghost use Rattle.hibitset.specs.Numbers.{stands_in};
 ghost use Rattle.hibitset_roaring.specs.Numbers.{u16_at, u32_at, u64_at, ones_in};
-ghost use Rattle.hibitset_roaring.specs.Format.{in_bits, holds, IsStream};
-ghost use Rattle.hibitset_roaring.specs.Format.{HasKeysBelow};
+ghost use Rattle.hibitset_roaring.specs.Format.{in_bits, holds, IsStream, HasKeysBelow, IsPlainStream, IsCanonicalStream, Appends};
 ghost use Rattle.hibitset_roaring.specs.declared.header.TheConstants.{KEYS};
 ghost use Rattle.hibitset_roaring.specs.Streams.{SameBefore, flat_bytes, start, AreHeads, IsWritten, IsHeaded};
-ghost use Rattle.hibitset_roaring.specs.Words.{ones_from, ones_under};
+ghost use Rattle.hibitset_roaring.specs.Words.{ones_from, ones_under, AreSummaries};
 
-use crate::array::{word_of, write_array};
+use crate::array::write_array;
 use crate::header::NO_RUNS;
-use crate::heads::Heads;
+use crate::heads::{Heads, count_under};
+use crate::layout::{CONTAINER_WORDS, MOST_IN_ARRAY, flat_size};
 use crate::number::{put_u16, put_u32, put_u64};
-use crate::layout::{MOST_IN_ARRAY, CONTAINER_WORDS, flat_size};
+use crate::slots::word_of;
 use hibitset::BitSet;
 use std::alloc::{AllocError, Global};
 
@@ -33,21 +33,29 @@ fn write_bits(out: &mut [u8], at: usize, words: &[usize], key: usize)
 }
 
 // Writes a container.
-fn write_container(out: &mut [u8], at: usize, words: &[usize], key: usize, count: usize)
+fn write_container(
+    out: &mut [u8],
+    at: usize,
+    words: &[usize],
+    above: &[usize],
+    key: usize,
+    count: usize,
+)
     requires room { at + flat_bytes count ≤ length out.old }
     requires key { key < 65536 }
     requires count { count ≡ ones_under words.now key }
+    requires above { AreSummaries words.now above.now }
     ensures before { SameBefore at out.old out.new }
     ensures written { IsWritten words.now out.new at key count }
 {
     if count <= MOST_IN_ARRAY {
-        write_array(out, at, words, key);
+        write_array(out, at, words, above, key);
     } else {
         write_bits(out, at, words, key);
     }
 }
 
-// Writes the cookie and how many containers there are, and of each its key and how many members it has.
+// Writes the cookie, the number of containers, and of each its key and how many members it has.
 fn write_header(out: &mut [u8], keys: &[usize], counts: &[usize])
     requires room { 8 + 4 * length keys.now ≤ length out.old }
     requires few { length keys.now ≤ 16384 }
@@ -82,7 +90,14 @@ fn write_offsets(out: &mut [u8], counts: &[usize])
 }
 
 // Writes the containers.
-fn write_containers(out: &mut [u8], keys: &[usize], counts: &[usize], words: &[usize])
+fn write_containers(
+    out: &mut [u8],
+    keys: &[usize],
+    counts: &[usize],
+    words: &[usize],
+    above: &[usize],
+)
+    requires above { AreSummaries words.now above.now }
     requires same { length counts.now ≡ length keys.now }
     requires few { length keys.now ≤ 16384 }
     requires room { start counts.now (length keys.now) ≤ length out.old }
@@ -94,12 +109,12 @@ fn write_containers(out: &mut [u8], keys: &[usize], counts: &[usize], words: &[u
 {
     let mut at = 8 + 8 * counts.len();
     'containers: for k in 0..keys.len() {
-        write_container(out, at, words, keys[k], counts[k]);
+        write_container(out, at, words, above, keys[k], counts[k]);
         at += flat_size(counts[k]);
     }
 }
 
-// How many bytes a stream takes whose containers have so many members.
+// How many bytes a stream takes whose containers have these counts of members.
 fn len_of(counts: &[usize]) -> usize
     requires few { length counts.now ≤ 16384 }
     requires counts { (k : ℕ) → k < length counts.now → get_or counts.now k 0 ≤ 65536 }
@@ -114,36 +129,90 @@ fn len_of(counts: &[usize]) -> usize
 }
 
 // Writes a stream.
-fn write_stream(out: &mut [u8], keys: &[usize], counts: &[usize], words: &[usize])
+fn write_stream(
+    out: &mut [u8],
+    keys: &[usize],
+    counts: &[usize],
+    words: &[usize],
+    above: &[usize],
+)
     requires heads { AreHeads words.now keys.now counts.now ((length words.now + 1023) / 1024) }
     requires short { length words.now ≤ 16777216 }
+    requires above { AreSummaries words.now above.now }
     requires room { length out.old ≡ start counts.now (length keys.now) }
-    ensures stream { IsStream out.new }
-    ensures range { HasKeysBelow out.new 16384 }
-    ensures members { (i : ℕ) → holds out.new i ≡ stands_in words.now i }
+    ensures stream { IsCanonicalStream (stands_in words.now) out.new }
+    ensures below { HasKeysBelow out.new 16384 }
 {
     write_header(out, keys, counts);
     write_offsets(out, counts);
-    write_containers(out, keys, counts, words);
+    write_containers(out, keys, counts, words, above);
 }
 
-/// How many bytes `write` makes of a set. It takes memory for a note of each container, 16 bytes for 65,536 numbers; the error is want of it.
-pub fn serialized_len(alloc: Global, set: &BitSet) -> Result<usize, AllocError> {
-    let heads = Heads::of(alloc, set.layer0_as_slice())?;
-    Ok(len_of(&heads.counts))
+// Writes a stream behind the first bytes.
+fn write_behind(out: &mut [u8], from: usize, heads: &Heads, words: &[usize], above: &[usize])
+    requires heads { AreHeads words.now heads.now.keys.items heads.now.counts.items ((length words.now + 1023) / 1024) }
+    requires short { length words.now ≤ 16777216 }
+    requires above { AreSummaries words.now above.now }
+    requires room { length out.old ≡ from + start heads.now.counts.items (length heads.now.keys.items) }
+    ensures before { SameBefore from out.old out.new }
+    ensures stream { IsCanonicalStream (stands_in words.now) (drop from out.new) }
+    ensures below { HasKeysBelow (drop from out.new) 16384 }
+{
+    write_stream(
+        &mut out[from..],
+        &heads.keys,
+        &heads.counts,
+        words,
+        above,
+    );
 }
 
-/// A set as a stream in the portable Roaring format, without runs: arrays where at most 4,096 members share their high 16 bits, and bits where more do. It is what CRoaring writes of the same set where it has no runs. The error is want of memory.
-pub fn write(alloc: Global, set: &BitSet) -> Result<Vec<u8>, AllocError>
-    ensures stream { IfOk result (λ out. IsStream out.items) }
-    ensures range { IfOk result (λ out. HasKeysBelow out.items KEYS) }
-    ensures members { IfOk result (λ out. (i : ℕ) → holds out.items i ≡ has set.now i) }
+// How many bytes the stream of the members in words takes.
+fn len_of_words(words: &[usize], above: &[usize]) -> usize
+    requires short { length words.now ≤ 16777216 }
+    requires above { AreSummaries words.now above.now }
+    ensures { (bytes : List ℕ) → IsPlainStream (stands_in words.now) bytes → length bytes ≡ result }
+{
+    let mut len = 8;
+    'keys: for key in 0..(words.len() + (CONTAINER_WORDS - 1)) / CONTAINER_WORDS {
+        let count = count_under(words, above, key);
+        if count != 0 {
+            len += 8 + flat_size(count);
+        }
+    }
+    len
+}
+
+/// How many bytes `write` makes of a set.
+pub fn serialized_len(set: &BitSet) -> usize
+    ensures { (bytes : List ℕ) → IsPlainStream (has set.now) bytes → length bytes ≡ result }
+{
+    len_of_words(set.layer0_as_slice(), set.layer1_as_slice())
+}
+
+/// Writes a set in the portable Roaring format behind the bytes of `out`: the one stream without runs of its members. At most 4,096 members with the same high 16 bits are an array, more are bits.
+///
+/// It allocates 16 bytes for each 65,536 numbers with members, and the stream's bytes. The error is a failed allocation; `out` is as it was then.
+pub fn write_to(alloc: Global, set: &BitSet, out: &mut Vec<u8>) -> Result<(), AllocError>
+    ensures stream { OnOk result (Appends (IsCanonicalStream (has set.now)) out.old.items out.new.items) }
+    ensures below { OnOk result (HasKeysBelow (drop (vec_len out.old) out.new.items) KEYS) }
+    ensures err { OnErr result (out.new.items ≡ out.old.items) }
 {
     let words = set.layer0_as_slice();
-    let heads = Heads::of(alloc, words)?;
-    let len = len_of(&heads.counts);
-    let mut out = Vec::with_capacity(alloc, len)?;
-    out.resize(len, 0)?;
-    write_stream(&mut out, &heads.keys, &heads.counts, words);
+    let above = set.layer1_as_slice();
+    let heads = Heads::of(alloc, words, above)?;
+    let from = out.len();
+    out.resize(from + len_of(&heads.counts), 0)?;
+    write_behind(out, from, &heads, words, above);
+    Ok(())
+}
+
+/// A set in the portable Roaring format, as `write_to` writes it.
+pub fn write(alloc: Global, set: &BitSet) -> Result<Vec<u8>, AllocError>
+    ensures stream { IfOk result (λ out. IsCanonicalStream (has set.now) out.items) }
+    ensures below { IfOk result (λ out. HasKeysBelow out.items KEYS) }
+{
+    let mut out = Vec::new(alloc);
+    write_to(alloc, set, &mut out)?;
     Ok(out)
 }
