@@ -116,5 +116,5 @@ as_many f bound (suc n) up small =
     let on : any_below (suc n) (λ j. f j == f n) ≡ true = any_true (suc n) (λ j. f j == f n) n (omega arith) (eq_same (f n) (f n) (omega arith)) in
     let most = small n (omega arith) in
     let more = one_more (λ v. any_below n (λ j. f j == v)) (λ v. any_below (suc n) (λ j. f j == v)) (f n) 0 bound (omega arith) (omega (arith, most)) off on
-        (λ i other. ap (λ t. t || any_below n (λ j. f j == i)) (eq_other (f n) i (λ e. other (sym e)))) in
+    (λ i other. ap (λ t. t || any_below n (λ j. f j == i)) (eq_other (f n) i (λ e. other (sym e)))) in
     omega (arith, h, more)

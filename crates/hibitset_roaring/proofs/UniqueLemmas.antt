@@ -86,9 +86,9 @@ module _ (words : List ℕ) (fits : (p : ℕ) → get_or words p 0 < 2 ^ 64) (ke
       let more = ones_more words (1024 * key) n in
       let next : ones_from words (1024 * key) (n + 1) ≡ ones_from words (1024 * key) (suc n) = ap (λ k. ones_from words (1024 * key) k) e in
       let split : length (members (λ v. stands_in words (65536 * key + v)) 0 (64 * n + 64)) ≡ length (members (λ v. stands_in words (65536 * key + v)) 0 (64 * n)) + length (members (λ v. stands_in words (65536 * key + v)) (0 + 64 * n) 64) =
-          ap length (members-append (λ v. stands_in words (65536 * key + v)) 0 (64 * n) 64) ∙ length-append (members (λ v. stands_in words (65536 * key + v)) 0 (64 * n)) (members (λ v. stands_in words (65536 * key + v)) (0 + 64 * n) 64) in
+      ap length (members-append (λ v. stands_in words (65536 * key + v)) 0 (64 * n) 64) ∙ length-append (members (λ v. stands_in words (65536 * key + v)) 0 (64 * n)) (members (λ v. stands_in words (65536 * key + v)) (0 + 64 * n) 64) in
       let word : length (members (λ v. stands_in words (65536 * key + v)) (0 + 64 * n) 64) ≡ count_ones (get_or words (1024 * key + n) 0) =
-          ap (λ a. length (members (λ v. stands_in words (65536 * key + v)) a 64)) z ∙ (ap length (word_members n) ∙ bits-count (64 * n) (get_or words (1024 * key + n) 0) (fits (1024 * key + n))) in
+      ap (λ a. length (members (λ v. stands_in words (65536 * key + v)) a 64)) z ∙ (ap length (word_members n) ∙ bits-count (64 * n) (get_or words (1024 * key + n) 0) (fits (1024 * key + n))) in
       let whole : length (members (λ v. stands_in words (65536 * key + v)) 0 (64 * n + 64)) ≡ length (members (λ v. stands_in words (65536 * key + v)) 0 (64 * suc n)) = ap (λ k. length (members (λ v. stands_in words (65536 * key + v)) 0 k)) s in
       omega (arith, h, more, next, split, word, whole)
 
@@ -242,7 +242,7 @@ module _ (bytes : List ℕ) (are : AreBytes bytes) where
             let n : ℕ = cardinality_of bytes k in
             let many = as_many (λ j. u16_at bytes (at + 2 * j)) 65536 n (numbers_ascend k below few) (λ j less. u16_small (at + 2 * j)) in
             let one : members (λ v. any_below n (λ j. u16_at bytes (at + 2 * j) == v)) 0 65536 ≡ members (λ v. stands_in words (65536 * key + v)) 0 65536 =
-                members-same (λ v. any_below n (λ j. u16_at bytes (at + 2 * j) == v)) (λ v. stands_in words (65536 * key + v)) 0 65536 (λ v from less. in_array_is bytes k (no_run k) few v ∙ in_container_same k v below (omega (arith, less))) in
+            members-same (λ v. any_below n (λ j. u16_at bytes (at + 2 * j) == v)) (λ v. stands_in words (65536 * key + v)) 0 65536 (λ v from less. in_array_is bytes k (no_run k) few v ∙ in_container_same k v below (omega (arith, less))) in
             let ones = ones_members words fits key 1024 in
             sym many ∙ (ap length one ∙ sym ones)
       ]

@@ -10,8 +10,8 @@ ghost use Rattle.hibitset_roaring.specs.Headers.{IsHeader};
 
 use crate::error::{Fault, Malformed};
 use crate::header::{CONTAINER_NUMBERS, Header};
+use crate::layout::{CONTAINER_WORDS, MOST_IN_ARRAY};
 use crate::number::{read_u16, read_u64};
-use crate::layout::{MOST_IN_ARRAY, CONTAINER_WORDS};
 use crate::words::{set_bit, set_range};
 
 // Adds the members of an array to words.
@@ -93,7 +93,11 @@ fn read_runs(bytes: &[u8], at: usize, words: &mut [usize], key: usize) -> Result
                 at: start + 2,
             });
         }
-        set_range(words, CONTAINER_NUMBERS * key + first, CONTAINER_NUMBERS * key + last + 1);
+        set_range(
+            words,
+            CONTAINER_NUMBERS * key + first,
+            CONTAINER_NUMBERS * key + last + 1,
+        );
         total += last + 1 - first;
         next = last + 2;
     }

@@ -45,10 +45,7 @@ pub(crate) fn next_slot(above: &[usize], key: usize, from: usize) -> usize
     let mut slot = from;
     'slots: while slot < CONTAINER_WORDS {
         let block = slot / 64;
-        let bit = next_bit(
-            word_of(above, CONTAINER_BLOCKS * key + block),
-            slot % 64,
-        );
+        let bit = next_bit(word_of(above, CONTAINER_BLOCKS * key + block), slot % 64);
         slot = 64 * block + bit;
         if bit < 64 {
             return slot;

@@ -129,13 +129,7 @@ fn len_of(counts: &[usize]) -> usize
 }
 
 // Writes a stream.
-fn write_stream(
-    out: &mut [u8],
-    keys: &[usize],
-    counts: &[usize],
-    words: &[usize],
-    above: &[usize],
-)
+fn write_stream(out: &mut [u8], keys: &[usize], counts: &[usize], words: &[usize], above: &[usize])
     requires heads { AreHeads words.now keys.now counts.now ((length words.now + 1023) / 1024) }
     requires short { length words.now ≤ 16777216 }
     requires above { AreSummaries words.now above.now }
@@ -158,13 +152,7 @@ fn write_behind(out: &mut [u8], from: usize, heads: &Heads, words: &[usize], abo
     ensures stream { IsCanonicalStream (stands_in words.now) (drop from out.new) }
     ensures below { HasKeysBelow (drop from out.new) 16384 }
 {
-    write_stream(
-        &mut out[from..],
-        &heads.keys,
-        &heads.counts,
-        words,
-        above,
-    );
+    write_stream(&mut out[from..], &heads.keys, &heads.counts, words, above);
 }
 
 // How many bytes the stream of the members in words takes.

@@ -23,14 +23,13 @@ returns-then-low-ne-NO_RUNS-clause-fault c = λ end.
     let low_fits = c.read_u16-low.ensures.small in
     let high_fits = c.read_u16-high.ensures.small in
     let not_runs = c.if-low-eq-RUNS.false in
-    let whole = u32_is c.args.bytes.now 0 in
-    (
+    let whole = u32_is c.args.bytes.now 0 in (
       refl,
       λ plain. elim c.then-low-ne-NO_RUNS.branch [
         | then-low-ne-NO_RUNS-via-then-low-ne-NO_RUNS w ↦ (let t = w.if-low-ne-NO_RUNS.true in omega (arith, plain, whole, low, high, low_fits, high_fits, t))
         | then-low-ne-NO_RUNS-via-else-low-ne-NO_RUNS+then-high-ne0 w ↦ (let t = w.if-high-ne0.true in omega (arith, plain, whole, low, high, low_fits, high_fits, t))
       ],
-      λ runs. omega (arith, runs, low, not_runs)
+      λ runs. omega (arith, runs, low, not_runs),
     )
 
 pub returns-then-count-gt-CONTAINER_NUMBERS-clause-fault : goal.returns-then-count-gt-CONTAINER_NUMBERS-clause-fault

@@ -41,6 +41,6 @@ returns-clause-stream c =
     let n = c.in_ok-resize.ensures.len in
     let P : List ℕ → Type 0 = IsCanonicalStream (has c.args.set.now) in
     let front : (k : ℕ) → k < from → get_or new k 0 ≡ get_or old k 0 = λ k below.
-        c.write_behind.ensures.before.byte k below ∙ (ap (λ xs. get_or xs k 0) value ∙ c.in_ok-resize.ensures.by_index.0 k 0 (omega (arith, below)) (omega (arith, below, start))) in
+    c.write_behind.ensures.before.byte k below ∙ (ap (λ xs. get_or xs k 0) value ∙ c.in_ok-resize.ensures.by_index.0 k 0 (omega (arith, below)) (omega (arith, below, start))) in
     let all : Appends P old new = appends_from P old new from (omega (arith, start, was)) (omega (arith, long, len, now, n)) front (canonical_same (stands_in c.layer0_as_slice-words.result.now) (has c.args.set.now) (drop from new) c.layer0_as_slice-words.ensures.members c.write_behind.ensures.stream) in
     rw (take_whole new rest c.resize.new.self.len (omega (arith, long, len, now))) all
