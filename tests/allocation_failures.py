@@ -78,6 +78,13 @@ CALLS = {
     "hibitset_store": {
         "Column::insert": "columns::insert columns::insert_in_order",
     },
+    "hibitset_roaring": {
+        "read": "streams::read_a_stream",
+        "read_below": "streams::read_with_a_bound",
+        "round_trip": "streams::round_trip_of_a_set",
+        "write": "streams::write_a_set",
+        "write_to": "streams::write_behind_a_byte",
+    },
     "uses": {
         "Ids::alloc": "callers::alloc",
         "Ids::alloc_run": "callers::alloc_run",
@@ -188,6 +195,11 @@ REQUESTS = {
     "sets::to_vec_of_a_member_a_word": 2,
     "sets::to_vec_of_full_words": 1,
     "sets::with_capacity": 1,
+    "streams::read_a_stream": 2,
+    "streams::read_with_a_bound": 2,
+    "streams::round_trip_of_a_set": 5,
+    "streams::write_a_set": 3,
+    "streams::write_behind_a_byte": 3,
     "worlds::begin": 2,
     "worlds::open": 2,
     "worlds::read": 1,

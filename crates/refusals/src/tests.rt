@@ -10,6 +10,7 @@ mod copies;
 mod parts;
 mod room;
 mod sets;
+mod streams;
 mod worlds;
 
 use hibitset::atomic::ATOMIC_MAX_EID;

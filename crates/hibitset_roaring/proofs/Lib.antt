@@ -1,0 +1,17 @@
+pub mod TestLemmas
+pub mod SequenceLemmas
+pub mod UniqueLemmas
+pub mod AddLemmas
+pub mod LayoutLemmas
+pub mod FaultLemmas
+pub mod ContainerLemmas
+pub mod PartLemmas
+pub mod HeaderLemmas
+pub mod FrameLemmas
+pub mod WordLemmas
+pub mod SlotLemmas
+pub mod SummaryLemmas
+pub mod HeadsLemmas
+pub mod BitLemmas
+pub mod StreamLemmas
+pub mod AppendLemmas

@@ -1,0 +1,66 @@
+-- Words between two slots that are 0.
+use Rattle.std.proofs.Common.{◌≡◌, ℕ, zero, suc, ◌+◌, ◌-◌, ◌*◌, ◌/◌, ◌%◌, ◌^◌, ◌<◌, ◌≤◌, ◌==◌, ◌&&◌, List, get_or, sym, ap, ◌∙◌, arith, inl, inr, w64}
+use Rattle.std.specs.Prelude.{nat_lt}
+use Rattle.std.specs.Int.{bit_at, trailing_zeros}
+use Rattle.std.specs.Int.RustNames.{count_ones}
+use Rattle.std.proofs.Math.Nat.{div-le_self}
+use Rattle.std.proofs.lemmas.Nat.{ones_le_self}
+use Rattle.std.proofs.lemmas.Nat.Bits.{bit_at-trailing_zeros, bit_at_above, bit_at-zero}
+use Rattle.std.proofs.lemmas.Bool.{cases_lt, lt-ltb, le-ltb}
+use Rattle.hibitset_base.proofs.Halving.{bit_past}
+use Rattle.hibitset.specs.Numbers.{stands_in}
+use Rattle.hibitset_roaring.specs.Words.{ones_from}
+use Rattle.hibitset_roaring.proofs.WordLemmas.{ones_more}
+
+module _ (word from : ℕ) where
+  -- no bit is left from one on
+  pub none_left : word / 2 ^ from ≡ 0 → (b : ℕ) → from ≤ b → bit_at word b ≡ 0
+  none_left none b order =
+      let e : from + (b - from) ≡ b = omega (arith, order) in
+      ap (λ i. bit_at word i) (sym e) ∙ (sym (bit_past word from (b - from)) ∙ (ap (λ n. bit_at n (b - from)) none ∙ bit_at-zero (b - from)))
+
+  module _ (fits : word < 2 ^ 64) (some : 0 < word / 2 ^ from) where
+    less : word / 2 ^ from < 2 ^ 64
+    less = let d = div-le_self word (2 ^ from) in omega (arith, d, fits)
+
+    pub next_within : from + trailing_zeros w64 (word / 2 ^ from) < 64
+    next_within =
+        let t : ℕ = trailing_zeros w64 (word / 2 ^ from) in
+        let h = bit_at-trailing_zeros w64 (word / 2 ^ from) some less in
+        elim (cases_lt (from + t) 64) [
+          | inl below ↦ below
+          | inr past ↦ absurd (let one = sym (bit_past word from t) ∙ h.1 in let none = bit_at_above word 64 (from + t) fits past in omega (arith, one, none))
+        ]
+
+    pub next_skips : (b : ℕ) → from ≤ b → b < from + trailing_zeros w64 (word / 2 ^ from) → bit_at word b ≡ 0
+    next_skips b order below =
+        let h = bit_at-trailing_zeros w64 (word / 2 ^ from) some less in
+        let e : from + (b - from) ≡ b = omega (arith, order) in
+        ap (λ i. bit_at word i) (sym e) ∙ (sym (bit_past word from (b - from)) ∙ h.2 (b - from) (omega (arith, order, below)))
+
+-- words that are 0 have no ones
+pub ones_skip : (words : List ℕ) (base m n : ℕ) → m ≤ n → ((q : ℕ) → m ≤ q → q < n → get_or words (base + q) 0 ≡ 0) → ones_from words base n ≡ ones_from words base m
+ones_skip words base m zero order none = let e : m ≡ 0 = omega (arith, order) in ap (λ k. ones_from words base k) (sym e)
+ones_skip words base m (suc n) order none = elim (cases_lt n m) [
+  | inl above ↦ (let e : m ≡ suc n = omega (arith, above, order) in ap (λ k. ones_from words base k) (sym e))
+  | inr upto ↦
+      let e : n + 1 ≡ suc n = omega arith in
+      let more = ones_more words base n in
+      let few = ones_le_self 0 in
+      let here : count_ones (get_or words (base + n) 0) ≡ count_ones 0 = ap count_ones (none n upto (omega arith)) in
+      let rest = ones_skip words base m n upto (λ q from below. none q from (omega (arith, below))) in
+      ap (λ k. ones_from words base k) (sym e) ∙ omega (arith, more, few, here, rest)
+]
+
+-- words that are 0 have no members
+pub slots_skip : (words : List ℕ) (key m n v : ℕ) → m ≤ n → v < 65536 → ((q : ℕ) → m ≤ q → q < n → get_or words (1024 * key + q) 0 ≡ 0) → (nat_lt v (64 * m) && stands_in words (65536 * key + v)) ≡ (nat_lt v (64 * n) && stands_in words (65536 * key + v))
+slots_skip words key m n v order small none = elim (cases_lt v (64 * m)) [
+  | inl below ↦ ap (λ t. t && stands_in words (65536 * key + v)) (lt-ltb v (64 * m) below ∙ sym (lt-ltb v (64 * n) (omega (arith, below, order))))
+  | inr above ↦ ap (λ t. t && stands_in words (65536 * key + v)) (le-ltb v (64 * m) above) ∙ elim (cases_lt v (64 * n)) [
+    | inl within ↦
+        let p : (65536 * key + v) / 64 ≡ 1024 * key + v / 64 = omega arith in
+        let z : get_or words ((65536 * key + v) / 64) 0 ≡ 0 = ap (λ q. get_or words q 0) p ∙ none (v / 64) (omega (arith, above)) (omega (arith, within)) in
+        sym (ap (λ t. t && stands_in words (65536 * key + v)) (lt-ltb v (64 * n) within) ∙ (ap (λ x. bit_at x ((65536 * key + v) % 64) == 1) z ∙ ap (λ x. x == 1) (bit_at-zero ((65536 * key + v) % 64))))
+    | inr past ↦ sym (ap (λ t. t && stands_in words (65536 * key + v)) (le-ltb v (64 * n) past))
+  ]
+]

@@ -1,0 +1,58 @@
+use Rattle.std.proofs.Common.{◌≡◌, ℕ, ◌+◌, ◌/◌, ◌%◌, ◌<◌, ◌==◌, ◌&&◌, ◌||◌, ap, sym, ◌∙◌, arith, inl, inr}
+use Rattle.std.proofs.lemmas.Bool.{cases_lt}
+use Rattle.hibitset_roaring.specs.Numbers.{any_below}
+use Rattle.hibitset_roaring.specs.Format.{container_count, key_of, in_container, holds}
+use Rattle.hibitset_roaring.proofs.TestLemmas.{any_none, any_next, or_comm, eq_comm}
+use Rattle.hibitset_roaring.proofs.LayoutLemmas.{at_first, at_mono}
+use Rattle.hibitset_roaring.proofs.reader.read_containers.Goals as goal
+
+pub containers-init : goal.containers-init
+containers-init c = record {
+  at_is = c.requires.header.first_is ∙ sym (at_first c.args.bytes.now);
+  containers = λ i below. absurd (omega (arith, below));
+  members = λ i. c.requires.empty i ∙ sym (any_none (λ k. (key_of c.args.bytes.now k == i / 65536) && in_container c.args.bytes.now k (i % 65536)));
+}
+
+pub end-end-requires-clause-within : goal.end-end-requires-clause-within
+end-end-requires-clause-within c =
+    let t = c.containers-test.true in
+    let n = c.requires.header.count_is in
+    let below : c.containers.k < container_count c.args.bytes.now = omega (arith, t, n) in
+    let m = at_mono c.args.bytes.now (c.containers.k + 1) (container_count c.args.bytes.now) (omega (arith, below)) in
+    let w = c.requires.whole in
+    omega (arith, m, w)
+
+pub read_container-requires-clause-within : goal.read_container-requires-clause-within
+read_container-requires-clause-within c =
+    let t = c.containers-test.true in
+    let n = c.requires.header.count_is in
+    let below : c.containers.k < container_count c.args.bytes.now = omega (arith, t, n) in
+    let m = at_mono c.args.bytes.now (c.containers.k + 1) (container_count c.args.bytes.now) (omega (arith, below)) in
+    let w = c.requires.whole in
+    omega (arith, m, w)
+
+pub containers-preserved : goal.containers-preserved
+containers-preserved c =
+    let h = c.containers.invariant in
+    let k : ℕ = c.containers.k in
+    let bytes = c.args.bytes.now in
+    record {
+      at_is = c.end-end.ensures;
+      containers = λ i below. elim (cases_lt i k) [
+        | inl lower ↦ h.containers i lower
+        | inr upper ↦ (let e : i ≡ k = omega (arith, below, upper) in rw e c.in_ok-read_container.ensures.container)
+      ];
+      members = λ i.
+          c.in_ok-read_container.ensures.members.bits i ∙ (ap (λ t. t || ((i / 65536 == key_of bytes k) && in_container bytes k (i % 65536))) (h.members i)
+          ∙ (ap (λ t. any_below k (λ k. (key_of bytes k == i / 65536) && in_container bytes k (i % 65536)) || (t && in_container bytes k (i % 65536))) (eq_comm (i / 65536) (key_of bytes k))
+          ∙ (or_comm (any_below k (λ k. (key_of bytes k == i / 65536) && in_container bytes k (i % 65536))) ((key_of bytes k == i / 65536) && in_container bytes k (i % 65536))
+          ∙ sym (any_next k (λ k. (key_of bytes k == i / 65536) && in_container bytes k (i % 65536))))));
+    }
+
+pub returns-clause-members : goal.returns-clause-members
+unfolding holds
+returns-clause-members c = λ i.
+    let t = c.containers-test.false in
+    let e = c.containers.auto.k-end in
+    let all : c.containers.k ≡ container_count c.args.bytes.now = (let n = c.requires.header.count_is in omega (arith, t, e, n)) in
+    c.containers.invariant.members i ∙ ap (λ n. any_below n (λ k. (key_of c.args.bytes.now k == i / 65536) && in_container c.args.bytes.now k (i % 65536))) all

@@ -1,0 +1,13 @@
+use Rattle.std.proofs.Common.{◌≡◌, ℕ, ◌/◌, ◌%◌, ◌<◌, ◌==◌, ◌&&◌}
+use Rattle.hibitset.specs.Numbers.{stands_in}
+use Rattle.hibitset_roaring.specs.Numbers.{any_below}
+use Rattle.hibitset_roaring.specs.Format.{key_of, container_at, in_container, IsContainer}
+use Rattle.hibitset_roaring.proofs.reader.read_containers.Given as goal
+
+-- so many containers are well formed, and their members are put in
+abbrev pub invariant-containers : goal.invariant-containers
+invariant-containers l = record {
+  at_is : l.at ≡ container_at l.bytes l.k;
+  containers : (i : ℕ) → i < l.k → IsContainer l.bytes i;
+  members : (i : ℕ) → stands_in l.words i ≡ any_below l.k (λ k. (key_of l.bytes k == i / 65536) && in_container l.bytes k (i % 65536));
+}

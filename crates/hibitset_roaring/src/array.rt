@@ -1,0 +1,64 @@
+//! Members written as an array.
+
+ghost use Rattle.std.specs.Prelude.{◌≡◌, ℕ, ◌+◌, ◌-◌, ◌*◌, ◌^◌, ◌<◌, ◌≤◌, ◌||◌, ◌&&◌, nat_lt, length};
+ghost use Rattle.std.specs.Int.RustNames.{count_ones};
+ghost use Rattle.hibitset.specs.Numbers.{stands_in};
+ghost use Rattle.hibitset_roaring.specs.Numbers.{u16_at};
+ghost use Rattle.hibitset_roaring.specs.Format.{in_array, IsArray};
+ghost use Rattle.hibitset_roaring.specs.Streams.{SameBefore};
+ghost use Rattle.hibitset_roaring.specs.Words.{TakesLowest, in_word, ones_from, ones_under, AreSummaries};
+
+use crate::layout::CONTAINER_WORDS;
+use crate::number::put_u16;
+use crate::slots::{next_slot, word_of};
+
+// Takes the lowest bit out of a word, and returns its number.
+#[inline]
+fn take_lowest(word: &mut usize) -> usize
+    requires { 0 < word.old }
+    ensures { TakesLowest word.old result word.new }
+{
+    let bit = word.trailing_zeros();
+    *word &= *word - 1;
+    bit as usize
+}
+
+// Writes the bits of a word, whose first bit has the number `first`, behind the `len` numbers of an array, and returns how many it has then.
+#[inline]
+fn write_word(out: &mut [u8], at: usize, len: usize, first: usize, word: usize) -> usize
+    requires room { at + 2 * (len + count_ones word) ≤ length out.old }
+    requires first { first + 64 ≤ 65536 }
+    ensures len { result ≡ len + count_ones word }
+    ensures before { SameBefore (at + 2 * len) out.old out.new }
+    ensures members { (v : ℕ) → in_array out.new at result v ≡ (in_array out.old at len v || in_word first word v) }
+    ensures low { (i : ℕ) → len ≤ i → i < result → first ≤ u16_at out.new (at + 2 * i) }
+    ensures high { (i : ℕ) → len ≤ i → i < result → u16_at out.new (at + 2 * i) < first + 64 }
+    ensures ascending { (i : ℕ) → len ≤ i → i + 1 < result → u16_at out.new (at + 2 * i) < u16_at out.new (at + 2 * (i + 1)) }
+{
+    let mut end = len;
+    let mut rest = word;
+    'bits: while rest != 0 {
+        let bit = take_lowest(&mut rest);
+        put_u16(out, at + 2 * end, first + bit);
+        end += 1;
+    }
+    end
+}
+
+// Writes the members with these high bits as an array.
+pub(crate) fn write_array(out: &mut [u8], at: usize, words: &[usize], above: &[usize], key: usize)
+    requires room { at + 2 * ones_under words.now key ≤ length out.old }
+    requires key { key < 65536 }
+    requires above { AreSummaries words.now above.now }
+    ensures before { SameBefore at out.old out.new }
+    ensures array { IsArray out.new at (ones_under words.now key) }
+    ensures members { (v : ℕ) → v < 65536 → in_array out.new at (ones_under words.now key) v ≡ stands_in words.now (65536 * key + v) }
+{
+    let base = CONTAINER_WORDS * key;
+    let mut len = 0;
+    let mut slot = next_slot(above, key, 0);
+    'slots: while slot < CONTAINER_WORDS {
+        len = write_word(out, at, len, 64 * slot, word_of(words, base + slot));
+        slot = next_slot(above, key, slot + 1);
+    }
+}

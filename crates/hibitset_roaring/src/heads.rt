@@ -1,0 +1,109 @@
+//! Which containers a set has, and how many members each.
+
+ghost use Rattle.std.specs.Prelude.{◌≡◌, ℕ, ◌+◌, ◌-◌, ◌*◌, ◌/◌, ◌^◌, ◌<◌, ◌≤◌, length, IfOk, OnOk};
+ghost use Rattle.hibitset_roaring.specs.Streams.{AreHeads};
+ghost use Rattle.hibitset_roaring.specs.Words.{ones_from, ones_under, AreSummaries};
+
+use crate::layout::CONTAINER_WORDS;
+use crate::slots::{CONTAINER_BLOCKS, next_slot, word_of};
+use std::alloc::{AllocError, Global};
+
+// From this many words that are not 0 on, all words of a container are counted.
+const MANY_WORDS: usize = 256;
+
+/// The keys of the containers of a set, and how many members each has.
+#[derive(Drop)]
+pub(crate) struct Heads {
+    pub(crate) keys: Vec<usize>,
+    pub(crate) counts: Vec<usize>,
+}
+
+// How many words of a container are not 0.
+fn count_slots(above: &[usize], key: usize) -> usize
+    requires { key < 65536 }
+{
+    let mut slots = 0;
+    'summaries: for block in 0..CONTAINER_BLOCKS {
+        slots += word_of(above, CONTAINER_BLOCKS * key + block).count_ones() as usize;
+    }
+    slots
+}
+
+// How many bits are set in 1,024 words.
+fn count_whole(words: &[usize], base: usize) -> usize
+    requires { base + 1024 ≤ length words.now }
+    ensures count { result ≡ ones_from words.now base 1024 }
+    ensures few { result ≤ 65536 }
+{
+    let mut ones = 0;
+    'words: for j in 0..CONTAINER_WORDS {
+        ones += words[base + j].count_ones() as usize;
+    }
+    ones
+}
+
+// How many bits are set in the words of a container, of which those that are 0 are skipped.
+fn count_some(words: &[usize], above: &[usize], key: usize) -> usize
+    requires key { key < 65536 }
+    requires above { AreSummaries words.now above.now }
+    ensures count { result ≡ ones_under words.now key }
+    ensures few { result ≤ 65536 }
+{
+    let base = CONTAINER_WORDS * key;
+    let mut ones = 0;
+    let mut slot = next_slot(above, key, 0);
+    'slots: while slot < CONTAINER_WORDS {
+        ones += word_of(words, base + slot).count_ones() as usize;
+        slot = next_slot(above, key, slot + 1);
+    }
+    ones
+}
+
+// How many members have these high bits.
+pub(crate) fn count_under(words: &[usize], above: &[usize], key: usize) -> usize
+    requires key { key < 65536 }
+    requires above { AreSummaries words.now above.now }
+    ensures count { result ≡ ones_under words.now key }
+    ensures few { result ≤ 65536 }
+{
+    let base = CONTAINER_WORDS * key;
+    if base + CONTAINER_WORDS <= words.len() && count_slots(above, key) >= MANY_WORDS {
+        count_whole(words, base)
+    } else {
+        count_some(words, above, key)
+    }
+}
+
+impl Heads {
+    // Notes a container, if there are members for it.
+    fn note(&mut self, words: &[usize], above: &[usize], key: usize) -> Result<(), AllocError>
+        requires key { key < 65536 }
+        requires above { AreSummaries words.now above.now }
+        requires heads { AreHeads words.now self.old.keys.items self.old.counts.items key }
+        ensures { OnOk result (AreHeads words.now self.new.keys.items self.new.counts.items (key + 1)) }
+    {
+        let count = count_under(words, above, key);
+        if count == 0 {
+            return Ok(());
+        }
+        self.keys.push(key)?;
+        self.counts.push(count)?;
+        Ok(())
+    }
+
+    /// The containers of the set with these words.
+    pub(crate) fn of(alloc: Global, words: &[usize], above: &[usize]) -> Result<Heads, AllocError>
+        requires short { length words.now ≤ 16777216 }
+        requires above { AreSummaries words.now above.now }
+        ensures { IfOk result (λ heads. AreHeads words.now heads.keys.items heads.counts.items ((length words.now + 1023) / 1024)) }
+    {
+        let mut heads = Heads {
+            keys: Vec::new(alloc),
+            counts: Vec::new(alloc),
+        };
+        'keys: for key in 0..(words.len() + (CONTAINER_WORDS - 1)) / CONTAINER_WORDS {
+            heads.note(words, above, key)?;
+        }
+        Ok(heads)
+    }
+}

@@ -1,0 +1,20 @@
+//! What holds of reading and writing together.
+
+ghost use Rattle.std.specs.Prelude.{◌≡◌, ℕ, IfOk, IfErr};
+ghost use Rattle.hibitset.specs.BitSet.{has};
+ghost use Rattle.hibitset_roaring.specs.declared.error.ReadError.TheVariants as errors;
+
+use crate::error::ReadError;
+use crate::reader::read;
+use crate::writer::write;
+use hibitset::BitSet;
+use std::alloc::Global;
+
+/// A set, written and read again: it has the same members, and fails only if an allocation does.
+pub fn round_trip(alloc: Global, set: &BitSet) -> Result<BitSet, ReadError>
+    ensures members { IfOk result (λ copy. (i : ℕ) → has copy i ≡ has set.now i) }
+    ensures reason { IfErr result (λ error. error ≡ errors.Memory) }
+{
+    let bytes = write(alloc, set)?;
+    read(alloc, &bytes)
+}

@@ -1,0 +1,20 @@
+//! Sets in the portable Roaring format, which many libraries and programs read and write.
+#![tactic(auto)]
+
+mod array;
+mod container;
+mod error;
+mod header;
+mod heads;
+pub mod laws;
+mod layout;
+mod number;
+mod reader;
+mod slots;
+mod words;
+mod writer;
+
+pub use error::{Fault, Malformed, ReadError};
+pub use header::KEYS;
+pub use reader::{read, read_below};
+pub use writer::{serialized_len, write, write_to};

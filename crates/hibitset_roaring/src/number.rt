@@ -1,0 +1,82 @@
+//! Numbers in bytes, the lowest byte first.
+
+ghost use Rattle.std.specs.Prelude.{◌≡◌, ◌+◌, ◌<◌, ◌≤◌, ◌^◌, length};
+ghost use Rattle.hibitset_roaring.specs.Numbers.{u16_at, u32_at, u64_at};
+ghost use Rattle.hibitset_roaring.specs.Streams.{SameBefore};
+
+// The number of two bytes.
+#[inline]
+#[tactic(auto, unfolding(crate::specs::Numbers::u16_at))]
+pub(crate) fn read_u16(bytes: &[u8], at: usize) -> usize
+    requires { at + 2 ≤ length bytes.now }
+    ensures number { result ≡ u16_at bytes.now at }
+    ensures small { result < 65536 }
+{
+    u16::from_le_bytes([bytes[at], bytes[at + 1]]) as usize
+}
+
+// The number of four bytes.
+#[inline]
+#[tactic(auto, unfolding(crate::specs::Numbers::u16_at, crate::specs::Numbers::u32_at))]
+pub(crate) fn read_u32(bytes: &[u8], at: usize) -> usize
+    requires { at + 4 ≤ length bytes.now }
+    ensures number { result ≡ u32_at bytes.now at }
+    ensures small { result < 2 ^ 32 }
+{
+    u32::from_le_bytes([bytes[at], bytes[at + 1], bytes[at + 2], bytes[at + 3]]) as usize
+}
+
+// The number of eight bytes.
+#[inline]
+#[tactic(auto, unfolding(crate::specs::Numbers::u16_at, crate::specs::Numbers::u32_at, crate::specs::Numbers::u64_at))]
+pub(crate) fn read_u64(bytes: &[u8], at: usize) -> usize
+    requires { at + 8 ≤ length bytes.now }
+    ensures { result ≡ u64_at bytes.now at }
+{
+    usize::from_le_bytes([
+        bytes[at],
+        bytes[at + 1],
+        bytes[at + 2],
+        bytes[at + 3],
+        bytes[at + 4],
+        bytes[at + 5],
+        bytes[at + 6],
+        bytes[at + 7],
+    ])
+}
+
+// Writes a number in two bytes.
+#[inline]
+#[tactic(auto, unfolding(crate::specs::Numbers::u16_at))]
+pub(crate) fn put_u16(out: &mut [u8], at: usize, number: usize)
+    requires room { at + 2 ≤ length out.old }
+    requires small { number < 65536 }
+    ensures here { u16_at out.new at ≡ number }
+    ensures before { SameBefore at out.old out.new }
+{
+    out[at] = (number % 256) as u8;
+    out[at + 1] = (number / 256) as u8;
+}
+
+// Writes a number in four bytes.
+#[inline]
+pub(crate) fn put_u32(out: &mut [u8], at: usize, number: usize)
+    requires room { at + 4 ≤ length out.old }
+    requires small { number < 2 ^ 32 }
+    ensures here { u32_at out.new at ≡ number }
+    ensures before { SameBefore at out.old out.new }
+{
+    put_u16(out, at, number % 65536);
+    put_u16(out, at + 2, number / 65536);
+}
+
+// Writes a number in eight bytes.
+#[inline]
+pub(crate) fn put_u64(out: &mut [u8], at: usize, number: usize)
+    requires room { at + 8 ≤ length out.old }
+    ensures here { u64_at out.new at ≡ number }
+    ensures before { SameBefore at out.old out.new }
+{
+    put_u32(out, at, number % 4294967296);
+    put_u32(out, at + 4, number / 4294967296);
+}

@@ -1,0 +1,79 @@
+//! A set made of a stream.
+
+ghost use Rattle.std.specs.Prelude.{◌≡◌, ℕ, ◌+◌, ◌*◌, ◌/◌, ◌%◌, ◌^◌, ◌<◌, ◌≤◌, ◌==◌, ◌||◌, ◌&&◌, true, false, get_or, length, IfOk, OnOk, IfErr};
+ghost use Rattle.hibitset.specs.BitSet.{has, slice_len};
+ghost use Rattle.hibitset.specs.Numbers.{stands_in};
+ghost use Rattle.hibitset_roaring.specs.Numbers.{u32_at, any_below};
+ghost use Rattle.hibitset_roaring.specs.Format.{container_count, key_of, has_offsets, offsets_at, container_at, in_container, holds, IsContainer, IsStream, HasKeysBelow};
+ghost use Rattle.hibitset_roaring.specs.Faults.{IsFault, IsReason};
+ghost use Rattle.hibitset_roaring.specs.Headers.{IsHeader};
+ghost use Rattle.hibitset_roaring.specs.declared.error.ReadError.TheVariants as errors;
+ghost use Rattle.hibitset_roaring.specs.declared.header.TheConstants.{KEYS};
+ghost use Rattle.hibitset_roaring.specs.declared.layout.TheConstants.{CONTAINER_WORDS};
+
+use crate::container::read_container;
+use crate::error::{Malformed, ReadError};
+use crate::header::{Header, KEYS};
+use crate::layout::CONTAINER_WORDS;
+use hibitset::BitSet;
+use std::alloc::{AllocError, Global};
+
+// Words that are all 0.
+fn zeros(alloc: Global, len: usize) -> Result<Vec<usize>, AllocError>
+    ensures length { IfOk result (λ words. length words.items ≡ len) }
+    ensures zeros { IfOk result (λ words. (i : ℕ) → stands_in words.items i ≡ false) }
+{
+    let mut words = Vec::with_capacity(alloc, len)?;
+    words.resize(len, 0)?;
+    Ok(words)
+}
+
+// Adds the members of all containers to words.
+fn read_containers(bytes: &[u8], header: &Header, words: &mut [usize]) -> Result<(), Malformed>
+    requires header { IsHeader bytes.now header.now }
+    requires whole { container_at bytes.now (container_count bytes.now) ≡ length bytes.now }
+    requires room { (k : ℕ) → k < container_count bytes.now → 1024 * (key_of bytes.now k + 1) ≤ length words.old }
+    requires empty { (i : ℕ) → stands_in words.old i ≡ false }
+    ensures containers { OnOk result ((k : ℕ) → k < container_count bytes.now → IsContainer bytes.now k) }
+    ensures members { OnOk result ((i : ℕ) → stands_in words.new i ≡ holds bytes.now i) }
+    ensures fault { IfErr result (λ m. (end : ℕ) → IsFault bytes.now end m.fault m.at) }
+{
+    let mut at = header.first;
+    'containers: for k in 0..header.count {
+        let end = header.end(bytes, k, at);
+        read_container(bytes, header, k, at, words)?;
+        at = end;
+    }
+    Ok(())
+}
+
+/// The set whose members a stream in the portable Roaring format has, if each key, the high 16 bits of a member, is below `end`. The stream is all of the bytes, with runs or without, with offsets or without.
+///
+/// An error names a fault of the bytes and its position, or says that an allocation failed. The set takes at most 8,192 bytes for each key below `end`, and an eighth of a tenth more for its summaries; as much again is taken while it is read. That is 128 MB and 130 MB where `end` is `KEYS`, and 18 bytes can ask for it.
+pub fn read_below(alloc: Global, bytes: &[u8], end: usize) -> Result<BitSet, ReadError>
+    requires { end ≤ KEYS }
+    ensures stream { OnOk result (IsStream bytes.now) }
+    ensures below { OnOk result (HasKeysBelow bytes.now end) }
+    ensures members { IfOk result (λ set. (i : ℕ) → has set i ≡ holds bytes.now i) }
+    ensures length { IfOk result (λ set. slice_len set 0 ≤ CONTAINER_WORDS * end) }
+    ensures reason { IfErr result (λ error. IsReason bytes.now end error) }
+    ensures accepts { IsStream bytes.now → HasKeysBelow bytes.now end → IfErr result (λ error. error ≡ errors.Memory) }
+{
+    let header = Header::read(bytes)?;
+    let keys = header.check_keys(bytes, end)?;
+    header.check_layout(bytes)?;
+    let mut words = zeros(alloc, CONTAINER_WORDS * keys)?;
+    read_containers(bytes, &header, &mut words)?;
+    Ok(BitSet::from_words(alloc, &words)?)
+}
+
+/// The set whose members a stream has, as `read_below` reads it, if they are below `MAX_EID`. A stranger's bytes are better read with a bound.
+pub fn read(alloc: Global, bytes: &[u8]) -> Result<BitSet, ReadError>
+    ensures stream { OnOk result (IsStream bytes.now) }
+    ensures below { OnOk result (HasKeysBelow bytes.now KEYS) }
+    ensures members { IfOk result (λ set. (i : ℕ) → has set i ≡ holds bytes.now i) }
+    ensures reason { IfErr result (λ error. IsReason bytes.now KEYS error) }
+    ensures accepts { IsStream bytes.now → HasKeysBelow bytes.now KEYS → IfErr result (λ error. error ≡ errors.Memory) }
+{
+    read_below(alloc, bytes, KEYS)
+}

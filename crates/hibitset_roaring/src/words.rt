@@ -1,0 +1,54 @@
+//! The words of layer 0 of a set, into which members are put.
+
+ghost use Rattle.std.specs.Prelude.{◌≡◌, ℕ, ◌+◌, ◌*◌, ◌/◌, ◌^◌, ◌<◌, ◌≤◌, ◌==◌, ◌||◌, nat_lt, length};
+ghost use Rattle.std.specs.Int.{bit_at};
+ghost use Rattle.hibitset_base.specs.Sets.{bit_of};
+ghost use Rattle.hibitset.specs.Numbers.{stands_in, in_range};
+
+use hibitset_base::bits::with_bit;
+
+// Sets the bit of a number.
+#[inline]
+pub(crate) fn set_bit(words: &mut [usize], number: usize)
+    requires { number / 64 < length words.old }
+    ensures { (i : ℕ) → stands_in words.new i ≡ (stands_in words.old i || i == number) }
+{
+    let slot = number / 64;
+    words[slot] = with_bit(words[slot], number % 64, true);
+}
+
+// A word of so many ones, from its lowest bit on.
+#[inline]
+fn low_bits(count: usize) -> usize
+    requires { count ≤ 64 }
+    ensures { (b : ℕ) → b < 64 → bit_at result b ≡ bit_of (nat_lt b count) }
+{
+    if count == 64 {
+        usize::MAX
+    } else {
+        (1 << count) - 1
+    }
+}
+
+// The bits of the word at a slot that stand for the numbers of a range.
+#[inline]
+fn bits_within(slot: usize, start: usize, end: usize) -> usize
+    requires { 64 * slot < 2 ^ 63 }
+    ensures { (b : ℕ) → b < 64 → bit_at result b ≡ bit_of (in_range start end (64 * slot + b)) }
+{
+    let first = 64 * slot;
+    let before = low_bits(start.saturating_sub(first).min(64));
+    low_bits(end.saturating_sub(first).min(64)) & !before
+}
+
+// Sets the bits of the numbers from one on before another, by whole words.
+pub(crate) fn set_range(words: &mut [usize], start: usize, end: usize)
+    requires order { start ≤ end }
+    requires room { end ≤ 64 * length words.old }
+    requires small { end < 2 ^ 62 }
+    ensures { (i : ℕ) → stands_in words.new i ≡ (stands_in words.old i || in_range start end i) }
+{
+    'slots: for slot in start / 64..(end + 63) / 64 {
+        words[slot] |= bits_within(slot, start, end);
+    }
+}

@@ -1,0 +1,206 @@
+//! A set written as a stream.
+
+ghost use Rattle.std.specs.Prelude.{◌≡◌, ℕ, ◌+◌, ◌-◌, ◌*◌, ◌/◌, ◌^◌, ◌<◌, ◌≤◌, List, drop, get_or, length, vec_len, IfOk, OnOk, OnErr};
+ghost use Rattle.hibitset.specs.BitSet.{has};
+ghost use Rattle.hibitset.specs.Numbers.{stands_in};
+ghost use Rattle.hibitset_roaring.specs.Numbers.{u16_at, u32_at, u64_at, ones_in};
+ghost use Rattle.hibitset_roaring.specs.Format.{in_bits, holds, IsStream, HasKeysBelow, IsPlainStream, IsCanonicalStream, Appends};
+ghost use Rattle.hibitset_roaring.specs.declared.header.TheConstants.{KEYS};
+ghost use Rattle.hibitset_roaring.specs.Streams.{SameBefore, flat_bytes, start, AreHeads, IsWritten, IsHeaded};
+ghost use Rattle.hibitset_roaring.specs.Words.{ones_from, ones_under, AreSummaries};
+
+use crate::array::write_array;
+use crate::header::NO_RUNS;
+use crate::heads::{Heads, count_under};
+use crate::layout::{CONTAINER_WORDS, MOST_IN_ARRAY, flat_size};
+use crate::number::{put_u16, put_u32, put_u64};
+use crate::slots::word_of;
+use hibitset::BitSet;
+use std::alloc::{AllocError, Global};
+
+// Writes the members with these high bits as bits.
+fn write_bits(out: &mut [u8], at: usize, words: &[usize], key: usize)
+    requires room { at + 8192 ≤ length out.old }
+    requires key { key < 65536 }
+    ensures before { SameBefore at out.old out.new }
+    ensures ones { ones_in out.new at 1024 ≡ ones_under words.now key }
+    ensures members { (v : ℕ) → v < 65536 → in_bits out.new at v ≡ stands_in words.now (65536 * key + v) }
+{
+    let base = CONTAINER_WORDS * key;
+    'words: for j in 0..CONTAINER_WORDS {
+        put_u64(out, at + 8 * j, word_of(words, base + j));
+    }
+}
+
+// Writes a container.
+fn write_container(
+    out: &mut [u8],
+    at: usize,
+    words: &[usize],
+    above: &[usize],
+    key: usize,
+    count: usize,
+)
+    requires room { at + flat_bytes count ≤ length out.old }
+    requires key { key < 65536 }
+    requires count { count ≡ ones_under words.now key }
+    requires above { AreSummaries words.now above.now }
+    ensures before { SameBefore at out.old out.new }
+    ensures written { IsWritten words.now out.new at key count }
+{
+    if count <= MOST_IN_ARRAY {
+        write_array(out, at, words, above, key);
+    } else {
+        write_bits(out, at, words, key);
+    }
+}
+
+// Writes the cookie, the number of containers, and of each its key and how many members it has.
+fn write_header(out: &mut [u8], keys: &[usize], counts: &[usize])
+    requires room { 8 + 4 * length keys.now ≤ length out.old }
+    requires few { length keys.now ≤ 16384 }
+    requires same { length counts.now ≡ length keys.now }
+    requires keys { (k : ℕ) → k < length keys.now → get_or keys.now k 0 < 16384 }
+    requires counts { (k : ℕ) → k < length keys.now → get_or counts.now k 0 ≤ 65536 }
+    requires some { (k : ℕ) → k < length keys.now → 0 < get_or counts.now k 0 }
+    ensures { IsHeaded out.new keys.now counts.now }
+{
+    put_u32(out, 0, NO_RUNS);
+    put_u32(out, 4, keys.len());
+    'keys: for k in 0..keys.len() {
+        put_u16(out, 8 + 4 * k, keys[k]);
+        put_u16(out, 8 + 4 * k + 2, counts[k] - 1);
+    }
+}
+
+// Writes where the containers begin.
+fn write_offsets(out: &mut [u8], counts: &[usize])
+    requires room { 8 + 8 * length counts.now ≤ length out.old }
+    requires few { length counts.now ≤ 16384 }
+    requires counts { (k : ℕ) → k < length counts.now → get_or counts.now k 0 ≤ 65536 }
+    ensures before { SameBefore (8 + 4 * length counts.now) out.old out.new }
+    ensures offsets { (k : ℕ) → k < length counts.now → u32_at out.new (8 + 4 * length counts.now + 4 * k) ≡ start counts.now k }
+{
+    let offsets = 8 + 4 * counts.len();
+    let mut at = 8 + 8 * counts.len();
+    'offsets: for k in 0..counts.len() {
+        put_u32(out, offsets + 4 * k, at);
+        at += flat_size(counts[k]);
+    }
+}
+
+// Writes the containers.
+fn write_containers(
+    out: &mut [u8],
+    keys: &[usize],
+    counts: &[usize],
+    words: &[usize],
+    above: &[usize],
+)
+    requires above { AreSummaries words.now above.now }
+    requires same { length counts.now ≡ length keys.now }
+    requires few { length keys.now ≤ 16384 }
+    requires room { start counts.now (length keys.now) ≤ length out.old }
+    requires keys { (k : ℕ) → k < length keys.now → get_or keys.now k 0 < 16384 }
+    requires counts { (k : ℕ) → k < length keys.now → get_or counts.now k 0 ≡ ones_under words.now (get_or keys.now k 0) }
+    requires small { (k : ℕ) → k < length keys.now → get_or counts.now k 0 ≤ 65536 }
+    ensures before { SameBefore (8 + 8 * length counts.now) out.old out.new }
+    ensures written { (k : ℕ) → k < length keys.now → IsWritten words.now out.new (start counts.now k) (get_or keys.now k 0) (get_or counts.now k 0) }
+{
+    let mut at = 8 + 8 * counts.len();
+    'containers: for k in 0..keys.len() {
+        write_container(out, at, words, above, keys[k], counts[k]);
+        at += flat_size(counts[k]);
+    }
+}
+
+// How many bytes a stream takes whose containers have these counts of members.
+fn len_of(counts: &[usize]) -> usize
+    requires few { length counts.now ≤ 16384 }
+    requires counts { (k : ℕ) → k < length counts.now → get_or counts.now k 0 ≤ 65536 }
+    ensures len { result ≡ start counts.now (length counts.now) }
+    ensures header { 8 + 8 * length counts.now ≤ result }
+{
+    let mut at = 8 + 8 * counts.len();
+    'counts: for k in 0..counts.len() {
+        at += flat_size(counts[k]);
+    }
+    at
+}
+
+// Writes a stream.
+fn write_stream(out: &mut [u8], keys: &[usize], counts: &[usize], words: &[usize], above: &[usize])
+    requires heads { AreHeads words.now keys.now counts.now ((length words.now + 1023) / 1024) }
+    requires short { length words.now ≤ 16777216 }
+    requires above { AreSummaries words.now above.now }
+    requires room { length out.old ≡ start counts.now (length keys.now) }
+    ensures stream { IsCanonicalStream (stands_in words.now) out.new }
+    ensures below { HasKeysBelow out.new 16384 }
+{
+    write_header(out, keys, counts);
+    write_offsets(out, counts);
+    write_containers(out, keys, counts, words, above);
+}
+
+// Writes a stream behind the first bytes.
+fn write_behind(out: &mut [u8], from: usize, heads: &Heads, words: &[usize], above: &[usize])
+    requires heads { AreHeads words.now heads.now.keys.items heads.now.counts.items ((length words.now + 1023) / 1024) }
+    requires short { length words.now ≤ 16777216 }
+    requires above { AreSummaries words.now above.now }
+    requires room { length out.old ≡ from + start heads.now.counts.items (length heads.now.keys.items) }
+    ensures before { SameBefore from out.old out.new }
+    ensures stream { IsCanonicalStream (stands_in words.now) (drop from out.new) }
+    ensures below { HasKeysBelow (drop from out.new) 16384 }
+{
+    write_stream(&mut out[from..], &heads.keys, &heads.counts, words, above);
+}
+
+// How many bytes the stream of the members in words takes.
+fn len_of_words(words: &[usize], above: &[usize]) -> usize
+    requires short { length words.now ≤ 16777216 }
+    requires above { AreSummaries words.now above.now }
+    ensures { (bytes : List ℕ) → IsPlainStream (stands_in words.now) bytes → length bytes ≡ result }
+{
+    let mut len = 8;
+    'keys: for key in 0..(words.len() + (CONTAINER_WORDS - 1)) / CONTAINER_WORDS {
+        let count = count_under(words, above, key);
+        if count != 0 {
+            len += 8 + flat_size(count);
+        }
+    }
+    len
+}
+
+/// How many bytes `write` makes of a set.
+pub fn serialized_len(set: &BitSet) -> usize
+    ensures { (bytes : List ℕ) → IsPlainStream (has set.now) bytes → length bytes ≡ result }
+{
+    len_of_words(set.layer0_as_slice(), set.layer1_as_slice())
+}
+
+/// Writes a set in the portable Roaring format behind the bytes of `out`: the one stream without runs of its members. At most 4,096 members with the same high 16 bits are an array, more are bits.
+///
+/// It allocates 16 bytes for each 65,536 numbers with members, and the stream's bytes. The error is a failed allocation; `out` is as it was then.
+pub fn write_to(alloc: Global, set: &BitSet, out: &mut Vec<u8>) -> Result<(), AllocError>
+    ensures stream { OnOk result (Appends (IsCanonicalStream (has set.now)) out.old.items out.new.items) }
+    ensures below { OnOk result (HasKeysBelow (drop (vec_len out.old) out.new.items) KEYS) }
+    ensures err { OnErr result (out.new.items ≡ out.old.items) }
+{
+    let words = set.layer0_as_slice();
+    let above = set.layer1_as_slice();
+    let heads = Heads::of(alloc, words, above)?;
+    let from = out.len();
+    out.resize(from + len_of(&heads.counts), 0)?;
+    write_behind(out, from, &heads, words, above);
+    Ok(())
+}
+
+/// A set in the portable Roaring format, as `write_to` writes it.
+pub fn write(alloc: Global, set: &BitSet) -> Result<Vec<u8>, AllocError>
+    ensures stream { IfOk result (λ out. IsCanonicalStream (has set.now) out.items) }
+    ensures below { IfOk result (λ out. HasKeysBelow out.items KEYS) }
+{
+    let mut out = Vec::new(alloc);
+    write_to(alloc, set, &mut out)?;
+    Ok(out)
+}

@@ -1,0 +1,95 @@
+//! Sets read from streams and written to them.
+use crate::tests::{ask, assert_has, say, set_of};
+use hibitset::BitSet;
+use hibitset_roaring::laws::round_trip;
+use hibitset_roaring::{read, read_below, write, write_to};
+use std::alloc::AllocError;
+use std::test::Fail;
+
+// The stream of {5, 70000}.
+const STREAM: [u8; 28] = [
+    58, 48, 0, 0, 2, 0, 0, 0, 0, 0, 0, 0, 1, 0, 0, 0, 24, 0, 0, 0, 26, 0, 0, 0, 5, 0, 112, 17,
+];
+
+// The words, and the set of them.
+#[test]
+fn read_a_stream(rt: HostRuntime) -> Result<(), Fail> {
+    ask(&rt)?;
+    let made = read(rt.alloc(), &STREAM);
+    say(&rt, made.is_err())?;
+    ask(&rt)?;
+    let set = match made {
+        Ok(set) => set,
+        Err(_) => read(rt.alloc(), &STREAM)?,
+    };
+    assert_has(&rt, &set, &[5, 70_000]);
+    Ok(())
+}
+
+#[test]
+fn read_with_a_bound(rt: HostRuntime) -> Result<(), Fail> {
+    ask(&rt)?;
+    let made = read_below(rt.alloc(), &STREAM, 2);
+    say(&rt, made.is_err())?;
+    ask(&rt)?;
+    let set = match made {
+        Ok(set) => set,
+        Err(_) => read_below(rt.alloc(), &STREAM, 2)?,
+    };
+    assert_has(&rt, &set, &[5, 70_000]);
+    Ok(())
+}
+
+// Tells whether bytes are the stream.
+fn is_stream(bytes: &[u8]) -> bool {
+    bytes == STREAM.as_slice()
+}
+
+// The keys, the numbers of members, and the stream.
+#[test]
+fn write_a_set(rt: HostRuntime) -> Result<(), Fail> {
+    let set = set_of(rt.alloc(), &[5, 70_000])?;
+    ask(&rt)?;
+    let made = write(rt.alloc(), &set);
+    say(&rt, made.is_err())?;
+    ask(&rt)?;
+    let stream = match made {
+        Ok(stream) => stream,
+        Err(AllocError) => write(rt.alloc(), &set)?,
+    };
+    assert!(rt; is_stream(&stream));
+    Ok(())
+}
+
+// The same behind a byte, which is all that is there where one failed.
+#[test]
+fn write_behind_a_byte(rt: HostRuntime) -> Result<(), Fail> {
+    let set = set_of(rt.alloc(), &[5, 70_000])?;
+    let mut out = Vec::from_slice(rt.alloc(), &[7])?;
+    ask(&rt)?;
+    let refused = write_to(rt.alloc(), &set, &mut out).is_err();
+    say(&rt, refused)?;
+    ask(&rt)?;
+    if refused {
+        assert!(rt; out.len() == 1);
+        write_to(rt.alloc(), &set, &mut out)?;
+    }
+    assert!(rt; out.len() == 29 && out[0] == 7);
+    assert!(rt; is_stream(&out[1..]));
+    Ok(())
+}
+
+#[test]
+fn round_trip_of_a_set(rt: HostRuntime) -> Result<(), Fail> {
+    let set = set_of(rt.alloc(), &[5, 70_000])?;
+    ask(&rt)?;
+    let made = round_trip(rt.alloc(), &set);
+    say(&rt, made.is_err())?;
+    ask(&rt)?;
+    let copy: BitSet = match made {
+        Ok(copy) => copy,
+        Err(_) => round_trip(rt.alloc(), &set)?,
+    };
+    assert_has(&rt, &copy, &[5, 70_000]);
+    Ok(())
+}
