@@ -1,5 +1,5 @@
 -- What a contract sees of an atomic set that C keeps.
-use Rattle.std.specs.Prelude.{◌≡◌, ℕ, Bool, false, Option, None, Some}
+use Rattle.std.specs.Prelude.{◌≡◌, ℕ, ◌/◌, Bool, true, false, Option, None, Some}
 use Rattle.hibitset_atomic.specs.AtomicBitSet.{has as atomic_has, topped_word, LacksBlock as LacksItsBlock, HasAllRoom as HasRoomForAll}
 use Rattle.hibitset_c.specs.declared.atomic_set.AtomicSet.{AtomicSet}
 use Rattle.hibitset_c.specs.declared.kept.Kept.{Kept}
@@ -14,6 +14,10 @@ has_in (Some Nothing) i = false
 -- the set has the number
 abbrev pub has : AtomicSet → ℕ → Bool
 has set = has_in set.handle.kept
+
+-- some member lies in the same 4,096 indices
+abbrev pub HasNear : AtomicSet → ℕ → Type 0
+HasNear set i = (j : ℕ) × (j / 4096 ≡ i / 4096) × (has set j ≡ true)
 
 abbrev pub word_in : Option Kept → ℕ → ℕ → ℕ
 word_in None l p = 0

@@ -6,7 +6,7 @@ ghost use Rattle.hibitset_base.specs.First.{HasNone, IsFirst, IsLast};
 ghost use Rattle.hibitset_base.specs.Members.{members, members_below};
 ghost use Rattle.hibitset_base.specs.declared.util.TheConstants.{LAYERS, MAX_EID};
 ghost use Rattle.hibitset_atomic.specs.declared.atomic.TheConstants.{ATOMIC_MAX_EID};
-ghost use Rattle.hibitset_c.specs.Atomic.{has, word_of, LacksBlock, HasAllRoom, OwnsNoMemory, IsSame};
+ghost use Rattle.hibitset_c.specs.Atomic.{has, word_of, HasNear, LacksBlock, HasAllRoom, OwnsNoMemory, IsSame};
 ghost use Rattle.hibitset_c.specs.Buffer.{Fills};
 ghost use Rattle.hibitset_c.specs.declared.status.TheConstants.{OK, PRESENT, NO_MEMORY, OUT_OF_RANGE};
 
@@ -37,6 +37,7 @@ pub extern "C" fn hibitset_atomic_add(alloc: Global, set: &mut AtomicSet, index:
     ensures status { result ≤ OUT_OF_RANGE }
 
     // When a block has to be allocated, and which are made.
+    ensures near { HasNear set.old index → result ≢ NO_MEMORY }
     ensures lacking { result ≡ NO_MEMORY → LacksBlock set.old index }
     ensures room { HasAllRoom set.old → result ≢ NO_MEMORY × HasAllRoom set.new }
     ensures keeps { (i : ℕ) → LacksBlock set.new i → LacksBlock set.old i }

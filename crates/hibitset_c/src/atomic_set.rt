@@ -57,6 +57,7 @@ impl AtomicSet {
         ensures blocks { (i : ℕ) → LacksBlock self.new i ↔ LacksBlock self.old i }
         ensures room { HasAllRoom self.old → (result ≡ true) × HasAllRoom self.new }
         ensures err { result ≡ false → (i : ℕ) → LacksBlock self.old i }
+        ensures empty { result ≡ false → (i : ℕ) → has self.old i ≡ false }
     {
         self.made || self.make_first(alloc)
     }
