@@ -188,6 +188,7 @@ impl Header {
         ensures ascending { OnOk result ((k : ℕ) → k + 1 < container_count bytes.now → key_of bytes.now k < key_of bytes.now (k + 1)) }
         ensures below { IfOk result (λ next. HasKeysBelow bytes.now next) }
         ensures few { IfOk result (λ next. next ≤ end) }
+        ensures least { IfOk result (λ next. (bound : ℕ) → HasKeysBelow bytes.now bound → next ≤ bound) }
         ensures fault { IfErr result (λ m. IsFault bytes.now end m.fault m.at) }
     {
         let mut next = 0;

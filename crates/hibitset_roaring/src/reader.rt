@@ -47,15 +47,18 @@ fn read_containers(bytes: &[u8], header: &Header, words: &mut [usize]) -> Result
     Ok(())
 }
 
-/// The set whose members a stream in the portable Roaring format has, if each key, the high 16 bits of a member, is below `end`. The stream is all of the bytes, with runs or without, with offsets or without.
+/// The set whose members a stream in the portable Roaring format has, if each key is below `end`: a key is the high 16 bits of members. The stream is all of the bytes; it may have runs, and leave offsets out where the format does.
 ///
-/// An error names a fault of the bytes and its position, or says that an allocation failed. The set takes at most 8,192 bytes for each key below `end`, and an eighth of a tenth more for its summaries; as much again is taken while it is read. That is 128 MB and 130 MB where `end` is `KEYS`, and 18 bytes can ask for it.
+/// An error names a fault of the bytes and its position, or says that an allocation failed.
+///
+/// The set takes at most 8,192 bytes for each key below `end`, and a sixty-third more; without the latter, as much again is taken while it is read. If `end` is `KEYS`, 18 bytes can ask for 136 MB and 134 MB.
 pub fn read_below(alloc: Global, bytes: &[u8], end: usize) -> Result<BitSet, ReadError>
     requires { end ≤ KEYS }
     ensures stream { OnOk result (IsStream bytes.now) }
     ensures below { OnOk result (HasKeysBelow bytes.now end) }
     ensures members { IfOk result (λ set. (i : ℕ) → has set i ≡ holds bytes.now i) }
     ensures length { IfOk result (λ set. slice_len set 0 ≤ CONTAINER_WORDS * end) }
+    ensures least { IfOk result (λ set. (bound : ℕ) → HasKeysBelow bytes.now bound → slice_len set 0 ≤ CONTAINER_WORDS * bound) }
     ensures reason { IfErr result (λ error. IsReason bytes.now end error) }
     ensures accepts { IsStream bytes.now → HasKeysBelow bytes.now end → IfErr result (λ error. error ≡ errors.Memory) }
 {
@@ -67,11 +70,12 @@ pub fn read_below(alloc: Global, bytes: &[u8], end: usize) -> Result<BitSet, Rea
     Ok(BitSet::from_words(alloc, &words)?)
 }
 
-/// The set whose members a stream has, as `read_below` reads it, if they are below `MAX_EID`. A stranger's bytes are better read with a bound.
+/// The set whose members a stream has, as `read_below` reads it, if they are below `MAX_EID`. Bytes of a stranger are better read with a bound.
 pub fn read(alloc: Global, bytes: &[u8]) -> Result<BitSet, ReadError>
     ensures stream { OnOk result (IsStream bytes.now) }
     ensures below { OnOk result (HasKeysBelow bytes.now KEYS) }
     ensures members { IfOk result (λ set. (i : ℕ) → has set i ≡ holds bytes.now i) }
+    ensures least { IfOk result (λ set. (bound : ℕ) → HasKeysBelow bytes.now bound → slice_len set 0 ≤ CONTAINER_WORDS * bound) }
     ensures reason { IfErr result (λ error. IsReason bytes.now KEYS error) }
     ensures accepts { IsStream bytes.now → HasKeysBelow bytes.now KEYS → IfErr result (λ error. error ≡ errors.Memory) }
 {

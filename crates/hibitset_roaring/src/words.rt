@@ -17,7 +17,7 @@ pub(crate) fn set_bit(words: &mut [usize], number: usize)
     words[slot] = with_bit(words[slot], number % 64, true);
 }
 
-// A word of so many ones, from its lowest bit on.
+// A word whose lowest bits are set, as many as `count`.
 #[inline]
 fn low_bits(count: usize) -> usize
     requires { count ≤ 64 }

@@ -39,3 +39,19 @@ returns-then-key-end-clause-fault c =
       here = omega (arith, keys);
       high = omega (arith, high, key);
     }
+
+pub returns-clause-least : goal.returns-clause-least
+returns-clause-least c = λ bound below.
+    let h = c.keys.invariant in
+    let k : ℕ = c.keys.k in
+    let t = c.keys-test.false in
+    let e = c.keys.auto.k-end in
+    let n = c.requires.header.count_is in
+    elim (cases_lt 0 k) [
+      | inl some ↦
+          let is : k - 1 + 1 ≡ k = omega (arith, some) in
+          let last = h.last (k - 1) is in
+          let b = below.keys (k - 1) (omega (arith, is, t, e, n)) in
+          omega (arith, last, b)
+      | inr none ↦ (let z = h.none (omega (arith, none)) in omega (arith, z))
+    ]
