@@ -5,9 +5,9 @@ Each test that CALLS names makes one call, between two requests of its own, and 
 and of the last request whether it was refused. With N = 1, 2 and so on the Nth request of the test is refused
 (failing_allocation.c), until the last one was: so the numbers between those of the two are the requests of the
 call. It fails where one of them was refused and the call passed (but see GO_ON), where a call makes no request or not
-as many as REQUESTS says, where a call of ROOM makes one, where a public call that can be refused is not in CALLS, and
-where a test fails, which compares what stands and makes the call again. SCRIPTS are run by the program, and what it
-prints is compared.
+as many as REQUESTS says, or asks for other bytes than BYTES says, where a call of ROOM makes one, where a public call
+that can be refused is not in CALLS, and where a test fails, which compares what stands and makes the call again.
+SCRIPTS are run by the program, and what it prints is compared.
 """
 import os
 import re
@@ -215,6 +215,90 @@ REQUESTS_AT_MOST = {
     "parts::for_each": 7,
 }
 
+# How many bytes the call of each test asks for in all. A call that takes twice the room that it needs is seen here alone.
+# Calls that several threads make are left out: their bytes depend on the processors.
+BYTES = {
+    "atomic::add": 2_048,
+    "atomic::divide_among": 12,
+    "atomic::extend_index_refs": 6_144,
+    "atomic::extend_indices": 6_144,
+    "atomic::from_index_refs": 49_152,
+    "atomic::from_index_refs_of_which_none_fits": 41_984,
+    "atomic::from_index_refs_of_which_one_fits": 43_008,
+    "atomic::from_no_index_refs": 41_984,
+    "atomic::from_indices": 49_152,
+    "atomic::from_indices_of_which_none_fits": 41_984,
+    "atomic::from_indices_of_which_one_fits": 43_008,
+    "atomic::from_no_indices": 41_984,
+    "atomic::new": 41_984,
+    "atomic::settle": 2_139_648,
+    "atomic::share": 4_260_881,
+    "callers::add_a_list": 634_944,
+    "callers::alloc": 56,
+    "callers::alloc_run": 56,
+    "callers::find": 8,
+    "callers::flush": 16,
+    "callers::mark": 56,
+    "callers::new_tag": 384,
+    "callers::one_more": 32,
+    "callers::page_at_a_position": 16,
+    "callers::page_before_a_row": 16,
+    "callers::page_from_a_row": 16,
+    "callers::ready": 40,
+    "callers::rows_of_both": 8,
+    "callers::save": 48,
+    "callers::set_of_a_list": 635_000,
+    "callers::set_of_a_range": 296,
+    "callers::tag": 8_912,
+    "callers::take": 16,
+    "callers::wake": 664,
+    "callers::walk": 16,
+    "callers::widen": 8_912,
+    "callers::windows": 32,
+    "columns::collect": 96,
+    "columns::insert": 949_496,
+    "columns::insert_in_order": 4_096,
+    "copies::complement": 634_944,
+    "copies::intersection": 64,
+    "copies::symmetric_difference": 64,
+    "copies::union": 64,
+    "copies::walk": 40,
+    "sets::add": 634_944,
+    "sets::add_range": 634_944,
+    "sets::add_past_the_last_word": 88,
+    "sets::add_to_a_clone": 56,
+    "sets::bitor_assign": 127_008,
+    "sets::bitxor_assign": 127_008,
+    "sets::clone": 38_120,
+    "sets::extend_index_refs": 634_944,
+    "sets::extend_indices": 634_944,
+    "sets::extend_indices_by_a_row": 1_112,
+    "sets::flip_range": 634_944,
+    "sets::from_index_refs": 635_000,
+    "sets::from_indices": 635_000,
+    "sets::from_layers": 634_944,
+    "sets::from_words": 48,
+    "sets::ranked": 4_888,
+    "sets::room_made_before": 634_944,
+    "sets::to_vec": 12,
+    "sets::to_vec_of_a_member_a_word": 384,
+    "sets::to_vec_of_full_words": 4_000,
+    "sets::with_capacity": 664,
+    "streams::read_a_stream": 33_040,
+    "streams::read_with_a_bound": 33_040,
+    "streams::round_trip_of_a_set": 33_132,
+    "streams::write_a_set": 92,
+    "streams::write_behind_a_byte": 93,
+    "worlds::begin": 232,
+    "worlds::open": 1_312,
+    "worlds::read": 96,
+    "worlds::run": 3_896,
+    "worlds::step": 2_048,
+}
+
+# Tests of REQUESTS whose call is made by several threads.
+IN_THREADS = {"callers::lists_by_workers"}
+
 ONE_PROCESSOR = len(os.sched_getaffinity(0)) == 1
 
 # Calls that go on where one request alone is refused, and pass: std's `collect` asks a second time, for one item, where it is refused the room that a walk hints at.
@@ -299,10 +383,10 @@ def allocator_code(program):
     return f"{min(start for start, _ in places):x} {max(end for _, end in places):x}"
 
 
-def run(library, words, number, given=""):
-    """How a program ends whose request of this number is refused: its status, and what it prints."""
+def run(library, words, number, given="", log=None):
+    """How a program ends whose request of this number is refused, none if it is 0: its status, and what it prints."""
     chosen = {"LD_PRELOAD": library, "FAIL_ALLOCATION": str(number), "ALLOCATOR_CODE": allocator_code(words[0])}
-    how = {**os.environ, **chosen}
+    how = {**os.environ, **chosen, **({"ALLOCATION_LOG": log} if log else {})}
     ran = subprocess.run(words, env=how, capture_output=True, text=True, input=given, timeout=SECONDS)
     return ran.returncode, ran.stdout, ran.stderr
 
@@ -314,6 +398,7 @@ class Test:
         self.name = name
         self.has_room = name in {f"tests::room::{room}" for room in ROOM.split()}
         self.before, self.call, self.went_on, self.after = [], [], [], []
+        self.bytes = 0
 
     def judge(self, number, said, errors):
         if not said and errors.startswith("error: AllocError\n"):
@@ -342,16 +427,28 @@ class Test:
             fail(f"{self.name}: {len(asked)} requests")
         self.compare(self.after[0] - self.before[0] - 1)
         went_on = f", {len(self.went_on)} gone on without" if self.went_on else ""
-        print(f"{self.name}: {len(self.call)} refused in turn{went_on}: ok", flush=True)
+        print(f"{self.name}: {len(self.call)} refused in turn{went_on}, {self.bytes} bytes: ok", flush=True)
 
     def compare(self, requests):
-        """Compares the number of requests of the call with that of the table; a run of the program is no call."""
+        """Compares the requests of the call, and their bytes, with those of the tables; a run of the program is no call."""
         name = self.name.removeprefix("tests::")
         most = REQUESTS_AT_MOST.get(name)
         if most is not None and requests > most:
             fail(f"{self.name}: {requests} requests, where {most} at most are to be made")
         if name in REQUESTS and requests != REQUESTS[name]:
             fail(f"{self.name}: {requests} requests, where {REQUESTS[name]} are to be made")
+        if name in BYTES and self.bytes != BYTES[name]:
+            fail(f"{self.name}: asks for {self.bytes} bytes, where {BYTES[name]} are to be asked for")
+
+
+def bytes_asked(library, program, name, numbers):
+    """How many bytes a test asks for in its requests of these numbers, where none is refused."""
+    with tempfile.NamedTemporaryFile("r") as log:
+        status, _, errors = run(library, [program, name], 0, log=log.name)
+        if status:
+            fail(f"{name}: {errors!r}")
+        asked = [int(line) for line in log]
+    return sum(asked[number - 1] for number in numbers)
 
 
 def in_turn(library, program, name):
@@ -362,6 +459,7 @@ def in_turn(library, program, name):
         said = [line for line in output.splitlines() if line and line != "test result: ok"]
         test.judge(number, said, (errors or f"status {status}") if status else "")
         if test.after:
+            test.bytes = bytes_asked(library, program, name, range(test.before[0] + 1, test.after[0]))
             return test
     fail(f"{name}: {MOST} requests refused, and there are more")
 
@@ -385,6 +483,8 @@ def of_library(pool, library):
     names = {*named.split(), *OTHERS.split(), *rooms}
     if lone := sorted(names ^ {*REQUESTS, *REQUESTS_AT_MOST, *rooms}):
         fail(f"not both a test of a call and with a number of requests: {lone}")
+    if lone := sorted({*REQUESTS} ^ {*BYTES, *IN_THREADS}):
+        fail(f"not both with a number of requests and with one of bytes: {lone}")
     program = executable("refusals", "refusals_tests")
     listed = subprocess.run([program, "--list"], capture_output=True, text=True, check=True).stdout
     if lone := sorted({f"tests::{name}" for name in names} ^ set(re.findall(r"^(tests::\S+): test$", listed, re.M))):
