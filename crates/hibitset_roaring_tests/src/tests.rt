@@ -64,7 +64,9 @@ fn an_array_has_4096_members_at_most(rt: HostRuntime) -> Result<(), Fail> {
         })?;
     }
     assert!(rt; is_read_as(alloc, &bits, &set, &bits)?);
-    bits[20] = 0;
+    if bits.len() > 20 {
+        bits[20] = 0;
+    }
     assert!(rt; is_refused(alloc, &bits, Fault::WrongCardinality, 16));
     Ok(())
 }
