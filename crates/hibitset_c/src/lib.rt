@@ -4,7 +4,7 @@
 //!
 //! An atomic set, and a seat of a shared one, are one pointer each in a struct of C's. Each call takes it by `&mut`, and the seats of one set own the set together.
 //!
-//! An index that is out of range and a failed allocation are statuses. No export has a `requires`.
+//! An index that is out of range, a stream that is none and a failed allocation are statuses. No export has a `requires`.
 #![tactic(auto)]
 
 pub mod atomic;
@@ -12,6 +12,7 @@ pub mod atomic_set;
 pub mod build;
 pub mod change;
 mod collect;
+pub mod fault;
 mod fill;
 pub mod handle;
 pub mod held_seat;
@@ -22,6 +23,7 @@ pub mod order;
 pub mod pair;
 mod raw_box;
 pub mod read;
+pub mod roaring;
 pub mod seat;
 pub mod seen;
 pub mod set;
