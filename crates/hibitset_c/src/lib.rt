@@ -1,4 +1,4 @@
-//! Hierarchical bit sets for C: a thin static library over `hibitset` and `hibitset_atomic`, with an export for each call. `bindings/c/hibitset.h` declares them.
+//! Hierarchical bit sets for C: a thin static library over `hibitset`, `hibitset_atomic` and `hibitset_roaring`, with an export for each call. `bindings/c/hibitset.h` declares them.
 //!
 //! C keeps each set in a struct of its own. A call that changes a set takes it as a `Set`, by `&mut`; a call that reads one takes the same bytes as a `Seen`, by `&`. A `Seen` is slices alone and owns nothing, so any number of threads may read a set at once. The empty set takes no memory.
 //!
