@@ -4,7 +4,7 @@
 //!
 //! An atomic set, and a seat of a shared one, are one pointer each in a struct of C's. Each call takes it by `&mut`, and the seats of one set own the set together.
 //!
-//! An index that is out of range, a stream that is none and a failed allocation are statuses. No export has a `requires`.
+//! An index that is out of range, bytes that are no stream and a failed allocation are statuses. No export has a `requires`.
 #![tactic(auto)]
 
 pub mod atomic;

@@ -51,7 +51,7 @@ pub extern "C" fn hibitset_roaring_write(
     if len <= room { OK } else { SHORT_BUFFER }
 }
 
-/// Makes it the set whose members a stream has, if each key, the high 16 bits of a member, is below `end` and below `KEYS`. The stream is all of the bytes. If they are none, leaves in `fault` the number of what is wrong, and in `at` its position.
+/// Makes it the set whose members a stream has, if each key, the high 16 bits of a member, is below `end` and `KEYS`. The stream is all of the bytes. If these are no such stream, leaves the number of a fault in `fault` and its position in `at`.
 #[unsafe(no_mangle)]
 pub extern "C" fn hibitset_roaring_read_below(
     alloc: Global,

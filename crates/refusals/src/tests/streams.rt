@@ -79,7 +79,6 @@ fn write_behind_a_byte(rt: HostRuntime) -> Result<(), Fail> {
     Ok(())
 }
 
-#[tactic(auto, using(hibitset_roaring::proofs::SummaryLemmas::summaries_of))]
 fn write_words_of(alloc: Global, set: &BitSet, out: &mut [u8]) -> Result<usize, AllocError> {
     write_words(alloc, set.layer0_as_slice(), set.layer1_as_slice(), out)
 }
