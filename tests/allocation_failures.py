@@ -84,6 +84,7 @@ CALLS = {
         "round_trip": "streams::round_trip_of_a_set",
         "write": "streams::write_a_set",
         "write_to": "streams::write_behind_a_byte",
+        "write_words": "streams::write_into_a_buffer",
     },
     "uses": {
         "Ids::alloc": "callers::alloc",
@@ -200,6 +201,7 @@ REQUESTS = {
     "streams::round_trip_of_a_set": 5,
     "streams::write_a_set": 3,
     "streams::write_behind_a_byte": 3,
+    "streams::write_into_a_buffer": 2,
     "worlds::begin": 2,
     "worlds::open": 2,
     "worlds::read": 1,

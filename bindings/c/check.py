@@ -5,7 +5,7 @@ Functions  Each function that the header declares without a body is an export of
            name and type, and the same result; and each export is declared.
 Layouts    `Set` and `Seen` of the crate have the same fields in the same places, and `hibitset_t` has them too; so do
            `AtomicSet` and `hibitset_atomic_t`, and `HeldSeat` and `hibitset_seat_t`.
-Statuses   The enumerators of hibitset_status are the constants of status.rt.
+Numbers    The enumerators of hibitset_status are the constants of status.rt, and those of hibitset_fault those of fault.rt.
 
 It prints a line for each fault, and ends with status 1 where there is one.
 """
@@ -31,6 +31,8 @@ TYPES = {
     "&[u32]": [("const uint32_t *", ""), ("size_t", "len")],
     "&mut [u32]": [("uint32_t *", ""), ("size_t", "len")],
     "&[usize]": [("const uint64_t *", ""), ("size_t", "len")],
+    "&[u8]": [("const uint8_t *", ""), ("size_t", "len")],
+    "&mut [u8]": [("uint8_t *", ""), ("size_t", "len")],
 }
 RESULTS = {"": "void", "bool": "bool", "usize": "size_t", "u32": "hibitset_status"}
 
@@ -114,11 +116,13 @@ def faults():
         layouts = {name: fields(name, types) for name in ours} | {f"{theirs}_t": c_fields(theirs, header)}
         if len(set(map(tuple, layouts.values()))) > 1:
             yield f"the layouts differ: {layouts}"
-    status = (CRATE / "status.rt").read_text(encoding="utf-8")
-    ours = {f"HIBITSET_{name}": value for name, value in re.findall(r"pub const (\w+): u32 = (\d+);", status)}
-    theirs = dict(re.findall(r"^    (HIBITSET_\w+) = (\d+)", header, re.M))
-    if ours != theirs:
-        yield f"the statuses differ: {ours}, {theirs}"
+    for enum, prefix in [("status", "HIBITSET_"), ("fault", "HIBITSET_FAULT_")]:
+        constants = (CRATE / f"{enum}.rt").read_text(encoding="utf-8")
+        body = re.search(rf"typedef enum hibitset_{enum} \{{\n(.*?)^\}} hibitset_{enum};", header, re.M | re.S)[1]
+        ours = {prefix + name: value for name, value in re.findall(r"pub const (\w+): u32 = (\d+);", constants)}
+        theirs = dict(re.findall(r"^    (HIBITSET_\w+) = (\d+)", body, re.M))
+        if ours != theirs:
+            yield f"the numbers of hibitset_{enum} differ: {ours}, {theirs}"
 
 
 def main():

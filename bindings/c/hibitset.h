@@ -56,8 +56,25 @@ typedef enum hibitset_status {
     HIBITSET_OUT_OF_RANGE = 3, /* An index or a length is out of range. The function says what it leaves. */
     HIBITSET_SHARED = 4,       /* Of hibitset_seat_settle: the set has another seat. */
     HIBITSET_ONE_SHARE = 5,    /* Of hibitset_seat_divide: the seat has one share of its set. */
-    HIBITSET_NO_SEAT = 6       /* Of the functions on a seat: there is none. */
+    HIBITSET_NO_SEAT = 6,      /* Of the functions on a seat: there is none. */
+    HIBITSET_SHORT_BUFFER = 7, /* The buffer is shorter than what would be written. */
+    HIBITSET_MALFORMED = 8     /* The bytes are no stream, or one with members out of range. */
 } hibitset_status;
+
+/* What is wrong with bytes that are no stream, and at which byte. */
+typedef enum hibitset_fault {
+    HIBITSET_FAULT_TOO_SHORT = 1,           /* The header, or a container, begins here and would end past the bytes. */
+    HIBITSET_FAULT_TOO_LONG = 2,            /* The last container ends here, and bytes follow. */
+    HIBITSET_FAULT_BAD_COOKIE = 3,          /* The first number is neither of the two that a stream begins with. */
+    HIBITSET_FAULT_TOO_MANY_CONTAINERS = 4, /* The header announces more than 65,536 containers. */
+    HIBITSET_FAULT_KEYS_NOT_ASCENDING = 5,  /* A key is not above the one before it. */
+    HIBITSET_FAULT_KEY_OUT_OF_RANGE = 6,    /* A key is not below the bound. */
+    HIBITSET_FAULT_WRONG_OFFSET = 7,        /* An offset is not the position where its container begins. */
+    HIBITSET_FAULT_WRONG_CARDINALITY = 8,   /* A container has not as many members as the header says. */
+    HIBITSET_FAULT_NOT_ASCENDING = 9,       /* A number of an array is not above the one before it. */
+    HIBITSET_FAULT_RUNS_NOT_APART = 10,     /* A run begins within the run before it, or right behind it. */
+    HIBITSET_FAULT_RUN_PAST_END = 11        /* A run ends past the numbers of its container. */
+} hibitset_fault;
 
 /* A set. Its fields are the library's. */
 typedef struct hibitset {
@@ -215,6 +232,30 @@ static inline const uint64_t *hibitset_words(const hibitset_t *set, size_t *len)
     *len = set->layers_[0].len;
     return set->layers_[0].words;
 }
+
+/* ---- Streams in the portable Roaring format, which other libraries and programs read and write too ---- */
+
+/* The high 16 bits of an index in a set, its key, are less than this. */
+#define HIBITSET_ROARING_KEYS UINT32_C(16384)
+
+/* Returns how many bytes hibitset_roaring_write writes of a set. It allocates nothing. */
+size_t hibitset_roaring_len(const hibitset_t *set);
+
+/* Writes the one stream without runs of a set's members into the first bytes of `buffer`, and leaves in `*taken` how many
+ * bytes that takes. What lies behind them in the buffer stays. It allocates 16 bytes for each 65,536 indices with members.
+ * HIBITSET_SHORT_BUFFER (`len` is less than `*taken`): `buffer` is unchanged. HIBITSET_NO_MEMORY: so is `*taken`. */
+hibitset_status hibitset_roaring_write(const hibitset_t *set, uint8_t *buffer, size_t len, size_t *taken);
+
+/* Makes `set` the set whose members a stream has, with runs or without: a stream of `len` bytes, with nothing behind it.
+ * A header of 18 bytes can ask for 128 MB twice, so bytes of a stranger are better read by hibitset_roaring_read_below.
+ * HIBITSET_MALFORMED: `*fault` is the hibitset_fault that the bytes have at position `*at`, and `set` is unchanged.
+ * HIBITSET_NO_MEMORY: `set` is unchanged. Neither this nor success changes `*fault` and `*at`. */
+hibitset_status hibitset_roaring_read(hibitset_t *set, const uint8_t *bytes, size_t len, uint32_t *fault, size_t *at);
+
+/* As hibitset_roaring_read, if each key in the stream is less than `end`, so each member less than 65536 * end. Layer 0 of
+ * the set then takes at most 8,192 bytes for each key below `end`, and as much again while it is read. */
+hibitset_status hibitset_roaring_read_below(hibitset_t *set, const uint8_t *bytes, size_t len, uint32_t end,
+                                            uint32_t *fault, size_t *at);
 
 /* ---- Assignments ---- */
 

@@ -17,6 +17,8 @@ pub(crate) const NO_MEMORY: u32 = 2;
 pub(crate) const SHARED: u32 = 4;
 /// Of `hibitset_seat_divide`: the seat has one share of its set.
 pub(crate) const ONE_SHARE: u32 = 5;
+/// Of `hibitset_roaring_read_below`: the bytes are no stream, or one with members out of range.
+pub(crate) const MALFORMED: u32 = 8;
 
 /// A layer without words begins here.
 const NO_WORD: &usize = &0;
@@ -160,6 +162,17 @@ unsafe extern "C" {
     pub(crate) safe fn hibitset_remove_range(set: &mut Set, start: Index, end: Index);
     fn hibitset_assign_words(set: &mut Set, words: *const usize, len: usize) -> u32;
 
+    pub(crate) safe fn hibitset_roaring_len(set: &Set) -> usize;
+    fn hibitset_roaring_write(set: &Set, buffer: *mut u8, len: usize, taken: &mut usize) -> u32;
+    fn hibitset_roaring_read_below(
+        set: &mut Set,
+        bytes: *const u8,
+        len: usize,
+        end: u32,
+        fault: &mut u32,
+        at: &mut usize,
+    ) -> u32;
+
     pub(crate) safe fn hibitset_raw_assign(set: &mut Set, other: &Set) -> u32;
     pub(crate) safe fn hibitset_raw_or_assign(set: &mut Set, other: &Set) -> u32;
     pub(crate) safe fn hibitset_raw_xor_assign(set: &mut Set, other: &Set) -> u32;
@@ -263,6 +276,23 @@ pub(crate) fn add_many(set: &mut Set, indices: &[Index]) -> (usize, u32) {
 pub(crate) fn assign_words(set: &mut Set, words: &[usize]) -> u32 {
     // SAFETY: the words are lent for the call, which reads them alone.
     unsafe { hibitset_assign_words(set, words.as_ptr(), words.len()) }
+}
+
+/// Writes the stream of a set into a buffer of its length. Returns what the call returns.
+pub(crate) fn roaring_write(set: &Set, buffer: &mut [u8]) -> u32 {
+    let mut taken = 0;
+    // SAFETY: the buffer is lent for the call, which writes within it alone.
+    unsafe { hibitset_roaring_write(set, buffer.as_mut_ptr(), buffer.len(), &mut taken) }
+}
+
+/// Makes it the set of a stream whose keys lie below `end`. Returns what the call returns, and if that is `MALFORMED`, the
+/// number of the fault and its position.
+pub(crate) fn roaring_read_below(set: &mut Set, bytes: &[u8], end: u32) -> (u32, u32, usize) {
+    let (mut fault, mut at) = (0, 0);
+    let (start, len) = (bytes.as_ptr(), bytes.len());
+    // SAFETY: the bytes are lent for the call, which reads them alone.
+    let status = unsafe { hibitset_roaring_read_below(set, start, len, end, &mut fault, &mut at) };
+    (status, fault, at)
 }
 
 // Functions that write members from `start` on into a buffer, ascending, until it is full or none is left. They return

@@ -3,6 +3,8 @@
 use std::collections::BTreeMap;
 use std::fs;
 
+use hibitset::RoaringFault;
+
 const RUST: &str = include_str!("../src/raw.rs");
 
 /// The header beside this crate.
@@ -35,6 +37,7 @@ fn type_of_c(text: &str) -> String {
         "hibitset_seat_t" => "Seat",
         "hibitset_status" | "uint32_t" => "u32",
         "uint64_t" | "size_t" => "usize",
+        "uint8_t" => "u8",
         "void" => "()",
         other => other,
     };
@@ -106,7 +109,7 @@ fn functions_are_declared_as_in_the_header() {
 #[test]
 fn constants_are_those_of_the_header() {
     let header = header();
-    let value = |name: &str, end: char| {
+    let value = |name: &str| {
         let (_, rest) = header
             .split_once(name)
             .unwrap_or_else(|| panic!("the header has {name}"));
@@ -114,16 +117,13 @@ fn constants_are_those_of_the_header() {
             .trim_start_matches([' ', '='])
             .trim_start_matches("UINT32_C(");
         digits
-            .split(end)
+            .split(|c: char| !c.is_ascii_digit())
             .next()
-            .and_then(|digits| digits.trim().parse().ok())
+            .and_then(|digits| digits.parse().ok())
     };
+    assert_eq!(value("define HIBITSET_MAX_EID"), Some(hibitset::MAX_EID));
     assert_eq!(
-        value("define HIBITSET_MAX_EID", ')'),
-        Some(hibitset::MAX_EID)
-    );
-    assert_eq!(
-        value("define HIBITSET_ATOMIC_MAX_EID", ')'),
+        value("define HIBITSET_ATOMIC_MAX_EID"),
         Some(hibitset::ATOMIC_MAX_EID)
     );
     for (name, constant) in [
@@ -132,12 +132,32 @@ fn constants_are_those_of_the_header() {
         ("NO_MEMORY", "NO_MEMORY"),
         ("SHARED", "SHARED"),
         ("ONE_SHARE", "ONE_SHARE"),
+        ("MALFORMED", "MALFORMED"),
     ] {
-        let number: Option<usize> = value(&format!("HIBITSET_{name} ="), ',');
+        let number: Option<usize> = value(&format!("HIBITSET_{name} ="));
         let line = format!(
             "const {constant}: u32 = {};",
             number.expect("the header has a number")
         );
         assert!(RUST.contains(&line), "{line}");
+    }
+    for (name, fault) in [
+        ("TOO_SHORT", RoaringFault::TooShort),
+        ("TOO_LONG", RoaringFault::TooLong),
+        ("BAD_COOKIE", RoaringFault::BadCookie),
+        ("TOO_MANY_CONTAINERS", RoaringFault::TooManyContainers),
+        ("KEYS_NOT_ASCENDING", RoaringFault::KeysNotAscending),
+        ("KEY_OUT_OF_RANGE", RoaringFault::KeyOutOfRange),
+        ("WRONG_OFFSET", RoaringFault::WrongOffset),
+        ("WRONG_CARDINALITY", RoaringFault::WrongCardinality),
+        ("NOT_ASCENDING", RoaringFault::NotAscending),
+        ("RUNS_NOT_APART", RoaringFault::RunsNotApart),
+        ("RUN_PAST_END", RoaringFault::RunPastEnd),
+    ] {
+        assert_eq!(
+            value(&format!("HIBITSET_FAULT_{name} =")),
+            Some(fault as usize),
+            "{name}"
+        );
     }
 }

@@ -10,7 +10,9 @@ use std::ffi::c_void;
 use std::process::Command;
 use std::ptr::null_mut;
 
-use hibitset::{AllocError, AtomicBitSet, BitSet, BitSetLike, Index, Ranked, SettleError, MAX_EID};
+use hibitset::{
+    AllocError, AtomicBitSet, BitSet, BitSetLike, Index, Ranked, RoaringError, SettleError, MAX_EID,
+};
 
 thread_local! {
     // How many requests are let through before one is refused; none is refused if it is negative.
@@ -117,6 +119,30 @@ fn a_refused_set_is_not_made() {
     assert!(refuse_each(&none, |_| (&a ^ &b).try_to_bit_set().map(drop)) > 0);
     assert!(refuse_each(&none, |_| (&a - &b).try_to_bit_set().map(drop)) > 0);
     assert!(refuse_each(&none, |_| (&a & !(&b & !&a)).try_to_bit_set().map(drop)) > 0);
+}
+
+#[test]
+fn a_refused_stream_is_neither_read_nor_written() {
+    let set: BitSet = (0..50_000).filter(|i| i % 7 == 0).collect();
+    let bytes = set.to_roaring();
+    let read = |bytes: &[u8]| match BitSet::from_roaring(bytes) {
+        Ok(read) => {
+            assert_eq!(read, set);
+            Ok(())
+        }
+        Err(RoaringError::NoMemory) => Err(AllocError),
+        Err(error) => panic!("{error}"),
+    };
+    let none = BitSet::new();
+    assert!(refuse_each(&none, |_| read(&bytes)) > 0);
+    assert!(refuse_each(&none, |_| set.try_to_roaring().map(drop)) > 1);
+    assert_eq!(
+        refuse_each(&none, |_| {
+            let _ = set.roaring_len();
+            Ok(())
+        }),
+        0
+    );
 }
 
 #[test]

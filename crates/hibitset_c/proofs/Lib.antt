@@ -6,3 +6,4 @@ mod Lengths
 mod ListLemmas
 mod NoMembers
 mod RawBoxes
+mod Streams

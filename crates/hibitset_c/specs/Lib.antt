@@ -6,6 +6,7 @@ pub mod KeptLending
 pub mod Lending
 pub mod List
 pub mod Member
+pub mod Roaring
 pub mod Seat
 pub mod Seen
 pub mod Set

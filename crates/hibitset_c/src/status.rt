@@ -20,3 +20,9 @@ pub const ONE_SHARE: u32 = 5;
 
 /// There is no seat.
 pub const NO_SEAT: u32 = 6;
+
+/// The buffer is shorter than what would be written, and is left as it was.
+pub const SHORT_BUFFER: u32 = 7;
+
+/// The bytes are no stream, or one with members out of range. The call says what is wrong, and where.
+pub const MALFORMED: u32 = 8;

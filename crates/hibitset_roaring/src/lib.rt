@@ -17,4 +17,4 @@ mod writer;
 pub use error::{Fault, Malformed, ReadError};
 pub use header::KEYS;
 pub use reader::{read, read_below};
-pub use writer::{serialized_len, write, write_to};
+pub use writer::{len_of_words, serialized_len, write, write_to, write_words};

@@ -1,6 +1,6 @@
 //! A set written as a stream.
 
-ghost use Rattle.std.specs.Prelude.{◌≡◌, ℕ, ◌+◌, ◌-◌, ◌*◌, ◌/◌, ◌^◌, ◌<◌, ◌≤◌, List, drop, get_or, length, vec_len, IfOk, OnOk, OnErr};
+ghost use Rattle.std.specs.Prelude.{◌≡◌, ℕ, ◌+◌, ◌-◌, ◌*◌, ◌/◌, ◌^◌, ◌<◌, ◌≤◌, List, drop, get_or, length, take, vec_len, IfOk, OnOk, OnErr};
 ghost use Rattle.hibitset.specs.BitSet.{has};
 ghost use Rattle.hibitset.specs.Numbers.{stands_in};
 ghost use Rattle.hibitset_roaring.specs.Numbers.{u16_at, u32_at, u64_at, ones_in};
@@ -155,8 +155,22 @@ fn write_behind(out: &mut [u8], from: usize, heads: &Heads, words: &[usize], abo
     write_stream(&mut out[from..], &heads.keys, &heads.counts, words, above);
 }
 
-// How many bytes the stream of the members in words takes.
-fn len_of_words(words: &[usize], above: &[usize]) -> usize
+// Writes a stream into the first bytes.
+fn write_first(out: &mut [u8], len: usize, heads: &Heads, words: &[usize], above: &[usize])
+    requires heads { AreHeads words.now heads.now.keys.items heads.now.counts.items ((length words.now + 1023) / 1024) }
+    requires short { length words.now ≤ 16777216 }
+    requires above { AreSummaries words.now above.now }
+    requires room { len ≤ length out.old }
+    requires len { len ≡ start heads.now.counts.items (length heads.now.keys.items) }
+    ensures stream { IsCanonicalStream (stands_in words.now) (take len out.new) }
+    ensures below { HasKeysBelow (take len out.new) 16384 }
+    ensures rest { drop len out.new ≡ drop len out.old }
+{
+    write_stream(&mut out[..len], &heads.keys, &heads.counts, words, above);
+}
+
+/// How many bytes `write` makes of a set with these words of layer 0, over which those of layer 1 lie.
+pub fn len_of_words(words: &[usize], above: &[usize]) -> usize
     requires short { length words.now ≤ 16777216 }
     requires above { AreSummaries words.now above.now }
     ensures { (bytes : List ℕ) → IsPlainStream (stands_in words.now) bytes → length bytes ≡ result }
@@ -169,6 +183,32 @@ fn len_of_words(words: &[usize], above: &[usize]) -> usize
         }
     }
     len
+}
+
+/// Writes the set with these words of layer 0, over which those of layer 1 lie, into the first bytes of a buffer, as `write` makes them. Returns how many bytes that takes. A buffer that has fewer is left as it was.
+///
+/// It allocates 16 bytes for each 65,536 numbers with members. The error is a failed allocation; the buffer is as it was then.
+pub fn write_words(
+    alloc: Global,
+    words: &[usize],
+    above: &[usize],
+    out: &mut [u8],
+) -> Result<usize, AllocError>
+    requires short { length words.now ≤ 16777216 }
+    requires above { AreSummaries words.now above.now }
+    ensures len { IfOk result (λ len. (bytes : List ℕ) → IsPlainStream (stands_in words.now) bytes → length bytes ≡ len) }
+    ensures stream { IfOk result (λ len. len ≤ length out.old → IsCanonicalStream (stands_in words.now) (take len out.new)) }
+    ensures below { IfOk result (λ len. len ≤ length out.old → HasKeysBelow (take len out.new) KEYS) }
+    ensures rest { IfOk result (λ len. drop len out.new ≡ drop len out.old) }
+    ensures few { IfOk result (λ len. length out.old < len → out.new ≡ out.old) }
+    ensures err { OnErr result (out.new ≡ out.old) }
+{
+    let heads = Heads::of(alloc, words, above)?;
+    let len = len_of(&heads.counts);
+    if len <= out.len() {
+        write_first(out, len, &heads, words, above);
+    }
+    Ok(len)
 }
 
 /// How many bytes `write` makes of a set.

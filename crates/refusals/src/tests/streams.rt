@@ -2,8 +2,8 @@
 use crate::tests::{ask, assert_has, say, set_of};
 use hibitset::BitSet;
 use hibitset_roaring::laws::round_trip;
-use hibitset_roaring::{read, read_below, write, write_to};
-use std::alloc::AllocError;
+use hibitset_roaring::{read, read_below, write, write_to, write_words};
+use std::alloc::{AllocError, Global};
 use std::test::Fail;
 
 // The stream of {5, 70000}.
@@ -76,6 +76,27 @@ fn write_behind_a_byte(rt: HostRuntime) -> Result<(), Fail> {
     }
     assert!(rt; out.len() == 29 && out[0] == 7);
     assert!(rt; is_stream(&out[1..]));
+    Ok(())
+}
+
+fn write_words_of(alloc: Global, set: &BitSet, out: &mut [u8]) -> Result<usize, AllocError> {
+    write_words(alloc, set.layer0_as_slice(), set.layer1_as_slice(), out)
+}
+
+// The keys and the numbers of members. The buffer is as it was where one failed.
+#[test]
+fn write_into_a_buffer(rt: HostRuntime) -> Result<(), Fail> {
+    let set = set_of(rt.alloc(), &[5, 70_000])?;
+    let mut out = [7; 28];
+    ask(&rt)?;
+    let refused = write_words_of(rt.alloc(), &set, &mut out).is_err();
+    say(&rt, refused)?;
+    ask(&rt)?;
+    if refused {
+        assert!(rt; out[0] == 7 && out[27] == 7);
+        write_words_of(rt.alloc(), &set, &mut out)?;
+    }
+    assert!(rt; is_stream(&out));
     Ok(())
 }
 
