@@ -65,6 +65,7 @@ pub extern "C" fn hibitset_roaring_read_below(
     ensures below { result ≡ OK → HasKeysBelow bytes.now (min end KEYS) }
     ensures members { result ≡ OK → (i : ℕ) → has set.new i ≡ holds bytes.now i }
     ensures length { result ≡ OK → layer0_len set.new ≤ CONTAINER_WORDS * min end KEYS }
+    ensures least { result ≡ OK → (bound : ℕ) → HasKeysBelow bytes.now bound → layer0_len set.new ≤ CONTAINER_WORDS * bound }
     ensures accepts { IsStream bytes.now → HasKeysBelow bytes.now (min end KEYS) → result ≢ MALFORMED }
     ensures fault { result ≡ MALFORMED → HasFault bytes.now (min end KEYS) fault.new at.new }
     ensures stays { result ≢ MALFORMED → (fault.new ≡ fault.old) × (at.new ≡ at.old) }
@@ -101,6 +102,7 @@ pub extern "C" fn hibitset_roaring_read(
     ensures stream { result ≡ OK → IsStream bytes.now }
     ensures below { result ≡ OK → HasKeysBelow bytes.now KEYS }
     ensures members { result ≡ OK → (i : ℕ) → has set.new i ≡ holds bytes.now i }
+    ensures least { result ≡ OK → (bound : ℕ) → HasKeysBelow bytes.now bound → layer0_len set.new ≤ CONTAINER_WORDS * bound }
     ensures accepts { IsStream bytes.now → HasKeysBelow bytes.now KEYS → result ≢ MALFORMED }
     ensures fault { result ≡ MALFORMED → HasFault bytes.now KEYS fault.new at.new }
     ensures stays { result ≢ MALFORMED → (fault.new ≡ fault.old) × (at.new ≡ at.old) }
