@@ -291,6 +291,7 @@ BYTES = {
     "streams::round_trip_of_a_set": 33_132,
     "streams::write_a_set": 92,
     "streams::write_behind_a_byte": 93,
+    "streams::write_into_a_buffer": 64,
     "worlds::begin": 232,
     "worlds::open": 1_312,
     "worlds::read": 96,
