@@ -2,14 +2,25 @@
 mod adding;
 mod meeting;
 
+ghost use Rattle.std.specs.Prelude.{Some};
+ghost use Rattle.hibitset_run.specs.Text.{lines_of};
+ghost use Rattle.hibitset_run.specs.Program.{EndsScript};
+
 use crate::script::{Ended, run_text};
 use std::alloc::{AllocError, Global};
 use std::test::Fail;
 
+// Runs a script that lies in memory: how it may end, and what comes behind the output then, is known.
+fn run_in_memory(alloc: Global, script: &str, output: &mut Vec<u8>) -> Ended
+    ensures { EndsScript (lines_of script.now) result (Some output.old.items) (Some output.new.items) }
+{
+    run_text(alloc, &mut script.as_bytes(), output)
+}
+
 // What a script prints, and how it ends.
 pub(crate) fn printed(alloc: Global, script: &str) -> (Vec<u8>, Ended) {
     let mut output = Vec::new(alloc);
-    let ended = run_text(alloc, &mut script.as_bytes(), &mut output);
+    let ended = run_in_memory(alloc, script, &mut output);
     (output, ended)
 }
 
