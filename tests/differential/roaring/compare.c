@@ -1,4 +1,4 @@
-// compare.c: compare PLAIN ANSWERS compares each answer of streams.rt with CRoaring's stream of the same set without runs, byte for byte, and reads it by CRoaring.
+// compare.c: compare PLAIN ANSWERS compares each answer of streams.rt.txt with CRoaring's stream of the same set without runs, byte for byte, and reads it by CRoaring.
 #include <roaring/roaring.h>
 #include <stdint.h>
 #include <stdio.h>

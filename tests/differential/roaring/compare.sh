@@ -16,7 +16,7 @@ for crate in hibitset_base hibitset_atomic hibitset hibitset_roaring; do
     grep "^$crate:" "$top/crates.txt" >>"$work/crates.txt"
 done
 echo "roaring_streams: hibitset_roaring hibitset hibitset_base" >>"$work/crates.txt"
-cp "$here/streams.rt" "$work/crates/roaring_streams/src/main.rt"
+cp "$here/streams.rt.txt" "$work/crates/roaring_streams/src/main.rt"
 program=$work/crates/roaring_streams/out/roaring_streams
 (cd "$work/crates/roaring_streams" && rt run </dev/null >"$work/log" 2>&1) || { tail "$work/log" >&2; exit 1; }
 

@@ -1,5 +1,5 @@
 #!/usr/bin/env python3
-"""verdict.py STREAMS ANSWERS: compares each answer of streams.rt with the oracle: the set that it reads, written without runs; or one of the faults that it finds, at its position."""
+"""verdict.py STREAMS ANSWERS: compares each answer of streams.rt.txt with the oracle: the set that it reads, written without runs; or one of the faults that it finds, at its position."""
 import struct
 import sys
 
