@@ -29,7 +29,7 @@ run() { # PART [WORD..]: one part, by the script that does it
         "mutants tests") "$top/tests/mutants/run_tests.sh" "${@:3}" ;;
         "allocation "*) "$top/tests/allocation_failures.py" ;;
         "differential "*) sh "$top/tests/differential/replay.sh" "${@:2}" ;;
-        "bindings ") "$top/tests/bindings.sh" ;;
+        "bindings "*) "$top/tests/bindings.sh" "${@:2}" ;;
         "guide "*) "$top/tests/guide.py" "${@:2}" ;;
         *) usage ;;
     esac
@@ -76,5 +76,5 @@ part 1 docs
 both
 part 4 allocation
 part 5 differential "$top/crates/hibitset_run/out/hibitset_run"
-part 6 bindings
+part 6 bindings --proved
 echo "test.sh: all passed after $((SECONDS / 60)) min"

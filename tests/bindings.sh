@@ -1,7 +1,11 @@
 #!/bin/sh
-# bindings.sh: C and Rust programs over the proved library: the tests of bindings/c under sanitizers, and those of bindings/rust. What a machine has no compiler for is left out, and said.
+# bindings.sh [--proved]: C and Rust programs over the proved library: the tests of bindings/c under sanitizers, and those of bindings/rust. What a machine has no compiler for is left out, and said.
+# --proved: `rt ci` has just proved all crates, so the library is built over them.
 set -eu
 top=$(cd "$(dirname "$0")/.." && pwd)
+if [ "${1:-}" = --proved ]; then
+    export LIB="$top/tests/library_over_proofs.sh"
+fi
 
 has() { # WHAT COMMAND..: whether all commands are there; else says what is left out
     what=$1

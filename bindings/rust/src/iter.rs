@@ -19,73 +19,60 @@ const BATCH_LEN: usize = 128;
 #[derive(Clone)]
 pub struct BitIter<T> {
     pub(crate) set: T,
-    source: Source,
+    batch: Batch,
+    rest: Rest,
 }
 
-// The batches are large so that they stay where the iterator is: it takes no memory.
-#[allow(clippy::large_enum_variant)]
+/// The members that the library wrote last. They are where the iterator is, so it takes no memory.
 #[derive(Clone)]
-enum Source {
-    Batches(Batches),
-    Words(Cursor),
-}
-
-/// Members that the library has written, and where the next call of it begins.
-#[derive(Clone)]
-struct Batches {
+struct Batch {
+    // They end where the array ends, so that `position` alone says whether one is left.
     members: [Index; BATCH_LEN],
     position: usize,
-    len: usize,
-    next_start: Index,
-    // 0 if no member is left after this batch.
-    next_len: usize,
 }
 
-impl Batches {
-    fn from_index(start: Index) -> Batches {
-        Batches {
+impl Batch {
+    fn empty() -> Batch {
+        Batch {
             members: [0; BATCH_LEN],
-            position: 0,
-            len: 0,
-            next_start: start,
-            next_len: FIRST_BATCH_LEN,
+            position: BATCH_LEN,
         }
     }
 
-    /// What is left of the batch.
     #[inline]
-    fn left(&self) -> &[Index] {
-        &self.members[self.position..self.len]
-    }
-
-    /// Asks the library for the next batch. Returns whether it has members.
-    #[inline(never)]
-    fn refill(&mut self, form: Form<'_>) -> bool {
-        let room = &mut self.members[..self.next_len];
-        self.position = 0;
-        self.len = form.next_many(self.next_start, room).unwrap_or(0);
-        let Some(last) = room[..self.len].last() else {
-            self.next_len = 0;
-            return false;
-        };
-        self.next_start = last + 1;
-        self.next_len = if self.len < room.len() {
-            0
-        } else {
-            (4 * room.len()).min(BATCH_LEN)
-        };
-        true
-    }
-
-    #[inline]
-    fn next<T: BitSetLike>(&mut self, set: &T) -> Option<Index> {
-        if self.position == self.len && !(self.next_len > 0 && self.refill(set.form())) {
-            return None;
-        }
-        let index = self.members[self.position];
+    fn next(&mut self) -> Option<Index> {
+        let index = *self.members.get(self.position)?;
         self.position += 1;
         Some(index)
     }
+
+    /// What is left of the batch.
+    fn left(&self) -> &[Index] {
+        &self.members[self.position..]
+    }
+
+    /// Has the library write up to `len` members from `start` on. Returns how many there are.
+    fn refill(&mut self, form: Form<'_>, start: Index, len: usize) -> usize {
+        let first = BATCH_LEN - len;
+        let count = form
+            .next_many(start, &mut self.members[first..])
+            .unwrap_or(0);
+        self.position = BATCH_LEN - count;
+        self.members
+            .copy_within(first..first + count, self.position);
+        count
+    }
+}
+
+/// What comes after the batch.
+#[derive(Clone)]
+enum Rest {
+    /// Up to `len` members from `start` on; none if it is 0.
+    Batches {
+        start: Index,
+        len: usize,
+    },
+    Words(Cursor),
 }
 
 impl<T> BitIter<T> {
@@ -104,7 +91,8 @@ impl<T> BitIter<T> {
     pub fn new(set: T, masks: [usize; LAYERS], prefix: [u32; LAYERS - 1]) -> BitIter<T> {
         BitIter {
             set,
-            source: Source::Words(Cursor { masks, prefix }),
+            batch: Batch::empty(),
+            rest: Rest::Words(Cursor { masks, prefix }),
         }
     }
 }
@@ -115,11 +103,50 @@ impl<T: BitSetLike> BitIter<T> {
     }
 
     pub(crate) fn from_index(set: T, start: Index) -> BitIter<T> {
-        let source = match set.form() {
-            Form::Words => Source::Words(Cursor::from_index(&set, start)),
-            _ => Source::Batches(Batches::from_index(start)),
+        let rest = match set.form() {
+            Form::Words => Rest::Words(Cursor::from_index(&set, start)),
+            _ => Rest::Batches {
+                start,
+                len: FIRST_BATCH_LEN,
+            },
         };
-        BitIter { set, source }
+        BitIter {
+            set,
+            batch: Batch::empty(),
+            rest,
+        }
+    }
+
+    /// Asks the library for the next batch. Returns whether it has members.
+    fn refill(&mut self) -> bool {
+        let Rest::Batches { start, len } = self.rest else {
+            return false;
+        };
+        let count = match len {
+            0 => 0,
+            _ => self.batch.refill(self.set.form(), start, len),
+        };
+        self.rest = Rest::Batches {
+            start: self.batch.members[BATCH_LEN - 1].wrapping_add(1),
+            len: if count < len {
+                0
+            } else {
+                (4 * len).min(BATCH_LEN)
+            },
+        };
+        count > 0
+    }
+
+    /// The next member where no batch has one.
+    #[inline(never)]
+    fn next_of_rest(&mut self) -> Option<Index> {
+        match &mut self.rest {
+            Rest::Words(cursor) => cursor.next(&self.set),
+            Rest::Batches { .. } => match self.refill() {
+                true => self.batch.next(),
+                false => None,
+            },
+        }
     }
 
     /// Returns whether an index is in the set that the iterator is over, whether it was given or not.
@@ -133,31 +160,29 @@ impl<T: BitSetLike> Iterator for BitIter<T> {
 
     #[inline]
     fn next(&mut self) -> Option<Index> {
-        match &mut self.source {
-            Source::Batches(batches) => batches.next(&self.set),
-            Source::Words(cursor) => cursor.next(&self.set),
+        match self.batch.next() {
+            Some(index) => Some(index),
+            None => self.next_of_rest(),
         }
     }
 
-    fn fold<A, F: FnMut(A, Index) -> A>(self, init: A, mut f: F) -> A {
+    fn fold<A, F: FnMut(A, Index) -> A>(mut self, init: A, mut f: F) -> A {
         let mut folded = init;
-        match self.source {
-            Source::Batches(mut batches) => loop {
-                folded = batches.left().iter().copied().fold(folded, &mut f);
-                if batches.next_len == 0 || !batches.refill(self.set.form()) {
-                    return folded;
-                }
-            },
-            Source::Words(mut cursor) => {
-                while let Some((first, mut word)) = cursor.next_word(&self.set) {
-                    while word != 0 {
-                        folded = f(folded, first | word.trailing_zeros());
-                        word &= word - 1;
-                    }
-                }
-                folded
+        while let Rest::Batches { .. } = self.rest {
+            folded = self.batch.left().iter().copied().fold(folded, &mut f);
+            if !self.refill() {
+                return folded;
             }
         }
+        if let Rest::Words(mut cursor) = self.rest {
+            while let Some((first, mut word)) = cursor.next_word(&self.set) {
+                while word != 0 {
+                    folded = f(folded, first | word.trailing_zeros());
+                    word &= word - 1;
+                }
+            }
+        }
+        folded
     }
 }
 
