@@ -10,7 +10,7 @@ use crate::{Index, LAYERS};
 
 // How many members the first batch of an iteration has, and how many a later one has at most.
 const FIRST_BATCH_LEN: usize = 8;
-const BATCH_LEN: usize = 128;
+const BATCH_LEN: usize = 256;
 
 /// An iterator over the members of a set, ascending. [`BitSetLike::iter`] makes it.
 ///
@@ -23,7 +23,7 @@ pub struct BitIter<T> {
     rest: Rest,
 }
 
-/// The members that the library wrote last. They are where the iterator is, so it takes no memory.
+/// The members that were found last. They are where the iterator is, so it takes no memory.
 #[derive(Clone)]
 struct Batch {
     // They end where the array ends, so that `position` alone says whether one is left.
@@ -37,13 +37,6 @@ impl Batch {
             members: [0; BATCH_LEN],
             position: BATCH_LEN,
         }
-    }
-
-    #[inline]
-    fn next(&mut self) -> Option<Index> {
-        let index = *self.members.get(self.position)?;
-        self.position += 1;
-        Some(index)
     }
 
     /// What is left of the batch.
@@ -61,6 +54,15 @@ impl Batch {
         self.members
             .copy_within(first..first + count, self.position);
         count
+    }
+
+    /// Takes the members of a word whose bit 0 is that of `first`.
+    fn refill_from_word(&mut self, first: Index, mut word: usize) {
+        self.position = BATCH_LEN - word.count_ones() as usize;
+        for member in &mut self.members[self.position..] {
+            *member = first | word.trailing_zeros();
+            word &= word - 1;
+        }
     }
 }
 
@@ -117,35 +119,24 @@ impl<T: BitSetLike> BitIter<T> {
         }
     }
 
-    /// Asks the library for the next batch. Returns whether it has members.
-    fn refill(&mut self) -> bool {
-        let Rest::Batches { start, len } = self.rest else {
-            return false;
-        };
-        let count = match len {
-            0 => 0,
-            _ => self.batch.refill(self.set.form(), start, len),
-        };
-        self.rest = Rest::Batches {
-            start: self.batch.members[BATCH_LEN - 1].wrapping_add(1),
-            len: if count < len {
-                0
-            } else {
-                (4 * len).min(BATCH_LEN)
-            },
-        };
-        count > 0
-    }
-
-    /// The next member where no batch has one.
+    /// Finds the next batch, which is empty if no member is left.
     #[inline(never)]
-    fn next_of_rest(&mut self) -> Option<Index> {
+    fn refill(&mut self) {
         match &mut self.rest {
-            Rest::Words(cursor) => cursor.next(&self.set),
-            Rest::Batches { .. } => match self.refill() {
-                true => self.batch.next(),
-                false => None,
-            },
+            Rest::Batches { len: 0, .. } => {}
+            Rest::Batches { start, len } => {
+                let count = self.batch.refill(self.set.form(), *start, *len);
+                *start = self.batch.members[BATCH_LEN - 1].wrapping_add(1);
+                *len = match count < *len {
+                    true => 0,
+                    false => (4 * *len).min(BATCH_LEN),
+                };
+            }
+            Rest::Words(cursor) => {
+                if let Some((first, word)) = cursor.next_word(&self.set) {
+                    self.batch.refill_from_word(first, word);
+                }
+            }
         }
     }
 
@@ -160,29 +151,24 @@ impl<T: BitSetLike> Iterator for BitIter<T> {
 
     #[inline]
     fn next(&mut self) -> Option<Index> {
-        match self.batch.next() {
-            Some(index) => Some(index),
-            None => self.next_of_rest(),
+        if self.batch.position >= BATCH_LEN {
+            self.refill();
         }
+        let index = *self.batch.members.get(self.batch.position)?;
+        self.batch.position += 1;
+        Some(index)
     }
 
     fn fold<A, F: FnMut(A, Index) -> A>(mut self, init: A, mut f: F) -> A {
         let mut folded = init;
-        while let Rest::Batches { .. } = self.rest {
+        loop {
             folded = self.batch.left().iter().copied().fold(folded, &mut f);
-            if !self.refill() {
+            self.batch.position = BATCH_LEN;
+            self.refill();
+            if self.batch.left().is_empty() {
                 return folded;
             }
         }
-        if let Rest::Words(mut cursor) = self.rest {
-            while let Some((first, mut word)) = cursor.next_word(&self.set) {
-                while word != 0 {
-                    folded = f(folded, first | word.trailing_zeros());
-                    word &= word - 1;
-                }
-            }
-        }
-        folded
     }
 }
 

@@ -47,6 +47,23 @@ fn add_beyond(alloc: Global, set: &mut Set, index: u32) -> u32
     }
 }
 
+// Adds an index whose word layer 0 has.
+#[inline(never)]
+fn add_within(set: &mut Set, index: u32) -> u32
+    requires { index / 64 < set.old.words.len0 }
+    ensures was_member { result ≡ PRESENT → has set.old index ≡ true }
+    ensures was_clear { result ≡ OK → has set.old index ≡ false }
+    ensures added { (i : ℕ) → has set.new i ≡ (has set.old i || i == index) }
+    ensures length { layer0_len set.new ≡ layer0_len set.old }
+    ensures range { index < MAX_EID }
+    ensures status { result ≤ PRESENT }
+{
+    let bits = set.handle.as_mut();
+    let was_member = bits.add(index).unwrap();
+    set.words.follow_top(bits);
+    if was_member { PRESENT } else { OK }
+}
+
 /// Adds an index. Returns whether it was a member, or why it is none now.
 #[unsafe(no_mangle)]
 pub extern "C" fn hibitset_add(alloc: Global, set: &mut Set, index: u32) -> u32
@@ -63,14 +80,14 @@ pub extern "C" fn hibitset_add(alloc: Global, set: &mut Set, index: u32) -> u32
     ensures len_max { layer0_len set.new ≤ max (layer0_len set.old) (index / 64 + 1) }
     ensures err_len { PRESENT < result → layer0_len set.new ≡ layer0_len set.old }
 {
-    // What allocates is apart, so that most additions save no registers for it.
+    // What changes the set is apart, so that an index that is there is only looked up, and saves no registers.
     if !set.words.has_word_of(index) {
         return add_beyond(alloc, set, index);
     }
-    let bits = set.handle.as_mut();
-    let was_member = bits.add(index).unwrap();
-    set.words.follow_top(bits);
-    if was_member { PRESENT } else { OK }
+    if set.handle.as_mut().contains(index) {
+        return PRESENT;
+    }
+    add_within(set, index)
 }
 
 /// Removes an index. Returns whether it was a member.

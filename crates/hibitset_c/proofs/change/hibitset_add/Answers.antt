@@ -2,17 +2,8 @@ use Rattle.std.proofs.Common.{refl, arith}
 use Rattle.hibitset_c.proofs.Lengths.{there}
 use Rattle.hibitset_c.proofs.change.hibitset_add.Goals as goal
 
-pub add-requires : goal.add-requires
-add-requires c = let set = c.args.set.now in (there set.words set.handle.set c.args.index set.shows (c.if-not-has_word_of.ensures.yes refl)).1
-
-pub returns-then-was_member-clause-range : goal.returns-then-was_member-clause-range
-returns-then-was_member-clause-range c = (
-  λ out. absurd (omega (arith, out)),
-  λ out. absurd (let set = c.args.set.now in let within = (there set.words set.handle.set c.args.index set.shows (c.if-not-has_word_of.ensures.yes refl)).1 in omega (arith, out, within)),
-)
-
-pub returns-else-was_member-clause-range : goal.returns-else-was_member-clause-range
-returns-else-was_member-clause-range c = (
+pub returns-then-contains-clause-range : goal.returns-then-contains-clause-range
+returns-then-contains-clause-range c = (
   λ out. absurd (omega (arith, out)),
   λ out. absurd (let set = c.args.set.now in let within = (there set.words set.handle.set c.args.index set.shows (c.if-not-has_word_of.ensures.yes refl)).1 in omega (arith, out, within)),
 )
