@@ -15,7 +15,7 @@ const BATCH_LEN: usize = 256;
 /// An iterator over the members of a set, ascending. [`BitSetLike::iter`] makes it.
 ///
 /// Over a [`BitSet`](crate::BitSet), or two of them under one operator, the library's proved code finds the members, up
-/// to 128 in a call. Over other sets this crate's Rust walks the words.
+/// to 256 in a call. Over other sets this crate's Rust walks the words.
 #[derive(Clone)]
 pub struct BitIter<T> {
     pub(crate) set: T,
