@@ -8,6 +8,7 @@ mod header;
 mod heads;
 pub mod laws;
 mod layout;
+mod like;
 mod number;
 mod reader;
 mod slots;
@@ -16,5 +17,6 @@ mod writer;
 
 pub use error::{Fault, Malformed, ReadError};
 pub use header::KEYS;
+pub use like::write_like;
 pub use reader::{read, read_below};
 pub use writer::{len_of_words, serialized_len, write, write_to, write_words};

@@ -2,7 +2,7 @@
 use crate::tests::{ask, assert_has, say, set_of};
 use hibitset::BitSet;
 use hibitset_roaring::laws::round_trip;
-use hibitset_roaring::{read, read_below, write, write_to, write_words};
+use hibitset_roaring::{read, read_below, write, write_like, write_to, write_words};
 use std::alloc::{AllocError, Global};
 use std::test::Fail;
 
@@ -56,6 +56,24 @@ fn write_a_set(rt: HostRuntime) -> Result<(), Fail> {
     let stream = match made {
         Ok(stream) => stream,
         Err(AllocError) => write(rt.alloc(), &set)?,
+    };
+    assert!(rt; is_stream(&stream));
+    Ok(())
+}
+
+// The words of what two sets have in common, in four layers, and then as a `BitSet` is written.
+#[test]
+fn write_a_virtual_set(rt: HostRuntime) -> Result<(), Fail> {
+    let first = set_of(rt.alloc(), &[5, 6, 70_000])?;
+    let second = set_of(rt.alloc(), &[5, 70_000, 70_001])?;
+    let both = &first & &second;
+    ask(&rt)?;
+    let made = write_like(rt.alloc(), &both);
+    say(&rt, made.is_err())?;
+    ask(&rt)?;
+    let stream = match made {
+        Ok(stream) => stream,
+        Err(AllocError) => write_like(rt.alloc(), &both)?,
     };
     assert!(rt; is_stream(&stream));
     Ok(())
