@@ -81,8 +81,10 @@ CALLS = {
     "hibitset_roaring": {
         "read": "streams::read_a_stream",
         "read_below": "streams::read_with_a_bound",
+        "read_from": "streams::read_from_a_reader",
         "round_trip": "streams::round_trip_of_a_set",
         "write": "streams::write_a_set",
+        "write_into": "streams::write_into_a_writer",
         "write_like": "streams::write_a_virtual_set",
         "write_to": "streams::write_behind_a_byte",
         "write_words": "streams::write_into_a_buffer",

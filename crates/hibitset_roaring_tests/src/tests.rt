@@ -1,11 +1,12 @@
 //! What is read and written: values from outside, and each public call at least once.
 mod callers;
+mod transfers;
 mod vectors;
 
 use hibitset::{BitSet, BitSetLike, Index, MAX_EID};
 use hibitset_roaring::{
-    Fault, KEYS, Malformed, ReadError, read, read_below, serialized_len, write, write_like,
-    write_to,
+    Fault, KEYS, Malformed, ReadError, ReadFromError, read, read_below, read_from, serialized_len,
+    write, write_into, write_like, write_to,
 };
 use std::alloc::{AllocError, Global};
 use std::test::Fail;
