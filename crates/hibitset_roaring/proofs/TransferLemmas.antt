@@ -1,5 +1,5 @@
 -- Bytes that a reader gave and that a writer took, where they are known.
-use Rattle.std.proofs.Common.{◌≡◌, ℕ, ◌-◌, ◌<◌, ◌++◌, List, [], None, Some, length, take, drop, refl, sym, ap, ◌∙◌, append-nil, append_assoc, arith}
+use Rattle.std.proofs.Common.{◌≡◌, ℕ, ◌+◌, ◌-◌, ◌<◌, ◌≤◌, ◌++◌, List, [], None, Some, length, take, drop, refl, sym, ap, ◌∙◌, append-nil, append_assoc, arith}
 use Rattle.std.specs.Prelude.{IfSome}
 use Rattle.std.specs.declared.option.Option.{Option}
 use Rattle.std.specs.Io.KnownBytes.{Appends, Keeps, Consumes, IsAtEnd}
@@ -18,8 +18,11 @@ consumes_more (Some a) None c x y h k = absurd h
 consumes_more (Some a) (Some b) None x y h k = absurd k
 consumes_more (Some a) (Some b) (Some c) x y h k = h ∙ ap (λ z. x ++ z) k ∙ sym (append_assoc x y c)
 
-pub gives_more : (a b c : Option (List ℕ)) (x : List ℕ) → Consumes a b x → GivesFront b c → GivesFront a c
-gives_more a b c x h more = (x ++ more.0, consumes_more a b c x more.0 h more.1)
+pub gives_more : (a b c : Option (List ℕ)) (x : List ℕ) (most next : ℕ) → Consumes a b x → length x ≤ most → GivesFront next b c → GivesFront (most + next) a c
+gives_more a b c x most next h few more =
+    let n = length-append x more.0 in
+    let m = more.2 in
+    (x ++ more.0, consumes_more a b c x more.0 h more.1, omega (arith, n, m, few))
 
 -- what was read behind the bytes so far
 pub reads_on : (a b c : Option (List ℕ)) (old new : List ℕ) → Consumes a b old → ((bytes : List ℕ) × (new ≡ old ++ bytes) × Consumes b c bytes) → Consumes a c new

@@ -1,5 +1,5 @@
 -- What is read from a reader and written to a writer, where its bytes are known.
-use Rattle.std.specs.Prelude.{◌≡◌, ℕ, ◌+◌, ◌*◌, ◌<◌, ⊤, List, ◌++◌, length, IfSome}
+use Rattle.std.specs.Prelude.{◌≡◌, ℕ, ◌+◌, ◌*◌, ◌<◌, ◌≤◌, ⊤, List, ◌++◌, length, IfSome}
 use Rattle.std.specs.declared.option.Option.{Option}
 use Rattle.std.specs.Io.KnownBytes.{Appends, Consumes}
 use Rattle.hibitset_roaring.specs.Faults.{IsFault}
@@ -10,9 +10,9 @@ use Rattle.hibitset_roaring.specs.declared.error.ReadFromError.TheVariants as fr
 
 -- ---- from a reader
 
--- The reader gave a front of the bytes that it had.
-abbrev pub GivesFront : Option (List ℕ) → Option (List ℕ) → Type 0
-GivesFront old new = (front : List ℕ) × Consumes old new front
+-- The reader gave a front of the bytes that it had, of at most so many.
+abbrev pub GivesFront : ℕ → Option (List ℕ) → Option (List ℕ) → Type 0
+GivesFront most old new = (front : List ℕ) × Consumes old new front × (length front ≤ most)
 
 -- No stream with keys below a bound is longer: a container has at most 32768 runs, which take 131074 bytes, and 9 bytes of the header.
 abbrev pub longest_below : ℕ → ℕ

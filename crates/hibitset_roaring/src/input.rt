@@ -1,12 +1,13 @@
 //! A set made of what a reader gives.
 
-ghost use Rattle.std.specs.Prelude.{◌≡◌, ℕ, ◌*◌, ◌≤◌, ◌++◌, List, IfSome, IfOk, IfErr, IsTrue, OnOk};
+ghost use Rattle.std.specs.Prelude.{◌≡◌, ℕ, ◌+◌, ◌*◌, ◌≤◌, ◌++◌, List, IfSome, IfOk, IfErr, IsTrue, OnOk};
 ghost use Rattle.std.specs.Io.KnownBytes.{Consumes, IsAtEnd};
 ghost use Rattle.hibitset.specs.BitSet.{has, slice_len};
 ghost use Rattle.hibitset_roaring.specs.Format.{holds, IsStream, HasKeysBelow};
 ghost use Rattle.hibitset_roaring.specs.Transfers.{GivesFront, longest_below, IsOutside, IsFromReason, IsInputReason};
 ghost use Rattle.hibitset_roaring.specs.declared.header.TheConstants.{KEYS};
 ghost use Rattle.hibitset_roaring.specs.declared.layout.TheConstants.{CONTAINER_WORDS};
+ghost use Rattle.hibitset_roaring.specs.declared.input.TheConstants.{CHUNK};
 
 use crate::error::ReadFromError;
 use crate::header::KEYS;
@@ -22,11 +23,14 @@ const LONGEST_CONTAINER: usize = 131_074 + 9;
 // The header's other bytes.
 const LONGEST_START: usize = 8;
 
+// The most bytes of one read.
+const CHUNK: usize = 8192;
+
 /// The set whose members a stream has, as `read_below` reads it: the stream is all bytes that the reader gives up to its first end.
 ///
-/// A reader is not read on, and the error is `TooLong`, once it gave more bytes than a stream of keys below `end` can have: 131,083 for each, and 8. So a reader without an end takes no more memory than that, rounded up as a `Vec` grows, and the set what `read_below` says. Give a stranger's bytes a small `end`.
+/// The reader is asked for at most 8,192 bytes at once. It is not read on, and the error is `TooLong`, once it gave more than a stream of keys below `end` can have: 131,083 for each, and 8. So a reader without an end takes no more memory than that, as much as a `Vec` of so many bytes, and the set what `read_below` says. Give a stranger's bytes a small `end`.
 ///
-/// A read that a signal interrupts is made again. Any other error of the reader is handed on as `Io`. After an error the reader has given a front of its bytes.
+/// A read that a signal interrupts is made again. Any other error of the reader is handed on as `Io`. After an error the reader has given a front of its bytes, which are lost.
 pub fn read_from<R: Read>(
     alloc: Global,
     reader: &mut R,
@@ -40,7 +44,7 @@ pub fn read_from<R: Read>(
     ensures end { OnOk result (IsAtEnd (R.remaining reader.new)) }
     ensures reason { IfErr result (λ error. IfSome (R.remaining reader.old) (λ bytes. IsFromReason bytes end error)) }
     ensures accepts { IfErr result (λ error. IfSome (R.remaining reader.old) (λ bytes. IsStream bytes → HasKeysBelow bytes end → IsOutside error)) }
-    ensures front { GivesFront (R.remaining reader.old) (R.remaining reader.new) }
+    ensures front { GivesFront (longest_below end + CHUNK) (R.remaining reader.old) (R.remaining reader.new) }
 {
     let bytes = read_all(alloc, reader, LONGEST_START + LONGEST_CONTAINER * end)?;
     Ok(read_below(alloc, &bytes, end)?)
@@ -51,7 +55,7 @@ fn read_all<R: Read>(alloc: Global, reader: &mut R, most: usize) -> Result<Vec<u
     ensures bytes { IfOk result (λ input. IfSome (R.remaining reader.old) (λ bytes. input.items ≡ bytes)) }
     ensures end { OnOk result (IsAtEnd (R.remaining reader.new)) }
     ensures reason { IfErr result (IsInputReason (R.remaining reader.old) most) }
-    ensures front { GivesFront (R.remaining reader.old) (R.remaining reader.new) }
+    ensures front { GivesFront (most + CHUNK) (R.remaining reader.old) (R.remaining reader.new) }
 {
     let mut input = Vec::new(alloc);
     'rounds: for _round in 0..u64::MAX {
@@ -71,9 +75,9 @@ fn read_some<R: Read>(reader: &mut R, input: &mut Vec<u8>) -> Result<bool, ReadF
     ensures bytes { OnOk result ((bytes : List ℕ) × (input.new.items ≡ input.old.items ++ bytes) × Consumes (R.remaining reader.old) (R.remaining reader.new) bytes) }
     ensures end { IfOk result (λ ended. IsTrue ended → IsAtEnd (R.remaining reader.new)) }
     ensures reason { IfErr result IsOutside }
-    ensures front { GivesFront (R.remaining reader.old) (R.remaining reader.new) }
+    ensures front { GivesFront CHUNK (R.remaining reader.old) (R.remaining reader.new) }
 {
-    let mut chunk = [0; 8192];
+    let mut chunk = [0; CHUNK];
     match reader.read(&mut chunk) {
         Ok(0) => Ok(true),
         Ok(count) => match input.extend_from_slice(&chunk[..count]) {
