@@ -15,3 +15,5 @@ pub mod HeadsLemmas
 pub mod BitLemmas
 pub mod StreamLemmas
 pub mod AppendLemmas
+pub mod TransferLemmas
+pub mod LengthLemmas

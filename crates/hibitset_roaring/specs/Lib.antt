@@ -4,3 +4,4 @@ pub mod Faults
 pub mod Headers
 pub mod Words
 pub mod Streams
+pub mod Transfers

@@ -1,11 +1,13 @@
 //! Why bytes are no stream, or no set is made of them.
 
 ghost use Rattle.std.specs.Prelude.{◌≡◌};
+ghost use Rattle.hibitset_roaring.specs.Transfers.{from_read};
 ghost use Rattle.hibitset_roaring.specs.declared.error.ReadError.TheVariants as errors;
+ghost use Rattle.hibitset_roaring.specs.declared.error.ReadFromError.TheVariants as from;
 
 use std::alloc::AllocError;
 use std::error::Error;
-use std::fmt;
+use std::{fmt, io};
 
 /// What is wrong with a stream.
 #[derive(Clone, Copy, Debug, PartialEq, Eq)]
@@ -50,6 +52,19 @@ pub enum ReadError {
     Malformed(Malformed),
 }
 
+/// Why no set is read from a reader.
+#[derive(Clone, Copy, Debug)]
+pub enum ReadFromError {
+    /// The reader failed, with this error.
+    Io(io::Error),
+    /// An allocation failed.
+    Memory,
+    /// The reader gave more bytes than any stream of members in range has.
+    TooLong,
+    /// The reader's bytes are no stream of members in range.
+    Malformed(Malformed),
+}
+
 impl From<AllocError> for ReadError {
     ghost from_gives = { λ _ e. e ≡ errors.Memory };
 
@@ -63,6 +78,33 @@ impl From<Malformed> for ReadError {
 
     fn from(malformed: Malformed) -> ReadError {
         ReadError::Malformed(malformed)
+    }
+}
+
+impl From<AllocError> for ReadFromError {
+    ghost from_gives = { λ _ e. e ≡ from.Memory };
+
+    fn from(_e: AllocError) -> ReadFromError {
+        ReadFromError::Memory
+    }
+}
+
+impl From<io::Error> for ReadFromError {
+    ghost from_gives = { λ error e. e ≡ from.Io error };
+
+    fn from(error: io::Error) -> ReadFromError {
+        ReadFromError::Io(error)
+    }
+}
+
+impl From<ReadError> for ReadFromError {
+    ghost from_gives = { λ error e. e ≡ from_read error };
+
+    fn from(error: ReadError) -> ReadFromError {
+        match error {
+            ReadError::Memory => ReadFromError::Memory,
+            ReadError::Malformed(malformed) => ReadFromError::Malformed(malformed),
+        }
     }
 }
 
@@ -93,4 +135,17 @@ impl fmt::Display for ReadError {
     }
 }
 
+impl fmt::Display for ReadFromError {
+    fn fmt<W: fmt::Write>(&self, f: &mut fmt::Formatter<W>) -> fmt::Result {
+        match self {
+            ReadFromError::Io(error) => write!(f, "the reader failed: {error}"),
+            ReadFromError::Memory => write!(f, "an allocation failed"),
+            ReadFromError::TooLong => write!(f, "the reader gives too many bytes"),
+            ReadFromError::Malformed(m) => write!(f, "{} at byte {}", m.fault, m.at),
+        }
+    }
+}
+
 impl Error for ReadError {}
+
+impl Error for ReadFromError {}

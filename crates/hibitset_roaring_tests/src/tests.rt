@@ -1,10 +1,12 @@
 //! What is read and written: values from outside, and each public call at least once.
 mod callers;
+mod transfers;
 mod vectors;
 
 use hibitset::{BitSet, BitSetLike, Index, MAX_EID};
 use hibitset_roaring::{
-    Fault, KEYS, Malformed, ReadError, read, read_below, serialized_len, write, write_to,
+    Fault, KEYS, Malformed, ReadError, ReadFromError, read, read_below, read_from, serialized_len,
+    write, write_into, write_like, write_to,
 };
 use std::alloc::{AllocError, Global};
 use std::test::Fail;
@@ -97,6 +99,26 @@ fn a_stream_is_put_behind_other_bytes(rt: HostRuntime) -> Result<(), Fail> {
     write_to(alloc, &BitSet::new(alloc), &mut out)?;
     let empty = [58, 48, 0, 0, 0, 0, 0, 0];
     assert!(rt; out.len() == 39 && &out[31..] == empty.as_slice());
+    Ok(())
+}
+
+// What two sets have in common, and all that one lacks, are no `BitSet`s.
+#[test]
+fn a_virtual_set_is_written(rt: HostRuntime) -> Result<(), Fail> {
+    let alloc = rt.alloc();
+    let both = set_of(alloc, &[(65_535, 70_000)])?;
+    let first = set_of(alloc, &[(5, 65_536), (80_000, 80_000)])?;
+    let stream = write_like(alloc, &(&both & &first))?;
+    let two = [
+        58, 48, 0, 0, 2, 0, 0, 0, 0, 0, 0, 0, 1, 0, 0, 0, 24, 0, 0, 0, 26, 0, 0, 0, 255, 255, 0, 0,
+    ];
+    assert!(rt; stream.as_slice() == two.as_slice());
+    let outside = set_of(alloc, &[(0, 65_535), (131_072, 1_073_741_823)])?;
+    let stream = write_like(alloc, &!&outside)?;
+    let mut all = one_container(alloc, 0)?;
+    all[8] = 1;
+    all.resize(16 + 8_192, 0xff)?;
+    assert!(rt; stream.as_slice() == all.as_slice());
     Ok(())
 }
 

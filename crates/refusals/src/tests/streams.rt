@@ -2,7 +2,9 @@
 use crate::tests::{ask, assert_has, say, set_of};
 use hibitset::BitSet;
 use hibitset_roaring::laws::round_trip;
-use hibitset_roaring::{read, read_below, write, write_to, write_words};
+use hibitset_roaring::{
+    read, read_below, read_from, write, write_into, write_like, write_to, write_words,
+};
 use std::alloc::{AllocError, Global};
 use std::test::Fail;
 
@@ -40,6 +42,21 @@ fn read_with_a_bound(rt: HostRuntime) -> Result<(), Fail> {
     Ok(())
 }
 
+// The bytes, the words, and the set of them.
+#[test]
+fn read_from_a_reader(rt: HostRuntime) -> Result<(), Fail> {
+    ask(&rt)?;
+    let made = read_from(rt.alloc(), &mut STREAM.as_slice(), 2);
+    say(&rt, made.is_err())?;
+    ask(&rt)?;
+    let set = match made {
+        Ok(set) => set,
+        Err(_) => read_from(rt.alloc(), &mut STREAM.as_slice(), 2)?,
+    };
+    assert_has(&rt, &set, &[5, 70_000]);
+    Ok(())
+}
+
 // Tells whether bytes are the stream.
 fn is_stream(bytes: &[u8]) -> bool {
     bytes == STREAM.as_slice()
@@ -61,6 +78,24 @@ fn write_a_set(rt: HostRuntime) -> Result<(), Fail> {
     Ok(())
 }
 
+// The words of what two sets have in common, in four layers, and then as a `BitSet` is written.
+#[test]
+fn write_a_virtual_set(rt: HostRuntime) -> Result<(), Fail> {
+    let first = set_of(rt.alloc(), &[5, 6, 70_000])?;
+    let second = set_of(rt.alloc(), &[5, 70_000, 70_001])?;
+    let both = &first & &second;
+    ask(&rt)?;
+    let made = write_like(rt.alloc(), &both);
+    say(&rt, made.is_err())?;
+    ask(&rt)?;
+    let stream = match made {
+        Ok(stream) => stream,
+        Err(AllocError) => write_like(rt.alloc(), &both)?,
+    };
+    assert!(rt; is_stream(&stream));
+    Ok(())
+}
+
 // The same behind a byte, which is all that is there where one failed.
 #[test]
 fn write_behind_a_byte(rt: HostRuntime) -> Result<(), Fail> {
@@ -76,6 +111,23 @@ fn write_behind_a_byte(rt: HostRuntime) -> Result<(), Fail> {
     }
     assert!(rt; out.len() == 29 && out[0] == 7);
     assert!(rt; is_stream(&out[1..]));
+    Ok(())
+}
+
+// As a set is written. Nothing is written where one failed.
+#[test]
+fn write_into_a_writer(rt: HostRuntime) -> Result<(), Fail> {
+    let set = set_of(rt.alloc(), &[5, 70_000])?;
+    let mut out = [7; 28];
+    ask(&rt)?;
+    let refused = write_into(rt.alloc(), &set, &mut out.as_mut_slice()).is_err();
+    say(&rt, refused)?;
+    ask(&rt)?;
+    if refused {
+        assert!(rt; out[0] == 7 && out[27] == 7);
+        write_into(rt.alloc(), &set, &mut out.as_mut_slice())?;
+    }
+    assert!(rt; is_stream(&out));
     Ok(())
 }
 
