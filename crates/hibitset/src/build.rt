@@ -109,6 +109,18 @@ impl BitSet {
         Ok(BitSet { layers })
     }
 
+    /// The set whose words of layer 0 are those of a vector, as `from_words` makes it of a slice. It keeps the vector, and puts the words over them behind them: so it makes one request for memory at most, and none if the vector has room for `len / 63 + 3` words more. The error is want of memory, and the vector is gone then. The original has no such call.
+    pub fn from_vec(words: Vec<usize>) -> Result<BitSet, AllocError>
+        requires { length words.items ≤ 64 ^ (LAYERS - 1) }
+        ensures members { IfOk result (λ set. (i : ℕ) → has set i ≡ stands_in words.items i) }
+        ensures words { IfOk result (λ set. (p : ℕ) → word_of set 0 p ≡ slice_index_or words.items p 0) }
+        ensures length { IfOk result (λ set. slice_len set 0 ≡ length words.items) }
+        ensures above { IfOk result (λ set. (l end : ℕ) → l < LAYERS - 1 → length words.items ≤ 64 ^ l * end → slice_len set l ≤ end) }
+    {
+        let layers = Layers::of_vec(words)?;
+        Ok(BitSet { layers })
+    }
+
     /// The set whose layers have these words, and whose top layer has the word `top`: a copy of a set of which the slices are at hand. It makes one request for memory, for these words; the error is want of it. The original has no such call.
     ///
     /// Layer 0 has at most as many words as it may have, each layer above it as many as the words below need, and the summaries are exact.

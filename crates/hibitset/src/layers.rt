@@ -238,6 +238,18 @@ impl Layers {
         Ok(layers)
     }
 
+    /// The words of a vector in layer 0 with exact summaries over them, which are put behind them. It makes one request for memory at most, and none if the vector has room for the summaries.
+    pub(crate) fn of_vec(words: Vec<usize>) -> Result<Layers, AllocError>
+        requires { length words.items ≤ 64 ^ (LAYERS - 1) }
+        ensures words { IfOk result (λ layers. (p : ℕ) → word_in layers 0 p ≡ get_or words.items p 0) }
+        ensures summed { IfOk result (λ layers. IsSummed LAYERS (word_in layers)) }
+        ensures length { IfOk result (λ layers. len_in layers 0 ≡ length words.items) }
+    {
+        let mut layers = Layers::before_zeros(words)?;
+        layers.sum_layers();
+        Ok(layers)
+    }
+
     /// The words of these layers with a word of the top layer, and no more room than they need. It makes one request for memory.
     pub(crate) fn of_layers(
         alloc: Global,
@@ -260,20 +272,32 @@ impl Layers {
         Ok(layers)
     }
 
-    // These words in layer 0, and words that are 0 over them.
+    // A copy of these words in layer 0, and words that are 0 over them.
     fn under_zeros(alloc: Global, words: &[usize]) -> Result<Layers, AllocError>
         requires { length words.now ≤ 64 ^ (LAYERS - 1) }
         ensures words { IfOk result (λ layers. (p : ℕ) → word_in layers 0 p ≡ get_or words.now p 0) }
         ensures length { IfOk result (λ layers. len_in layers 0 ≡ length words.now) }
     {
-        let (starts, end) = starts_over(words.len());
+        let (_, end) = starts_over(words.len());
         let mut list = Vec::with_capacity(alloc, end)?;
         list.extend_from_slice(words)?;
-        lengthen_to(&mut list, end)?;
+        Layers::before_zeros(list)
+    }
+
+    // These words in layer 0, and words that are 0 behind them. It makes one request for memory at most, and none if the vector has room for both.
+    fn before_zeros(words: Vec<usize>) -> Result<Layers, AllocError>
+        requires { length words.items ≤ 64 ^ (LAYERS - 1) }
+        ensures words { IfOk result (λ layers. (p : ℕ) → word_in layers 0 p ≡ get_or words.items p 0) }
+        ensures length { IfOk result (λ layers. len_in layers 0 ≡ length words.items) }
+    {
+        let len = words.len();
+        let (starts, end) = starts_over(len);
+        let mut words = words;
+        lengthen_to(&mut words, end)?;
         Ok(Layers {
-            words: list,
+            words,
             starts,
-            lens: lens_over(words.len()),
+            lens: lens_over(len),
             top: 0,
         })
     }
