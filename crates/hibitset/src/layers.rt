@@ -234,9 +234,7 @@ impl Layers {
         ensures summed { IfOk result (λ layers. IsSummed LAYERS (word_in layers)) }
         ensures length { IfOk result (λ layers. len_in layers 0 ≡ length words.now) }
     {
-        let mut layers = Layers::under_zeros(alloc, words)?;
-        layers.sum_layers();
-        Ok(layers)
+        Layers::of_vec(Layers::vec_of(alloc, words)?)
     }
 
     /// The words of a vector in layer 0 with exact summaries over them, which are put behind them. It makes one request for memory at most, and none if the vector has room for the summaries.
@@ -280,9 +278,17 @@ impl Layers {
         ensures words { IfOk result (λ layers. (p : ℕ) → word_in layers 0 p ≡ get_or words.now p 0) }
         ensures length { IfOk result (λ layers. len_in layers 0 ≡ length words.now) }
     {
+        Layers::before_zeros(Layers::vec_of(alloc, words)?)
+    }
+
+    // A copy of these words, in a vector with room for those over them.
+    fn vec_of(alloc: Global, words: &[usize]) -> Result<Vec<usize>, AllocError>
+        requires { length words.now ≤ 64 ^ (LAYERS - 1) }
+        ensures { IfOk result (λ list. list.items ≡ words.now) }
+    {
         let mut list = Layers::vec_with_room(alloc, words.len())?;
         list.extend_from_slice(words)?;
-        Layers::before_zeros(list)
+        Ok(list)
     }
 
     /// An empty vector with room for so many words of layer 0, and for those over them.
