@@ -19,7 +19,7 @@ pub(crate) fn set_bit(words: &mut [usize], number: usize)
 
 // A word whose lowest bits are set, as many as `count`.
 #[inline]
-fn low_bits(count: usize) -> usize
+pub(crate) fn low_bits(count: usize) -> usize
     requires { count ≤ 64 }
     ensures { (b : ℕ) → b < 64 → bit_at result b ≡ bit_of (nat_lt b count) }
 {
