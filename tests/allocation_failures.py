@@ -72,7 +72,9 @@ CALLS = {
         "BitSet::from_index_refs": "sets::from_index_refs",
         "BitSet::from_indices": "sets::from_indices",
         "BitSet::from_layers": "sets::from_layers",
+        "BitSet::from_vec": "sets::from_vec",
         "BitSet::from_words": "sets::from_words",
+        "BitSet::vec_with_room": "sets::vec_with_room",
         "BitSet::with_capacity": "sets::with_capacity sets::add_past_the_last_word",
     },
     "hibitset_store": {
@@ -126,9 +128,9 @@ CALLS = {
 OTHERS = "columns::collect callers::take"
 
 # The tests of calls that make no request.
-ROOM = """sets sets_with_room sets_with_room_of_adds sets_with_room_of_assignments virtual_sets atomic_sets
-settled_sets shared_sets last_shares new_worlds worlds parts parts_in_one_thread columns columns_in_order identifiers pages
-tasks tags"""
+ROOM = """sets sets_with_room sets_with_room_of_adds sets_with_room_of_assignments vectors_with_room virtual_sets
+atomic_sets settled_sets shared_sets last_shares new_worlds worlds parts parts_in_one_thread columns columns_in_order
+identifiers pages tasks tags"""
 
 # How many requests the call of each test makes where none is refused. A call that does its work twice is seen here alone.
 REQUESTS = {
@@ -192,16 +194,18 @@ REQUESTS = {
     "sets::from_index_refs": 2,
     "sets::from_indices": 2,
     "sets::from_layers": 1,
+    "sets::from_vec": 1,
     "sets::from_words": 1,
     "sets::ranked": 1,
     "sets::room_made_before": 1,
     "sets::to_vec": 1,
     "sets::to_vec_of_a_member_a_word": 2,
     "sets::to_vec_of_full_words": 1,
+    "sets::vec_with_room": 1,
     "sets::with_capacity": 1,
-    "streams::read_a_stream": 2,
-    "streams::read_with_a_bound": 2,
-    "streams::round_trip_of_a_set": 5,
+    "streams::read_a_stream": 1,
+    "streams::read_with_a_bound": 1,
+    "streams::round_trip_of_a_set": 4,
     "streams::write_a_set": 3,
     "streams::write_a_virtual_set": 4,
     "streams::write_behind_a_byte": 3,
@@ -283,16 +287,18 @@ BYTES = {
     "sets::from_index_refs": 635_000,
     "sets::from_indices": 635_000,
     "sets::from_layers": 634_944,
+    "sets::from_vec": 48,
     "sets::from_words": 48,
     "sets::ranked": 4_888,
     "sets::room_made_before": 634_944,
     "sets::to_vec": 12,
     "sets::to_vec_of_a_member_a_word": 384,
     "sets::to_vec_of_full_words": 4_000,
+    "sets::vec_with_room": 48,
     "sets::with_capacity": 664,
-    "streams::read_a_stream": 33_040,
-    "streams::read_with_a_bound": 33_040,
-    "streams::round_trip_of_a_set": 33_132,
+    "streams::read_a_stream": 16_656,
+    "streams::read_with_a_bound": 16_656,
+    "streams::round_trip_of_a_set": 16_748,
     "streams::write_a_set": 92,
     "streams::write_a_virtual_set": 9_004,
     "streams::write_behind_a_byte": 93,

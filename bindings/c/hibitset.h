@@ -254,7 +254,7 @@ hibitset_status hibitset_roaring_write(const hibitset_t *set, uint8_t *buffer, s
 hibitset_status hibitset_roaring_read(hibitset_t *set, const uint8_t *bytes, size_t len, uint32_t *fault, size_t *at);
 
 /* As hibitset_roaring_read, if each key in the stream is less than `end`, so each member less than 65536 * end. Layer 0 of
- * the set then takes at most 8,192 bytes for each key below `end`, and as much again while it is read. */
+ * the set then takes at most 8,192 bytes for each key below `end`. */
 hibitset_status hibitset_roaring_read_below(hibitset_t *set, const uint8_t *bytes, size_t len, uint32_t end,
                                             uint32_t *fault, size_t *at);
 

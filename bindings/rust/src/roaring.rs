@@ -142,7 +142,7 @@ impl BitSet {
 
     /// Returns the set whose members a stream has, as [`from_roaring`](BitSet::from_roaring) does, if the high 16 bits of
     /// each member are less than `end`: so each member is less than `65536 * end`. The set then takes at most 8,192 bytes
-    /// for each number below `end`, and a 63rd of that; as much again is taken while it is read.
+    /// for each number below `end`, and a 63rd of that.
     ///
     /// # Errors
     ///

@@ -2,12 +2,16 @@
 use Rattle.std.specs.Prelude.{◌≡◌, ℕ, ◌+◌, ◌-◌, ◌/◌, ◌<◌, List, [], ◌∷◌, get_or, length}
 use Rattle.hibitset_base.specs.Words.{word_at}
 use Rattle.hibitset_base.specs.declared.util.TheConstants.{LAYERS}
-use Rattle.hibitset.specs.Laying.{parts, room_of, count_of}
+use Rattle.hibitset.specs.Laying.{start, parts, room_of, count_of}
 use Rattle.hibitset.specs.declared.layers.Layers.{Layers}
 
 -- how many words of layer 0 there is room for
 abbrev pub room_in : Layers → ℕ
 room_in layers = room_of layers.starts
+
+-- how many words lie below the top, where so many are in layer 0
+unfoldable pub room_for : ℕ → ℕ
+room_for len = start (LAYERS - 1) len
 
 -- the words of the layers, from the lowest up
 unfoldable pub lists : Layers → List (List ℕ)

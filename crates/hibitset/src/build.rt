@@ -1,13 +1,13 @@
 //! Sets made of the items of an iterator, or extended by them, and sets made of words.
-#![tactic(auto, unfolding(crate::specs::BitSet::has, crate::specs::BitSet::word_of))]
+#![tactic(auto, unfolding(crate::specs::BitSet::has, crate::specs::BitSet::word_of, crate::specs::Layers::room_for))]
 
-ghost use Rattle.std.specs.Prelude.{◌≡◌, ℕ, ◌-◌, ◌*◌, ◌/◌, ◌^◌, ◌<◌, ◌≤◌, ◌||◌, Bool, false, [], get_or, length, slice_index_or, OnOk, OnErr, IfOk, IfErr};
+ghost use Rattle.std.specs.Prelude.{◌≡◌, ℕ, ◌-◌, ◌*◌, ◌/◌, ◌^◌, ◌<◌, ◌≤◌, ◌||◌, Bool, false, [], get_or, length, slice_index_or, vec_capacity, OnOk, OnErr, IfOk, IfErr, IsOk};
 ghost use Rattle.std.specs.Iterator.{IsFiniteIterable};
 ghost use Rattle.hibitset_base.specs.Words.{IsSummed, word_at};
 ghost use Rattle.hibitset_base.specs.declared.util.TheConstants.{LAYERS, MAX_EID};
 ghost use Rattle.hibitset.specs.BitSet.{has, word_of, slice_len};
 ghost use Rattle.hibitset.specs.Building.{MembersEndBy, Refuses, TakesAll, StopsAtRefused, member_apart};
-ghost use Rattle.hibitset.specs.Layers.{piled, IsFitted};
+ghost use Rattle.hibitset.specs.Layers.{piled, room_for, IsFitted};
 ghost use Rattle.hibitset.specs.Numbers.{stands_in};
 
 use crate::layers::Layers;
@@ -106,6 +106,28 @@ impl BitSet {
         ensures above { IfOk result (λ set. (l end : ℕ) → l < LAYERS - 1 → length words.now ≤ 64 ^ l * end → slice_len set l ≤ end) }
     {
         let layers = Layers::of_words(alloc, words)?;
+        Ok(BitSet { layers })
+    }
+
+    /// An empty vector with room for `len` words, at most as many as layer 0 may have, and for those that lie over them: what `from_vec` makes a set of without another request for memory. The error is want of memory. The original has no such call.
+    pub fn vec_with_room(alloc: Global, len: usize) -> Result<Vec<usize>, AllocError>
+        requires { len ≤ 64 ^ (LAYERS - 1) }
+        ensures empty { IfOk result (λ words. words.items ≡ []) }
+        ensures room { IfOk result (λ words. room_for len ≤ vec_capacity words) }
+    {
+        Layers::vec_with_room(alloc, len)
+    }
+
+    /// The set whose words of layer 0 are those of a vector, at most as many as that layer may have, as `from_words` makes it of a slice. The set keeps the vector, and puts the words over them behind them: that takes one request for memory at most, and none if `vec_with_room` made the vector for so many words or more. The error is want of memory; the vector is gone then. The original has no such call.
+    pub fn from_vec(words: Vec<usize>) -> Result<BitSet, AllocError>
+        requires { length words.items ≤ 64 ^ (LAYERS - 1) }
+        ensures members { IfOk result (λ set. (i : ℕ) → has set i ≡ stands_in words.items i) }
+        ensures words { IfOk result (λ set. (p : ℕ) → word_of set 0 p ≡ slice_index_or words.items p 0) }
+        ensures length { IfOk result (λ set. slice_len set 0 ≡ length words.items) }
+        ensures above { IfOk result (λ set. (l end : ℕ) → l < LAYERS - 1 → length words.items ≤ 64 ^ l * end → slice_len set l ≤ end) }
+        ensures room { room_for (length words.items) ≤ vec_capacity words → IsOk result }
+    {
+        let layers = Layers::of_vec(words)?;
         Ok(BitSet { layers })
     }
 

@@ -1,5 +1,5 @@
 //! The words of a set: all layers but the top one lie in one vector.
-ghost use Rattle.std.specs.Prelude.{◌≡◌, ◌≢◌, ℕ, ◌+◌, ◌-◌, ◌*◌, ◌/◌, ◌%◌, ◌^◌, ◌<◌, ◌≤◌, ◌==◌, ◌↔◌, not, true, false, List, [], get_or, length, OnOk, OnErr, IfOk};
+ghost use Rattle.std.specs.Prelude.{◌≡◌, ◌≢◌, ℕ, ◌+◌, ◌-◌, ◌*◌, ◌/◌, ◌%◌, ◌^◌, ◌<◌, ◌≤◌, ◌==◌, ◌↔◌, not, true, false, List, [], get_or, length, vec_capacity, OnOk, OnErr, IfOk, IsOk};
 ghost use Rattle.std.specs.Int.{bit_at};
 ghost use Rattle.hibitset_base.specs.Words.{IsSummed, word_at};
 ghost use Rattle.hibitset_base.specs.declared.util.TheConstants.{LAYERS};
@@ -81,6 +81,7 @@ fn lengthen_to(words: &mut Vec<usize>, end: usize) -> Result<(), AllocError>
     ensures same { (at : ℕ) → get_or words.new.items at 0 ≡ get_or words.old.items at 0 }
     ensures length { OnOk result (length words.new.items ≡ end) }
     ensures refused { OnErr result (words.new.items ≡ words.old.items) }
+    ensures room { end ≤ vec_capacity words.old → IsOk result }
 {
     words.reserve_exact(end - words.len())?;
     words.resize(end, 0)
@@ -233,7 +234,18 @@ impl Layers {
         ensures summed { IfOk result (λ layers. IsSummed LAYERS (word_in layers)) }
         ensures length { IfOk result (λ layers. len_in layers 0 ≡ length words.now) }
     {
-        let mut layers = Layers::under_zeros(alloc, words)?;
+        Layers::of_vec(Layers::vec_of(alloc, words)?)
+    }
+
+    /// The words of a vector in layer 0 with exact summaries over them, which are put behind them. It makes one request for memory at most, and none if the vector has room for the summaries.
+    pub(crate) fn of_vec(words: Vec<usize>) -> Result<Layers, AllocError>
+        requires { length words.items ≤ 64 ^ (LAYERS - 1) }
+        ensures words { IfOk result (λ layers. (p : ℕ) → word_in layers 0 p ≡ get_or words.items p 0) }
+        ensures summed { IfOk result (λ layers. IsSummed LAYERS (word_in layers)) }
+        ensures length { IfOk result (λ layers. len_in layers 0 ≡ length words.items) }
+        ensures room { start (LAYERS - 1) (length words.items) ≤ vec_capacity words → IsOk result }
+    {
+        let mut layers = Layers::before_zeros(words)?;
         layers.sum_layers();
         Ok(layers)
     }
@@ -260,20 +272,50 @@ impl Layers {
         Ok(layers)
     }
 
-    // These words in layer 0, and words that are 0 over them.
+    // A copy of these words in layer 0, and words that are 0 over them.
     fn under_zeros(alloc: Global, words: &[usize]) -> Result<Layers, AllocError>
         requires { length words.now ≤ 64 ^ (LAYERS - 1) }
         ensures words { IfOk result (λ layers. (p : ℕ) → word_in layers 0 p ≡ get_or words.now p 0) }
         ensures length { IfOk result (λ layers. len_in layers 0 ≡ length words.now) }
     {
-        let (starts, end) = starts_over(words.len());
-        let mut list = Vec::with_capacity(alloc, end)?;
+        Layers::before_zeros(Layers::vec_of(alloc, words)?)
+    }
+
+    // A copy of these words, in a vector with room for those over them.
+    fn vec_of(alloc: Global, words: &[usize]) -> Result<Vec<usize>, AllocError>
+        requires { length words.now ≤ 64 ^ (LAYERS - 1) }
+        ensures { IfOk result (λ list. list.items ≡ words.now) }
+    {
+        let mut list = Layers::vec_with_room(alloc, words.len())?;
         list.extend_from_slice(words)?;
-        lengthen_to(&mut list, end)?;
+        Ok(list)
+    }
+
+    /// An empty vector with room for so many words of layer 0, and for those over them.
+    pub(crate) fn vec_with_room(alloc: Global, len: usize) -> Result<Vec<usize>, AllocError>
+        requires { len ≤ 64 ^ (LAYERS - 1) }
+        ensures empty { IfOk result (λ words. words.items ≡ []) }
+        ensures room { IfOk result (λ words. start (LAYERS - 1) len ≤ vec_capacity words) }
+    {
+        let (_, end) = starts_over(len);
+        Vec::with_capacity(alloc, end)
+    }
+
+    // These words in layer 0, and words that are 0 behind them. It makes one request for memory at most, and none if the vector has room for both.
+    fn before_zeros(words: Vec<usize>) -> Result<Layers, AllocError>
+        requires { length words.items ≤ 64 ^ (LAYERS - 1) }
+        ensures words { IfOk result (λ layers. (p : ℕ) → word_in layers 0 p ≡ get_or words.items p 0) }
+        ensures length { IfOk result (λ layers. len_in layers 0 ≡ length words.items) }
+        ensures room { start (LAYERS - 1) (length words.items) ≤ vec_capacity words → IsOk result }
+    {
+        let len = words.len();
+        let (starts, end) = starts_over(len);
+        let mut words = words;
+        lengthen_to(&mut words, end)?;
         Ok(Layers {
-            words: list,
+            words,
             starts,
-            lens: lens_over(words.len()),
+            lens: lens_over(len),
             top: 0,
         })
     }

@@ -1,5 +1,5 @@
 -- The words of layer 0, into which members are read and of which they are written, and those of layer 1 over them.
-use Rattle.std.specs.Prelude.{◌≡◌, ◌≢◌, ℕ, zero, suc, ◌+◌, ◌-◌, ◌*◌, ◌/◌, ◌%◌, ◌<◌, Bool, ◌==◌, ◌&&◌, ◌||◌, nat_le, nat_lt, List, get_or}
+use Rattle.std.specs.Prelude.{◌≡◌, ◌≢◌, ℕ, zero, suc, ◌+◌, ◌-◌, ◌*◌, ◌/◌, ◌%◌, ◌<◌, ◌≤◌, Bool, ◌==◌, ◌&&◌, ◌||◌, nat_le, nat_lt, List, get_or}
 use Rattle.std.specs.Int.{bit_at}
 use Rattle.std.specs.Int.RustNames.{count_ones}
 use Rattle.hibitset.specs.Numbers.{stands_in}
@@ -30,6 +30,11 @@ ones_from words base (suc n) = ones_from words base n + count_ones (get_or words
 -- how many members have these high bits
 abbrev pub ones_under : List ℕ → ℕ → ℕ
 ones_under words key = ones_from words (1024 * key) 1024
+
+-- These are the bits of the word of layer 1 over a slot of a container that lie above the slot's.
+pub record IsRest (above : List ℕ) (key slot rest : ℕ) : Type 0 where
+  pub upper : (b : ℕ) → slot % 64 < b → b < 64 → bit_at rest b ≡ bit_at (get_or above (16 * key + slot / 64) 0) b
+  pub lower : (b : ℕ) → b ≤ slot % 64 → bit_at rest b ≡ 0
 
 -- Over each word that is not 0 the bit of layer 1 is set.
 pub record AreSummaries (words above : List ℕ) : Type 0 where

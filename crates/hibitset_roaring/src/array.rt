@@ -6,22 +6,11 @@ ghost use Rattle.hibitset.specs.Numbers.{stands_in};
 ghost use Rattle.hibitset_roaring.specs.Numbers.{u16_at};
 ghost use Rattle.hibitset_roaring.specs.Format.{in_array, IsArray};
 ghost use Rattle.hibitset_roaring.specs.Streams.{SameBefore};
-ghost use Rattle.hibitset_roaring.specs.Words.{TakesLowest, in_word, ones_from, ones_under, AreSummaries};
+ghost use Rattle.hibitset_roaring.specs.Words.{in_word, ones_from, ones_under, AreSummaries};
 
 use crate::layout::CONTAINER_WORDS;
 use crate::number::put_u16;
-use crate::slots::{next_slot, word_of};
-
-// Takes the lowest bit out of a word, and returns its number.
-#[inline]
-fn take_lowest(word: &mut usize) -> usize
-    requires { 0 < word.old }
-    ensures { TakesLowest word.old result word.new }
-{
-    let bit = word.trailing_zeros();
-    *word &= *word - 1;
-    bit as usize
-}
+use crate::slots::{next_slot, rest_over, slot_after, take_lowest, word_of};
 
 // Writes the bits of a word, whose first bit has the number `first`, behind the `len` numbers of an array, and returns how many it has then.
 #[inline]
@@ -57,8 +46,9 @@ pub(crate) fn write_array(out: &mut [u8], at: usize, words: &[usize], above: &[u
     let base = CONTAINER_WORDS * key;
     let mut len = 0;
     let mut slot = next_slot(above, key, 0);
+    let mut rest = rest_over(above, key, slot);
     'slots: while slot < CONTAINER_WORDS {
         len = write_word(out, at, len, 64 * slot, word_of(words, base + slot));
-        slot = next_slot(above, key, slot + 1);
+        slot = slot_after(above, key, slot, &mut rest);
     }
 }

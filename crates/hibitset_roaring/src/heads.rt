@@ -5,7 +5,7 @@ ghost use Rattle.hibitset_roaring.specs.Streams.{AreHeads};
 ghost use Rattle.hibitset_roaring.specs.Words.{ones_from, ones_under, AreSummaries};
 
 use crate::layout::CONTAINER_WORDS;
-use crate::slots::{CONTAINER_BLOCKS, next_slot, word_of};
+use crate::slots::{CONTAINER_BLOCKS, next_slot, rest_over, slot_after, word_of};
 use std::alloc::{AllocError, Global};
 
 // From this many words that are not 0 on, all words of a container are counted.
@@ -52,9 +52,10 @@ fn count_some(words: &[usize], above: &[usize], key: usize) -> usize
     let base = CONTAINER_WORDS * key;
     let mut ones = 0;
     let mut slot = next_slot(above, key, 0);
+    let mut rest = rest_over(above, key, slot);
     'slots: while slot < CONTAINER_WORDS {
         ones += word_of(words, base + slot).count_ones() as usize;
-        slot = next_slot(above, key, slot + 1);
+        slot = slot_after(above, key, slot, &mut rest);
     }
     ones
 }

@@ -18,12 +18,13 @@ use crate::layout::CONTAINER_WORDS;
 use hibitset::BitSet;
 use std::alloc::{AllocError, Global};
 
-// Words that are all 0.
+// Words that are all 0, in a vector of which a set is made.
 fn zeros(alloc: Global, len: usize) -> Result<Vec<usize>, AllocError>
+    requires { len ≤ 16777216 }
     ensures length { IfOk result (λ words. length words.items ≡ len) }
     ensures zeros { IfOk result (λ words. (i : ℕ) → stands_in words.items i ≡ false) }
 {
-    let mut words = Vec::with_capacity(alloc, len)?;
+    let mut words = BitSet::vec_with_room(alloc, len)?;
     words.resize(len, 0)?;
     Ok(words)
 }
@@ -51,7 +52,7 @@ fn read_containers(bytes: &[u8], header: &Header, words: &mut [usize]) -> Result
 ///
 /// An error names a fault of the bytes and its position, or says that an allocation failed.
 ///
-/// The set takes at most 8,192 bytes for each key below `end`, and a sixty-third more; without the latter, as much again is taken while it is read. If `end` is `KEYS`, 18 bytes can ask for 136 MB and 134 MB.
+/// The set takes at most 8,192 bytes for each key below `end`, and a sixty-third more, in one request for memory: if `end` is `KEYS`, 18 bytes can ask for 136 MB.
 pub fn read_below(alloc: Global, bytes: &[u8], end: usize) -> Result<BitSet, ReadError>
     requires { end ≤ KEYS }
     ensures stream { OnOk result (IsStream bytes.now) }
@@ -67,7 +68,7 @@ pub fn read_below(alloc: Global, bytes: &[u8], end: usize) -> Result<BitSet, Rea
     header.check_layout(bytes)?;
     let mut words = zeros(alloc, CONTAINER_WORDS * keys)?;
     read_containers(bytes, &header, &mut words)?;
-    Ok(BitSet::from_words(alloc, &words)?)
+    Ok(BitSet::from_vec(words)?)
 }
 
 /// The set whose members a stream has, as `read_below` reads it, if they are below `MAX_EID`. Bytes of a stranger are better read with a bound.

@@ -19,7 +19,7 @@ pub(crate) fn set_bit(words: &mut [usize], number: usize)
 
 // A word whose lowest bits are set, as many as `count`.
 #[inline]
-fn low_bits(count: usize) -> usize
+pub(crate) fn low_bits(count: usize) -> usize
     requires { count ≤ 64 }
     ensures { (b : ℕ) → b < 64 → bit_at result b ≡ bit_of (nat_lt b count) }
 {
@@ -41,8 +41,8 @@ fn bits_within(slot: usize, start: usize, end: usize) -> usize
     low_bits(end.saturating_sub(first).min(64)) & !before
 }
 
-// Sets the bits of the numbers from one on before another, by whole words.
-pub(crate) fn set_range(words: &mut [usize], start: usize, end: usize)
+// Sets the bits of the numbers from one on before another, word by word.
+fn set_some(words: &mut [usize], start: usize, end: usize)
     requires order { start ≤ end }
     requires room { end ≤ 64 * length words.old }
     requires small { end < 2 ^ 62 }
@@ -51,4 +51,33 @@ pub(crate) fn set_range(words: &mut [usize], start: usize, end: usize)
     'slots: for slot in start / 64..(end + 63) / 64 {
         words[slot] |= bits_within(slot, start, end);
     }
+}
+
+// Sets all bits of the words from one on before another.
+fn fill(words: &mut [usize], from: usize, to: usize)
+    requires order { from ≤ to }
+    requires room { to ≤ length words.old }
+    ensures { (i : ℕ) → stands_in words.new i ≡ (stands_in words.old i || in_range (64 * from) (64 * to) i) }
+{
+    'slots: for slot in from..to {
+        words[slot] = usize::MAX;
+    }
+}
+
+// Sets the bits of the numbers from one on before another: those of whole words first, and then those at the ends.
+pub(crate) fn set_range(words: &mut [usize], start: usize, end: usize)
+    requires order { start ≤ end }
+    requires room { end ≤ 64 * length words.old }
+    requires small { end < 2 ^ 62 }
+    ensures { (i : ℕ) → stands_in words.new i ≡ (stands_in words.old i || in_range start end i) }
+{
+    let from = (start + 63) / 64;
+    let to = end / 64;
+    if to <= from {
+        set_some(words, start, end);
+        return;
+    }
+    fill(words, from, to);
+    set_some(words, start, 64 * from);
+    set_some(words, 64 * to, end);
 }

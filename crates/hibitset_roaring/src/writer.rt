@@ -14,11 +14,33 @@ use crate::header::NO_RUNS;
 use crate::heads::{Heads, count_under};
 use crate::layout::{CONTAINER_WORDS, MOST_IN_ARRAY, flat_size};
 use crate::number::{put_u16, put_u32, put_u64};
-use crate::slots::word_of;
 use hibitset::BitSet;
 use std::alloc::{AllocError, Global};
 
-// Writes the members with these high bits as bits.
+// Writes words from one on, as many as `count`.
+fn write_words_of(out: &mut [u8], at: usize, words: &[usize], base: usize, count: usize)
+    requires room { at + 8 * count ≤ length out.old }
+    requires within { 0 < count → base + count ≤ length words.now }
+    ensures before { SameBefore at out.old out.new }
+    ensures here { (q : ℕ) → q < count → u64_at out.new (at + 8 * q) ≡ get_or words.now (base + q) 0 }
+{
+    'words: for j in 0..count {
+        put_u64(out, at + 8 * j, words[base + j]);
+    }
+}
+
+// Writes words that are 0.
+fn write_zeros(out: &mut [u8], at: usize, count: usize)
+    requires { at + 8 * count ≤ length out.old }
+    ensures before { SameBefore at out.old out.new }
+    ensures here { (q : ℕ) → q < count → u64_at out.new (at + 8 * q) ≡ 0 }
+{
+    'zeros: for j in 0..count {
+        put_u64(out, at + 8 * j, 0);
+    }
+}
+
+// Writes the members with these high bits as bits. Words past the end are 0.
 fn write_bits(out: &mut [u8], at: usize, words: &[usize], key: usize)
     requires room { at + 8192 ≤ length out.old }
     requires key { key < 65536 }
@@ -27,9 +49,9 @@ fn write_bits(out: &mut [u8], at: usize, words: &[usize], key: usize)
     ensures members { (v : ℕ) → v < 65536 → in_bits out.new at v ≡ stands_in words.now (65536 * key + v) }
 {
     let base = CONTAINER_WORDS * key;
-    'words: for j in 0..CONTAINER_WORDS {
-        put_u64(out, at + 8 * j, word_of(words, base + j));
-    }
+    let count = words.len().saturating_sub(base).min(CONTAINER_WORDS);
+    write_words_of(out, at, words, base, count);
+    write_zeros(out, at + 8 * count, CONTAINER_WORDS - count);
 }
 
 // Writes a container.

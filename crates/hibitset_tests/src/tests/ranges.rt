@@ -174,6 +174,20 @@ fn a_set_of_words(rt: HostRuntime) -> Result<(), AllocError> {
 }
 
 #[test]
+fn a_set_of_a_vector(rt: HostRuntime) -> Result<(), AllocError> {
+    let mut words = BitSet::vec_with_room(rt.alloc(), 70)?;
+    words.resize(70, 0)?;
+    words[3] = 8;
+    let set = BitSet::from_vec(words)?;
+    assert_members(&rt, &set, &[195])?;
+    assert_count(&rt, set.layer0_as_slice().len(), 70);
+    assert_words(&rt, set.layer1_as_slice(), &[8, 0]);
+    let none = BitSet::from_vec(Vec::new(rt.alloc()))?;
+    assert!(rt; none.is_empty());
+    Ok(())
+}
+
+#[test]
 fn a_set_of_no_words(rt: HostRuntime) -> Result<(), AllocError> {
     let none = BitSet::from_words(rt.alloc(), &[])?;
     assert!(rt; none.is_empty());

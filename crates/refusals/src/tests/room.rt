@@ -75,6 +75,17 @@ fn sets_with_room_of_assignments(rt: HostRuntime) -> Result<(), Fail> {
     ask(&rt)
 }
 
+// A vector with room for five words and those over them becomes a set of four as it is.
+#[test]
+fn vectors_with_room(rt: HostRuntime) -> Result<(), Fail> {
+    let mut words = BitSet::vec_with_room(rt.alloc(), 5)?;
+    words.resize(4, 1)?;
+    ask(&rt)?;
+    let set = BitSet::from_vec(words)?;
+    assert_has(&rt, &set, &[0, 64, 128, 192]);
+    ask(&rt)
+}
+
 // The set is to be {5, 70, 300,000} and the other one the same without 5, and so they are afterwards.
 fn assert_members(rt: &impl Abort, set: &mut BitSet, other: &BitSet) {
     assert!(rt; set.remove(5) && !set.remove(5) && !set.remove(4_294_967_295));

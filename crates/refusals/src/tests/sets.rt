@@ -191,6 +191,36 @@ fn from_words(rt: HostRuntime) -> Result<(), Fail> {
     Ok(())
 }
 
+#[test]
+fn from_vec(rt: HostRuntime) -> Result<(), Fail> {
+    let words = vec![in rt.alloc(); 0, 8, 1]?;
+    let again = words.clone()?;
+    ask(&rt)?;
+    let made = BitSet::from_vec(words);
+    say(&rt, made.is_err())?;
+    ask(&rt)?;
+    let set = match made {
+        Ok(set) => set,
+        Err(_) => BitSet::from_vec(again)?,
+    };
+    assert_has(&rt, &set, &[67, 128]);
+    Ok(())
+}
+
+#[test]
+fn vec_with_room(rt: HostRuntime) -> Result<(), Fail> {
+    ask(&rt)?;
+    let made = BitSet::vec_with_room(rt.alloc(), 3);
+    say(&rt, made.is_err())?;
+    ask(&rt)?;
+    let words = match made {
+        Ok(words) => words,
+        Err(_) => BitSet::vec_with_room(rt.alloc(), 3)?,
+    };
+    assert!(rt; words.is_empty() && words.capacity() == 6);
+    Ok(())
+}
+
 // A copy of a set, by the slices of its layers.
 fn of_layers(alloc: Global, set: &BitSet) -> Result<BitSet, AllocError>
     ensures { IfOk result (λ copy. (l p : ℕ) → l < LAYERS - 1 → word_of copy l p ≡ word_of set.now l p) }

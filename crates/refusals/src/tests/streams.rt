@@ -13,7 +13,7 @@ const STREAM: [u8; 28] = [
     58, 48, 0, 0, 2, 0, 0, 0, 0, 0, 0, 0, 1, 0, 0, 0, 24, 0, 0, 0, 26, 0, 0, 0, 5, 0, 112, 17,
 ];
 
-// The words, and the set of them.
+// The set's words.
 #[test]
 fn read_a_stream(rt: HostRuntime) -> Result<(), Fail> {
     ask(&rt)?;

@@ -20,6 +20,7 @@ slots-init c =
     let skips = c.next_slot-slot.ensures.skips words c.requires.above in
     record {
       within = c.next_slot-slot.ensures.within;
+      rest = c.rest_over-rest.ensures;
       count = sym (ones_skip words (1024 * key) 0 next (omega arith) skips ∙ ones_first words (1024 * key));
       before = before_none c.args.at c.args.out.now;
       members = λ v small. array_none c.args.out.now c.args.at v ∙ (sym (ap (λ x. x && stands_in words (65536 * key + v)) (le-ltb v 0 (omega arith))) ∙ slots_skip words key 0 next v (omega arith) small skips);
@@ -51,13 +52,14 @@ slots-preserved c =
     let word : ℕ = c.word_of.result in
     let is : word ≡ get_or words (1024 * key + j) 0 = c.word_of.ensures in
     let w = c.write_word-len.ensures in
-    let next : ℕ = c.next_slot-slot-in-slots.result in
-    let order = c.next_slot-slot-in-slots.ensures.order in
-    let skips = c.next_slot-slot-in-slots.ensures.skips words c.requires.above in
+    let next : ℕ = c.slot_after-slot.result in
+    let order : j + 1 ≤ next = (let after = c.slot_after-slot.ensures.order in omega (arith, after)) in
+    let skips = c.slot_after-slot.ensures.skips words c.requires.above in
     let before = w.before in
     let same : (i : ℕ) → i < len → u16_at new (at + 2 * i) ≡ u16_at out (at + 2 * i) = λ i below. u16_same (at + 2 * len) out new before (at + 2 * i) (omega (arith, below)) in
     record {
-      within = c.next_slot-slot-in-slots.ensures.within;
+      within = c.slot_after-slot.ensures.within;
+      rest = c.slot_after-slot.ensures.rest;
       count = (let a = w.len in let b = h.count in let d = ones_more words (1024 * key) j in let e = ap count_ones is in let s = ones_skip words (1024 * key) (j + 1) next order skips in omega (arith, a, b, d, e, s));
       before = before_both at c.args.out.now out new h.before (before_less (at + 2 * len) at out new (omega arith) before);
       members = λ v small. w.members v ∙ (ap (λ t. t || in_word (64 * j) word v) (h.members v small)

@@ -8,6 +8,7 @@ use Rattle.hibitset_roaring.proofs.heads.count_some.Goals as goal
 pub slots-init : goal.slots-init
 slots-init c = record {
   within = c.next_slot-slot.ensures.within;
+  rest = c.rest_over-rest.ensures;
   count = sym (ones_skip c.args.words.now (1024 * c.args.key) 0 c.next_slot-slot.result (omega arith) (c.next_slot-slot.ensures.skips c.args.words.now c.requires.above) ∙ ones_first c.args.words.now (1024 * c.args.key));
   few = omega arith;
 }
@@ -21,9 +22,11 @@ slots-preserved c =
     let is : count_ones word ≡ count_ones (get_or c.args.words.now (base + slot) 0) = ap count_ones c.word_of.ensures in
     let few = few_ones word (omega (arith, c.word_of.type_inv)) in
     let more = ones_more c.args.words.now base slot in
-    let skip = ones_skip c.args.words.now base (slot + 1) c.next_slot-slot-in-slots.result c.next_slot-slot-in-slots.ensures.order (c.next_slot-slot-in-slots.ensures.skips c.args.words.now c.requires.above) in
+    let order = c.slot_after-slot.ensures.order in
+    let skip = ones_skip c.args.words.now base (slot + 1) c.slot_after-slot.result (omega (arith, order)) (c.slot_after-slot.ensures.skips c.args.words.now c.requires.above) in
     record {
-      within = c.next_slot-slot-in-slots.ensures.within;
+      within = c.slot_after-slot.ensures.within;
+      rest = c.slot_after-slot.ensures.rest;
       count = (let n = h.count in omega (arith, n, is, more, skip));
-      few = (let f = h.few in let o = c.next_slot-slot-in-slots.ensures.order in omega (arith, f, few, o));
+      few = (let f = h.few in omega (arith, f, few, order));
     }

@@ -2,7 +2,7 @@ use Rattle.std.proofs.Common.{◌≡◌, ◌⊎◌, ℕ, ◌+◌, ◌*◌, ◌/�
 use Rattle.std.specs.Int.{bit_at}
 use Rattle.hibitset_base.specs.Sets.{bit_of}
 use Rattle.hibitset.specs.Numbers.{in_range}
-use Rattle.hibitset_roaring.proofs.words.set_range.Given as goal
+use Rattle.hibitset_roaring.proofs.words.set_some.Given as goal
 
 -- the words up to a slot have the bits of the range too, and the others are as they were
 abbrev pub invariant-slots : goal.invariant-slots

@@ -1,7 +1,7 @@
 use Rattle.std.proofs.Common.{◌≡◌, ℕ, ◌+◌, ◌*◌, ◌<◌, get_or}
 use Rattle.hibitset_roaring.specs.Numbers.{u64_at}
 use Rattle.hibitset_roaring.specs.Streams.{SameBefore}
-use Rattle.hibitset_roaring.proofs.writer.write_bits.Given as goal
+use Rattle.hibitset_roaring.proofs.writer.write_words_of.Given as goal
 
 -- so many words are written
 abbrev pub invariant-words : goal.invariant-words
