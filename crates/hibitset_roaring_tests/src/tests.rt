@@ -115,8 +115,8 @@ fn a_virtual_set_is_written(rt: HostRuntime) -> Result<(), Fail> {
     assert!(rt; stream.as_slice() == two.as_slice());
     let outside = set_of(alloc, &[(0, 65_535), (131_072, 1_073_741_823)])?;
     let stream = write_like(alloc, &!&outside)?;
-    let mut all = one_container(alloc, 0)?;
-    all[8] = 1;
+    let header = [58, 48, 0, 0, 1, 0, 0, 0, 1, 0, 255, 255, 16, 0, 0, 0];
+    let mut all = Vec::from_slice(alloc, &header)?;
     all.resize(16 + 8_192, 0xff)?;
     assert!(rt; stream.as_slice() == all.as_slice());
     Ok(())

@@ -2,6 +2,7 @@
 ghost use Rattle.std.specs.Prelude.{◌≡◌, ℕ, ◌*◌, ◌<◌, ◌≤◌, IfOk, IfErr, OnOk};
 ghost use Rattle.hibitset.specs.BitSet.{has, slice_len};
 ghost use Rattle.hibitset_roaring.specs.Format.{IsStream, HasKeysBelow, holds};
+ghost use Rattle.hibitset_roaring.specs.Transfers.{IsOutside};
 ghost use Rattle.hibitset_roaring.specs.declared.error.ReadError.TheVariants as errors;
 
 use super::*;
@@ -33,12 +34,23 @@ fn received(alloc: Global, bytes: &[u8]) -> Result<BitSet, ReadError>
     read_below(alloc, bytes, 64)
 }
 
+// A copy by way of a writer and a reader in memory: it has the same members, and fails only if one of the two or an allocation does.
+fn sent(alloc: Global, set: &BitSet) -> Result<BitSet, ReadFromError>
+    ensures members { IfOk result (λ copy. (i : ℕ) → has copy i ≡ has set.now i) }
+    ensures reason { IfErr result IsOutside }
+{
+    let mut pipe = Vec::new(alloc);
+    write_into(alloc, set, &mut pipe)?;
+    let mut received = pipe.as_slice();
+    read_from(alloc, &mut received, KEYS)
+}
+
 #[test]
 fn callers_run(rt: HostRuntime) -> Result<(), Fail> {
     let alloc = rt.alloc();
     let set = set_of(alloc, &[(5, 9), (70_000, 80_000)])?;
     let copy = copied(alloc, &set)?;
-    assert!(rt; copy == set);
+    assert!(rt; copy == set && sent(alloc, &set)? == set);
     let streams = written_twice(alloc, &copy, &set)?;
     assert!(rt; streams.0.as_slice() == streams.1.as_slice());
     let mut roomy = BitSet::with_capacity(alloc, 5_000_000)?;
