@@ -14,7 +14,8 @@ use Rattle.hibitset_roaring.specs.declared.error.ReadFromError.TheVariants as fr
 abbrev pub GivesFront : ℕ → Option (List ℕ) → Option (List ℕ) → Type 0
 GivesFront most old new = (front : List ℕ) × Consumes old new front × (length front ≤ most)
 
--- No stream with keys below a bound is longer: a container has at most 32768 runs, which take 131074 bytes, and 9 bytes of the header.
+-- No stream with keys below a bound is longer: a container has at most 32768 runs, which take 131074 bytes, and 9 bytes
+-- of the header.
 abbrev pub longest_below : ℕ → ℕ
 longest_below end = 8 + 131083 * end
 
@@ -30,7 +31,8 @@ IsOutside from.Memory = ⊤
 IsOutside from.TooLong = ⊥
 IsOutside (from.Malformed m) = ⊥
 
--- Else the reader's bytes are too many for a stream with keys below `end`, or have the fault that the error names, where it says.
+-- Else the reader's bytes are too many for a stream with keys below `end`, or have the fault that the error names,
+-- where it says.
 abbrev pub IsFromReason : List ℕ → ℕ → ReadFromError → Type 0
 IsFromReason bytes end (from.Io e) = ⊤
 IsFromReason bytes end from.Memory = ⊤

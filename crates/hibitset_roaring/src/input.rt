@@ -26,11 +26,16 @@ const LONGEST_START: usize = 8;
 // The most bytes of one read.
 const CHUNK: usize = 8192;
 
-/// The set whose members a stream has, as `read_below` reads it: the stream is all bytes that the reader gives up to its first end.
+/// The set whose members a stream has, as `read_below` reads it, with keys below `end`. The stream is all bytes that
+/// the reader gives up to its end.
 ///
-/// The reader is asked for at most 8,192 bytes at once. It is not read on, and the error is `TooLong`, once it gave more than a stream of keys below `end` can have: 131,083 for each, and 8. So a reader without an end takes no more memory than that, as much as a `Vec` of so many bytes, and the set what `read_below` says. Give a stranger's bytes a small `end`.
+/// It asks for at most 8,192 bytes at once, and keeps them in a `Vec`. The error is `TooLong`, and it reads no further,
+/// once there are more than any stream of keys below `end` has: 131,083 for each key, and 8. So a small `end` bounds
+/// what a stranger's reader can make it take, also one that never ends.
 ///
-/// A read that a signal interrupts is made again. Any other error of the reader is handed on as `Io`. After an error the reader has given a front of its bytes, which are lost.
+/// An interrupted read is made again. Any other error of the reader is handed on as `Io`. `Memory` is a failed
+/// allocation, and `Malformed` names a fault of the bytes and its position. After an error the bytes that were read are
+/// lost.
 pub fn read_from<R: Read>(
     alloc: Global,
     reader: &mut R,
@@ -39,11 +44,14 @@ pub fn read_from<R: Read>(
     requires { end ≤ KEYS }
     ensures stream { OnOk result (IfSome (R.remaining reader.old) IsStream) }
     ensures below { OnOk result (IfSome (R.remaining reader.old) (λ bytes. HasKeysBelow bytes end)) }
-    ensures members { IfOk result (λ set. IfSome (R.remaining reader.old) (λ bytes. (i : ℕ) → has set i ≡ holds bytes i)) }
+    ensures members { IfOk result (λ set. IfSome (R.remaining reader.old)
+        (λ bytes. (i : ℕ) → has set i ≡ holds bytes i)) }
     ensures length { IfOk result (λ set. slice_len set 0 ≤ CONTAINER_WORDS * end) }
     ensures end { OnOk result (IsAtEnd (R.remaining reader.new)) }
-    ensures reason { IfErr result (λ error. IfSome (R.remaining reader.old) (λ bytes. IsFromReason bytes end error)) }
-    ensures accepts { IfErr result (λ error. IfSome (R.remaining reader.old) (λ bytes. IsStream bytes → HasKeysBelow bytes end → IsOutside error)) }
+    ensures reason { IfErr result (λ error. IfSome (R.remaining reader.old)
+        (λ bytes. IsFromReason bytes end error)) }
+    ensures accepts { IfErr result (λ error. IfSome (R.remaining reader.old)
+        (λ bytes. IsStream bytes → HasKeysBelow bytes end → IsOutside error)) }
     ensures front { GivesFront (longest_below end + CHUNK) (R.remaining reader.old) (R.remaining reader.new) }
 {
     let bytes = read_all(alloc, reader, LONGEST_START + LONGEST_CONTAINER * end)?;
@@ -72,7 +80,8 @@ fn read_all<R: Read>(alloc: Global, reader: &mut R, most: usize) -> Result<Vec<u
 
 // Reads once, and tells whether the reader has ended.
 fn read_some<R: Read>(reader: &mut R, input: &mut Vec<u8>) -> Result<bool, ReadFromError>
-    ensures bytes { OnOk result ((bytes : List ℕ) × (input.new.items ≡ input.old.items ++ bytes) × Consumes (R.remaining reader.old) (R.remaining reader.new) bytes) }
+    ensures bytes { OnOk result ((bytes : List ℕ) × (input.new.items ≡ input.old.items ++ bytes)
+        × Consumes (R.remaining reader.old) (R.remaining reader.new) bytes) }
     ensures end { IfOk result (λ ended. IsTrue ended → IsAtEnd (R.remaining reader.new)) }
     ensures reason { IfErr result IsOutside }
     ensures front { GivesFront CHUNK (R.remaining reader.old) (R.remaining reader.new) }

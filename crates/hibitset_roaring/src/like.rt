@@ -9,9 +9,11 @@ use crate::writer::write;
 use hibitset::{BitSet, BitSetLike};
 use std::alloc::{AllocError, Global};
 
-/// Any set in the portable Roaring format, as `write` writes a `BitSet` of the same members: the one stream without runs of the members below `MAX_EID`.
+/// Any set in the portable Roaring format, as `write` writes a `BitSet` of the same members: the one stream without
+/// runs of the members below `MAX_EID`.
 ///
-/// It makes a `BitSet` of the set first, by whole words, and gives it back at the end: 8,192 bytes for each 65,536 numbers up to the last member, and a sixty-third more. A `BitSet` is better written by `write`, which makes none. The error is a failed allocation.
+/// It makes a `BitSet` of the set first, by whole words, which takes 8,192 bytes for each 65,536 numbers up to the last
+/// member, and a sixty-third more. The error is a failed allocation. For a `BitSet` itself, `write` makes no copy.
 pub fn write_like<T: BitSetLike>(alloc: Global, set: &T) -> Result<Vec<u8>, AllocError>
     ensures stream { IfOk result (λ out. IsCanonicalStream (is_member (T.holds set.now)) out.items) }
     ensures below { IfOk result (λ out. HasKeysBelow out.items KEYS) }

@@ -12,13 +12,19 @@ use hibitset::BitSet;
 use std::alloc::Global;
 use std::io::{self, ErrorKind, Write};
 
-/// Writes a set in the portable Roaring format behind what the writer holds, as `write` writes it. The writer is not flushed.
+/// Writes a set in the portable Roaring format behind what the writer holds, as `write` writes it. The writer is not
+/// flushed.
 ///
-/// All bytes are made first, in memory, and nothing is written if an allocation fails: the error's kind is `OutOfMemory` then. A write that a signal interrupts is made again. Any other error of the writer is handed on, and is `WriteZero` if it takes no more; a front of the stream may be written then.
+/// All bytes are made first, in memory. Nothing is written if an allocation fails: the error's kind is `OutOfMemory`
+/// then. An interrupted write is made again. Any other error of the writer is handed on, and it is `WriteZero` if the
+/// writer takes no more. A front of the stream may be written then.
 pub fn write_into<W: Write>(alloc: Global, set: &BitSet, writer: &mut W) -> io::Result<()>
-    ensures stream { OnOk result (Writes (IsCanonicalStream (has set.now)) (W.contents writer.old) (W.contents writer.new)) }
-    ensures below { OnOk result (Writes (λ bytes. HasKeysBelow bytes KEYS) (W.contents writer.old) (W.contents writer.new)) }
-    ensures err { OnErr result ((bytes : List ℕ) → IsPlainStream (has set.now) bytes → WritesFront (W.contents writer.old) (W.contents writer.new) bytes) }
+    ensures stream { OnOk result
+        (Writes (IsCanonicalStream (has set.now)) (W.contents writer.old) (W.contents writer.new)) }
+    ensures below { OnOk result
+        (Writes (λ bytes. HasKeysBelow bytes KEYS) (W.contents writer.old) (W.contents writer.new)) }
+    ensures err { OnErr result ((bytes : List ℕ) → IsPlainStream (has set.now) bytes
+        → WritesFront (W.contents writer.old) (W.contents writer.new) bytes) }
 {
     let bytes = write(alloc, set)?;
     put_bytes(writer, &bytes)
@@ -43,10 +49,12 @@ fn put_bytes<W: Write>(writer: &mut W, bytes: &[u8]) -> io::Result<()>
     Err(io::Error::other("each write was interrupted"))
 }
 
-// Writes as many of the bytes as the writer takes at once, and none if a signal interrupts it.
+// Writes as many of the bytes as the writer takes at once, and none if it is interrupted.
 fn put_some<W: Write>(writer: &mut W, bytes: &[u8]) -> io::Result<usize>
     ensures within { IfOk result (λ count. count ≤ length bytes.now) }
-    ensures written { MatchResult result (λ count. Appends (W.contents writer.old) (W.contents writer.new) (take count bytes.now)) (λ _. Keeps (W.contents writer.old) (W.contents writer.new)) }
+    ensures written { MatchResult result
+        (λ count. Appends (W.contents writer.old) (W.contents writer.new) (take count bytes.now))
+        (λ _. Keeps (W.contents writer.old) (W.contents writer.new)) }
 {
     match writer.write(bytes) {
         Ok(0) => Err(ErrorKind::WriteZero.into()),
