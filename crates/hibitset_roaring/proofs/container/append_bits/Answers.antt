@@ -47,9 +47,9 @@ parts-preserved c =
 put_behind : (key : ℕ) (bytes : List ℕ) (at : ℕ) (old new : List ℕ) → length old ≡ 1024 * key → length new ≡ length old + 1024 → ((p : ℕ) → p < length old → get_or new p 0 ≡ get_or old p 0) → ((q : ℕ) → q < 1024 → get_or new (length old + q) 0 ≡ u64_at bytes (at + 8 * q)) → Adds key (in_bits bytes at) old new
 put_behind key bytes at old new is long before here = adds_words key bytes at old new
     (λ q below.
-        let place : 1024 * key + q ≡ length old + q = omega (arith, is) in
-        let none : get_or old (1024 * key + q) 0 ≡ 0 = get_or_past old (1024 * key + q) 0 (omega (arith, is)) in
-        ap (λ p. get_or new p 0) place ∙ (here q below ∙ sym (ap (λ n. bit_or n (u64_at bytes (at + 8 * q))) none ∙ or_zero_l (u64_at bytes (at + 8 * q)))))
+    let place : 1024 * key + q ≡ length old + q = omega (arith, is) in
+    let none : get_or old (1024 * key + q) 0 ≡ 0 = get_or_past old (1024 * key + q) 0 (omega (arith, is)) in
+    ap (λ p. get_or new p 0) place ∙ (here q below ∙ sym (ap (λ n. bit_or n (u64_at bytes (at + 8 * q))) none ∙ or_zero_l (u64_at bytes (at + 8 * q)))))
     (λ p out. elim out [
       | inl lower ↦ before p (omega (arith, lower, is))
       | inr upper ↦ get_or_past new p 0 (omega (arith, upper, is, long)) ∙ sym (get_or_past old p 0 (omega (arith, upper, is)))
