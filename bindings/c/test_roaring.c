@@ -221,9 +221,9 @@ static void failing_allocations(void) {
     size_t at;
     long met;
     for (met = 0; !read_meets(false, met); met++) CHECK(met < 6);
-    CHECK(met == 3);
-    for (met = 0; !read_meets(true, met); met++) CHECK(met < 6);
     CHECK(met == 2);
+    for (met = 0; !read_meets(true, met); met++) CHECK(met < 6);
+    CHECK(met == 1);
     CHECK(hibitset_roaring_read(&set, arrays, sizeof arrays, &fault, &at) == HIBITSET_OK);
     for (met = 0; !write_meets(&set, met); met++) CHECK(met < 6);
     CHECK(met == 2);

@@ -1,6 +1,6 @@
 //! A set made of a stream.
 
-ghost use Rattle.std.specs.Prelude.{◌≡◌, ℕ, ◌+◌, ◌*◌, ◌/◌, ◌%◌, ◌^◌, ◌<◌, ◌≤◌, ◌==◌, ◌||◌, ◌&&◌, true, false, get_or, length, IfOk, OnOk, IfErr};
+ghost use Rattle.std.specs.Prelude.{◌≡◌, ℕ, ◌+◌, ◌*◌, ◌/◌, ◌%◌, ◌^◌, ◌<◌, ◌≤◌, ◌==◌, ◌||◌, ◌&&◌, true, false, [], get_or, length, IfOk, OnOk, IfErr};
 ghost use Rattle.hibitset.specs.BitSet.{has, slice_len};
 ghost use Rattle.hibitset.specs.Numbers.{stands_in};
 ghost use Rattle.hibitset_roaring.specs.Numbers.{u32_at, any_below};
@@ -12,32 +12,22 @@ ghost use Rattle.hibitset_roaring.specs.declared.header.TheConstants.{KEYS};
 ghost use Rattle.hibitset_roaring.specs.declared.layout.TheConstants.{CONTAINER_WORDS};
 
 use crate::container::read_container;
-use crate::error::{Malformed, ReadError};
+use crate::error::ReadError;
 use crate::header::{Header, KEYS};
 use crate::layout::CONTAINER_WORDS;
 use hibitset::BitSet;
-use std::alloc::{AllocError, Global};
+use std::alloc::Global;
 
-// Words that are all 0, in a vector of which a set is made.
-fn zeros(alloc: Global, len: usize) -> Result<Vec<usize>, AllocError>
-    requires { len ≤ 16777216 }
-    ensures length { IfOk result (λ words. length words.items ≡ len) }
-    ensures zeros { IfOk result (λ words. (i : ℕ) → stands_in words.items i ≡ false) }
-{
-    let mut words = BitSet::vec_with_room(alloc, len)?;
-    words.resize(len, 0)?;
-    Ok(words)
-}
-
-// Adds the members of all containers to words.
-fn read_containers(bytes: &[u8], header: &Header, words: &mut [usize]) -> Result<(), Malformed>
+// Puts the words of all containers, and those between them, into an empty vector.
+fn read_containers(bytes: &[u8], header: &Header, words: &mut Vec<usize>) -> Result<(), ReadError>
     requires header { IsHeader bytes.now header.now }
     requires whole { container_at bytes.now (container_count bytes.now) ≡ length bytes.now }
-    requires room { (k : ℕ) → k < container_count bytes.now → 1024 * (key_of bytes.now k + 1) ≤ length words.old }
-    requires empty { (i : ℕ) → stands_in words.old i ≡ false }
+    requires ascending { (k : ℕ) → k + 1 < container_count bytes.now → key_of bytes.now k < key_of bytes.now (k + 1) }
+    requires empty { words.old.items ≡ [] }
     ensures containers { OnOk result ((k : ℕ) → k < container_count bytes.now → IsContainer bytes.now k) }
-    ensures members { OnOk result ((i : ℕ) → stands_in words.new i ≡ holds bytes.now i) }
-    ensures fault { IfErr result (λ m. (end : ℕ) → IsFault bytes.now end m.fault m.at) }
+    ensures members { OnOk result ((i : ℕ) → stands_in words.new.items i ≡ holds bytes.now i) }
+    ensures least { OnOk result ((bound : ℕ) → HasKeysBelow bytes.now bound → length words.new.items ≤ 1024 * bound) }
+    ensures reason { IfErr result (λ error. (end : ℕ) → IsReason bytes.now end error) }
 {
     let mut at = header.first;
     'containers: for k in 0..header.count {
@@ -66,7 +56,7 @@ pub fn read_below(alloc: Global, bytes: &[u8], end: usize) -> Result<BitSet, Rea
     let header = Header::read(bytes)?;
     let keys = header.check_keys(bytes, end)?;
     header.check_layout(bytes)?;
-    let mut words = zeros(alloc, CONTAINER_WORDS * keys)?;
+    let mut words = BitSet::vec_with_room(alloc, CONTAINER_WORDS * keys)?;
     read_containers(bytes, &header, &mut words)?;
     Ok(BitSet::from_vec(words)?)
 }

@@ -1,11 +1,21 @@
 //! The words of layer 0 of a set, into which members are put.
 
-ghost use Rattle.std.specs.Prelude.{◌≡◌, ℕ, ◌+◌, ◌*◌, ◌/◌, ◌^◌, ◌<◌, ◌≤◌, ◌==◌, ◌||◌, nat_lt, length};
+ghost use Rattle.std.specs.Prelude.{◌≡◌, ℕ, ◌+◌, ◌*◌, ◌/◌, ◌^◌, ◌<◌, ◌≤◌, ◌==◌, ◌||◌, nat_lt, length, OnOk};
 ghost use Rattle.std.specs.Int.{bit_at};
 ghost use Rattle.hibitset_base.specs.Sets.{bit_of};
 ghost use Rattle.hibitset.specs.Numbers.{stands_in, in_range};
 
 use hibitset_base::bits::with_bit;
+use std::alloc::AllocError;
+
+// Puts words that are 0 behind others, up to a length.
+pub(crate) fn lengthen(words: &mut Vec<usize>, len: usize) -> Result<(), AllocError>
+    requires { length words.old.items ≤ len }
+    ensures same { (i : ℕ) → stands_in words.new.items i ≡ stands_in words.old.items i }
+    ensures length { OnOk result (length words.new.items ≡ len) }
+{
+    words.resize(len, 0)
+}
 
 // Sets the bit of a number.
 #[inline]

@@ -1,43 +1,13 @@
-use Rattle.std.proofs.Common.{◌<◌, ap, sym, ◌∙◌, arith}
-use Rattle.std.proofs.lemmas.Result.{on_ok_weaker, IfErr-weaker}
-use Rattle.hibitset_roaring.specs.Format.{in_runs, in_array, in_bits, in_container, container_count, container_at}
-use Rattle.hibitset_roaring.proofs.LayoutLemmas.{next_at}
+use Rattle.std.proofs.Common.{◌≡◌, ℕ, ◌/◌, ◌%◌, ◌==◌, ◌||◌, ◌&&◌, Bool, List, ap, sym, ◌∙◌, arith}
+use Rattle.hibitset.specs.Numbers.{stands_in}
+use Rattle.hibitset_roaring.specs.Format.{in_bits, in_container}
+use Rattle.hibitset_roaring.specs.Words.{Adds}
 use Rattle.hibitset_roaring.proofs.AddLemmas.{adds_same}
-use Rattle.hibitset_roaring.proofs.ContainerLemmas.{size_runs, at_array, at_bits, in_runs_is, in_array_is, in_bits_is}
-use Rattle.hibitset_roaring.proofs.FaultLemmas.{array_fault, bits_fault, runs_fault}
+use Rattle.hibitset_roaring.proofs.ContainerLemmas.{at_bits, in_bits_is}
 use Rattle.hibitset_roaring.proofs.container.read_container.Goals as goal
 
-pub read_runs_of-requires-clause-within : goal.read_runs_of-requires-clause-within
-read_runs_of-requires-clause-within c =
-    let n = next_at c.args.bytes.now c.args.k c.args.at c.requires.at in
-    let s = size_runs c.args.bytes.now c.args.k c.args.at (sym c.is_run.ensures ∙ c.if-is_run.true) in
-    let w = c.requires.within in
-    omega (arith, n, s, w)
-
-pub returns-then-is_run-clause-members : goal.returns-then-is_run-clause-members
-returns-then-is_run-clause-members c = on_ok_weaker c.read_runs_of.result (λ adds.
-    rw (← c.key-key.ensures.key) (adds_same c.key-key.result (in_runs c.args.bytes.now c.args.at) (in_container c.args.bytes.now c.args.k) _ _
-    (λ v. ap (λ a. in_runs c.args.bytes.now a v) c.requires.at ∙ in_runs_is c.args.bytes.now c.args.k (sym c.is_run.ensures ∙ c.if-is_run.true) v) adds)) c.read_runs_of.ensures.members
-
-pub read_array-requires-clause-within : goal.read_array-requires-clause-within
-read_array-requires-clause-within c =
-    let card = c.cardinality-cardinality.ensures.cardinality in
-    let few = c.if-cardinality-le-MOST_IN_ARRAY.true in
-    let p = at_array c.args.bytes.now c.args.k (sym c.is_run.ensures ∙ c.if-is_run.false) (omega (arith, card, few)) in
-    let w = c.requires.within in
-    let at = c.requires.at in
-    omega (arith, p, w, card, at)
-
-pub returns-then-cardinality-le-MOST_IN_ARRAY-clause-members : goal.returns-then-cardinality-le-MOST_IN_ARRAY-clause-members
-returns-then-cardinality-le-MOST_IN_ARRAY-clause-members c =
-    let card = c.cardinality-cardinality.ensures.cardinality in
-    let few = c.if-cardinality-le-MOST_IN_ARRAY.true in
-    on_ok_weaker c.read_array.result (λ adds.
-    rw (← c.key-key.ensures.key) (adds_same c.key-key.result (in_array c.args.bytes.now c.args.at c.cardinality-cardinality.result) (in_container c.args.bytes.now c.args.k) _ _
-    (λ v. ap (λ a. in_array c.args.bytes.now a c.cardinality-cardinality.result v) c.requires.at ∙ (ap (λ n. in_array c.args.bytes.now (container_at c.args.bytes.now c.args.k) n v) card ∙ in_array_is c.args.bytes.now c.args.k (sym c.is_run.ensures ∙ c.if-is_run.false) (omega (arith, card, few)) v)) adds)) c.read_array.ensures.members
-
-pub read_bits_of-requires-clause-within : goal.read_bits_of-requires-clause-within
-read_bits_of-requires-clause-within c =
+pub append_bits-requires : goal.append_bits-requires
+append_bits-requires c =
     let card = c.cardinality-cardinality.ensures.cardinality in
     let more = c.if-cardinality-le-MOST_IN_ARRAY.false in
     let p = at_bits c.args.bytes.now c.args.k (sym c.is_run.ensures ∙ c.if-is_run.false) (omega (arith, card, more)) in
@@ -45,33 +15,16 @@ read_bits_of-requires-clause-within c =
     let at = c.requires.at in
     omega (arith, p, w, at)
 
+-- words with the same members gain the same
+adds_after : (high : ℕ) (low : ℕ → Bool) (old mid new : List ℕ) → ((i : ℕ) → stands_in mid i ≡ stands_in old i) → Adds high low mid new → Adds high low old new
+adds_after high low old mid new same adds = record { bits = λ i. adds.bits i ∙ ap (λ t. t || ((i / 65536 == high) && low (i % 65536))) (same i) }
+
 pub returns-clause-members : goal.returns-clause-members
 returns-clause-members c =
+    let bytes = c.args.bytes.now in
+    let key : ℕ = c.key-key.result in
     let card = c.cardinality-cardinality.ensures.cardinality in
     let more = c.if-cardinality-le-MOST_IN_ARRAY.false in
-    on_ok_weaker c.read_bits_of.result (λ adds.
-    rw (← c.key-key.ensures.key) (adds_same c.key-key.result (in_bits c.args.bytes.now c.args.at) (in_container c.args.bytes.now c.args.k) _ _
-    (λ v. ap (λ a. in_bits c.args.bytes.now a v) c.requires.at ∙ in_bits_is c.args.bytes.now c.args.k (sym c.is_run.ensures ∙ c.if-is_run.false) (omega (arith, card, more)) v) adds)) c.read_bits_of.ensures.members
-
-pub returns-then-is_run-clause-fault : goal.returns-then-is_run-clause-fault
-returns-then-is_run-clause-fault c =
-    let n = c.requires.header.count_is in
-    let which = c.requires.which in
-    let below : c.args.k < container_count c.args.bytes.now = omega (arith, n, which) in
-    IfErr-weaker c.read_runs_of.result _ _ (λ m bad. λ end. runs_fault c.args.bytes.now end c.args.k c.args.at c.requires.at below m.fault m.at (sym c.is_run.ensures ∙ c.if-is_run.true) c.cardinality-cardinality.result c.cardinality-cardinality.ensures.cardinality bad) c.read_runs_of.ensures.fault
-
-pub returns-then-cardinality-le-MOST_IN_ARRAY-clause-fault : goal.returns-then-cardinality-le-MOST_IN_ARRAY-clause-fault
-returns-then-cardinality-le-MOST_IN_ARRAY-clause-fault c =
-    let n = c.requires.header.count_is in
-    let which = c.requires.which in
-    let below : c.args.k < container_count c.args.bytes.now = omega (arith, n, which) in
-    let few = c.if-cardinality-le-MOST_IN_ARRAY.true in
-    IfErr-weaker c.read_array.result _ _ (λ m bad. λ end. array_fault c.args.bytes.now end c.args.k c.args.at c.requires.at below m.fault m.at (sym c.is_run.ensures ∙ c.if-is_run.false) c.cardinality-cardinality.result c.cardinality-cardinality.ensures.cardinality (omega (arith, few)) bad) c.read_array.ensures.fault
-
-pub returns-clause-fault : goal.returns-clause-fault
-returns-clause-fault c =
-    let n = c.requires.header.count_is in
-    let which = c.requires.which in
-    let below : c.args.k < container_count c.args.bytes.now = omega (arith, n, which) in
-    let many = c.if-cardinality-le-MOST_IN_ARRAY.false in
-    IfErr-weaker c.read_bits_of.result _ _ (λ m bad. λ end. bits_fault c.args.bytes.now end c.args.k c.args.at c.requires.at below m.fault m.at (sym c.is_run.ensures ∙ c.if-is_run.false) c.cardinality-cardinality.result c.cardinality-cardinality.ensures.cardinality (omega (arith, many)) bad) c.read_bits_of.ensures.fault
+    let adds = adds_after key (in_bits bytes c.args.at) c.args.words.now.items c.lengthen-2.new.words.items c.append_bits.new.words.items c.lengthen-2.ensures.same (c.in_ok-count.ensures.members key c.in_ok-lengthen-2.ensures.length) in
+    rw (← c.key-key.ensures.key) (adds_same key (in_bits bytes c.args.at) (in_container bytes c.args.k) _ _
+    (λ v. ap (λ a. in_bits bytes a v) c.requires.at ∙ in_bits_is bytes c.args.k (sym c.is_run.ensures ∙ c.if-is_run.false) (omega (arith, card, more)) v) adds)

@@ -1,16 +1,26 @@
-use Rattle.std.proofs.Common.{◌≡◌, ℕ, ◌+◌, ◌/◌, ◌%◌, ◌<◌, ◌==◌, ◌&&◌, ◌||◌, ap, sym, ◌∙◌, arith, inl, inr}
+use Rattle.std.proofs.Common.{◌≡◌, ℕ, ◌+◌, ◌-◌, ◌/◌, ◌%◌, ◌<◌, ◌==◌, ◌&&◌, ◌||◌, false, List, length, ap, sym, ◌∙◌, arith, inl, inr}
+use Rattle.std.specs.Int.{bit_at}
 use Rattle.std.proofs.lemmas.Bool.{cases_lt}
+use Rattle.std.proofs.lemmas.List.{get_or_past}
+use Rattle.std.proofs.lemmas.Nat.Bits.{bit_at-zero}
+use Rattle.hibitset.specs.Numbers.{stands_in}
 use Rattle.hibitset_roaring.specs.Numbers.{any_below}
 use Rattle.hibitset_roaring.specs.Format.{container_count, key_of, in_container, holds}
 use Rattle.hibitset_roaring.proofs.TestLemmas.{any_none, any_next, or_comm, eq_comm}
 use Rattle.hibitset_roaring.proofs.LayoutLemmas.{at_first, at_mono}
 use Rattle.hibitset_roaring.proofs.reader.read_containers.Goals as goal
 
+-- no words have no members
+none_in : (words : List ℕ) (i : ℕ) → length words ≡ 0 → stands_in words i ≡ false
+none_in words i none = ap (λ w. bit_at w (i % 64) == 1) (get_or_past words (i / 64) 0 (omega (arith, none))) ∙ ap (λ x. x == 1) (bit_at-zero (i % 64))
+
 pub containers-init : goal.containers-init
 containers-init c = record {
   at_is = c.requires.header.first_is ∙ sym (at_first c.args.bytes.now);
   containers = λ i below. absurd (omega (arith, below));
-  members = λ i. c.requires.empty i ∙ sym (any_none (λ k. (key_of c.args.bytes.now k == i / 65536) && in_container c.args.bytes.now k (i % 65536)));
+  none = λ z. ap length c.requires.empty;
+  last = λ i e. absurd (omega (arith, e));
+  members = λ i. none_in c.args.words.now.items i (ap length c.requires.empty) ∙ sym (any_none (λ k. (key_of c.args.bytes.now k == i / 65536) && in_container c.args.bytes.now k (i % 65536)));
 }
 
 pub end-end-requires-clause-within : goal.end-end-requires-clause-within
@@ -31,6 +41,35 @@ read_container-requires-clause-within c =
     let w = c.requires.whole in
     omega (arith, m, w)
 
+pub read_container-requires-clause-order : goal.read_container-requires-clause-order
+read_container-requires-clause-order c =
+    let h = c.containers.invariant in
+    let k : ℕ = c.containers.k in
+    let bytes = c.args.bytes.now in
+    let below : k < container_count bytes = (let t = c.containers-test.true in let n = c.requires.header.count_is in omega (arith, t, n)) in
+    elim (cases_lt 0 k) [
+      | inl some ↦
+          let e : k - 1 + 1 ≡ k = omega (arith, some) in
+          let last = h.last (k - 1) e in
+          let up : key_of bytes (k - 1) < key_of bytes k = rw e at (c.requires.ascending (k - 1) (omega (arith, e, below))) in
+          omega (arith, last, up)
+      | inr first ↦ (let z = h.none (omega (arith, first)) in omega (arith, z))
+    ]
+
+pub returns-clause-least : goal.returns-clause-least
+returns-clause-least c = λ bound is.
+    let h = c.containers.invariant in
+    let k : ℕ = c.containers.k in
+    let bytes = c.args.bytes.now in
+    let all : k ≡ container_count bytes = (let t = c.containers-test.false in let end = c.containers.auto.k-end in let n = c.requires.header.count_is in omega (arith, t, end, n)) in
+    elim (cases_lt 0 k) [
+      | inl some ↦
+          let last = h.last (k - 1) (omega (arith, some)) in
+          let under = is.keys (k - 1) (omega (arith, all, some)) in
+          omega (arith, last, under)
+      | inr first ↦ (let z = h.none (omega (arith, first)) in omega (arith, z))
+    ]
+
 pub containers-preserved : goal.containers-preserved
 containers-preserved c =
     let h = c.containers.invariant in
@@ -42,6 +81,8 @@ containers-preserved c =
         | inl lower ↦ h.containers i lower
         | inr upper ↦ (let e : i ≡ k = omega (arith, below, upper) in rw e c.in_ok-read_container.ensures.container)
       ];
+      none = λ z. absurd (omega (arith, z));
+      last = λ i e. (let same : i ≡ k = omega (arith, e) in rw same c.in_ok-read_container.ensures.length);
       members = λ i.
           c.in_ok-read_container.ensures.members.bits i ∙ (ap (λ t. t || ((i / 65536 == key_of bytes k) && in_container bytes k (i % 65536))) (h.members i)
           ∙ (ap (λ t. any_below k (λ k. (key_of bytes k == i / 65536) && in_container bytes k (i % 65536)) || (t && in_container bytes k (i % 65536))) (eq_comm (i / 65536) (key_of bytes k))

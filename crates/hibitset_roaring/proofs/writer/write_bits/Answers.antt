@@ -25,11 +25,11 @@ returns-clause-ones c =
     let is = c.min-count.ensures in
     let left = c.saturating_sub.ensures in
     ones_marked c.write_zeros.new.out c.args.words.now c.args.at (1024 * c.args.key) 1024
-        (all_words c.args.words.now c.write_words_of.new.out c.write_zeros.new.out c.args.at (1024 * c.args.key) c.min-count.result c.write_words_of.ensures.here c.write_zeros.ensures.before c.write_zeros.ensures.here (λ q after below. omega (arith, is, left, after, below)))
+    (all_words c.args.words.now c.write_words_of.new.out c.write_zeros.new.out c.args.at (1024 * c.args.key) c.min-count.result c.write_words_of.ensures.here c.write_zeros.ensures.before c.write_zeros.ensures.here (λ q after below. omega (arith, is, left, after, below)))
 
 pub returns-clause-members : goal.returns-clause-members
 returns-clause-members c =
     let is = c.min-count.ensures in
     let left = c.saturating_sub.ensures in
     bits_marked c.write_zeros.new.out c.args.words.now c.args.at c.args.key
-        (all_words c.args.words.now c.write_words_of.new.out c.write_zeros.new.out c.args.at (1024 * c.args.key) c.min-count.result c.write_words_of.ensures.here c.write_zeros.ensures.before c.write_zeros.ensures.here (λ q after below. omega (arith, is, left, after, below)))
+    (all_words c.args.words.now c.write_words_of.new.out c.write_zeros.new.out c.args.at (1024 * c.args.key) c.min-count.result c.write_words_of.ensures.here c.write_zeros.ensures.before c.write_zeros.ensures.here (λ q after below. omega (arith, is, left, after, below)))
