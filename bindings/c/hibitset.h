@@ -247,8 +247,7 @@ size_t hibitset_roaring_len(const hibitset_t *set);
 hibitset_status hibitset_roaring_write(const hibitset_t *set, uint8_t *buffer, size_t len, size_t *taken);
 
 /* Makes `set` the set whose members a stream has, with runs or without: a stream of `len` bytes, with nothing behind it.
- * 18 bytes can ask for a set of 136 MB, and for 134 MB more while it is read: so bytes of a stranger are better read by
- * hibitset_roaring_read_below.
+ * 18 bytes can ask for a set of 136 MB: so bytes of a stranger are better read by hibitset_roaring_read_below.
  * HIBITSET_MALFORMED: `*fault` is the hibitset_fault that the bytes have at position `*at`, and `set` is unchanged.
  * HIBITSET_NO_MEMORY: `set` is unchanged. Neither this nor success changes `*fault` and `*at`. */
 hibitset_status hibitset_roaring_read(hibitset_t *set, const uint8_t *bytes, size_t len, uint32_t *fault, size_t *at);

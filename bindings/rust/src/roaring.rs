@@ -121,8 +121,8 @@ impl BitSet {
     /// Returns the set whose members a stream in the portable Roaring format has, with runs or without. The stream is all
     /// of the bytes.
     ///
-    /// 18 bytes can ask for a set of 136 MB, and for 134 MB more while it is read: so bytes of a stranger are better read
-    /// by [`from_roaring_below`](BitSet::from_roaring_below).
+    /// 18 bytes can ask for a set of 136 MB: so bytes of a stranger are better read by
+    /// [`from_roaring_below`](BitSet::from_roaring_below).
     ///
     /// ```
     /// use hibitset::BitSet;
