@@ -48,8 +48,7 @@ both() { # proofs, and beside it mutants tests, whose output comes when both hav
     local status=0
     # A process group of its own, which the trap can end whole.
     set -m
-    # One at a time: the lowest crates are proved one after the other, by two processors.
-    TOGETHER=1 part 3 mutants tests --gate </dev/null >"$log" 2>&1 &
+    part 3 mutants tests --gate </dev/null >"$log" 2>&1 &
     beside=$!
     set +m
     echo "test.sh: part 3 of $parts, mutants tests, runs beside part 2"
