@@ -1,4 +1,7 @@
--- For callers: where the members of a set lie and how many they are, a step of a walk, the answer of a fold in parts, exclusive or; and that a walk's state made by hand is well formed where a test says so, which computes on literals, so that `refl` proves it.
+-- For callers:
+-- where the members of a set lie and how many they are, a step of a walk, the answer of a fold in parts, exclusive or;
+-- and that a walk's state made by hand is well formed where a test says so, which computes on literals, so that `refl`
+-- proves it.
 pub use Rattle.hibitset.proofs.Within.{has_within, none_past, none_past_slice}
 pub use Rattle.hibitset.proofs.Sizes.{members-with, members-there, members-without, members-within, members-fewer, members-apart}
 pub use Rattle.hibitset.proofs.Stepping.{StepsTo, step_from, ended_from, some_member, first_or_rest}

@@ -8,7 +8,8 @@ use Rattle.hibitset_base.specs.Deciding.{same_or_not}
 use Rattle.hibitset_base.specs.Sets.{IsLawful}
 use Rattle.hibitset.proofs.Merging.{zero_or_one}
 
--- A place q has 64 parts of `size` words, and words may be other than 0 only under the bits of `left`, of which b is the highest.
+-- A place q has 64 parts of `size` words, and words may be other than 0 only under the bits of `left`, of which b is
+-- the highest.
 module _ (w : ℕ → ℕ) (size whole q left b end : ℕ) (whole-is : whole ≡ size * 64) where
   up : (p : ℕ) → p / size / 64 ≡ p / whole
   up p = div-div-eq-div-mul p size 64 ∙ ap (λ x. p / x) (sym whole-is)

@@ -1,4 +1,5 @@
--- The bits of a range are set, in each layer over the words that it touches, or cleared, in each layer over the words that are 0 then.
+-- The bits of a range are set, in each layer over the words that it touches.
+-- Or they are cleared, in each layer over the words that are 0 then.
 use Rattle.std.proofs.Common.{◌≡◌, ◌≢◌, ◌⊎◌, ◌↔◌, ℕ, zero, suc, ◌+◌, ◌-◌, ◌*◌, ◌/◌, ◌%◌, ◌^◌, ◌<◌, ◌≤◌, ◌==◌, ◌||◌, Bool, true, false, cond, true≢false, refl, sym, ap, ◌∙◌, arith, lit<, inl, inr, max}
 use Rattle.std.specs.Int.{bit_at}
 use Rattle.std.proofs.Math.Nat.{pow-suc, one-le-pow, div-div-eq-div-mul, div-lt_iff_lt-mul, div-mul-le_self}
@@ -152,7 +153,8 @@ filled_summed n old new start end order summed new_fits old_fits filled = record
       ];
 }
 
--- The bits of a layer were cleared at the positions of a range that lie over words that are 0, and the next range lies over those of its words that are 0 since.
+-- The bits of a layer were cleared at the positions of a range that lie over words that are 0, and the next range lies
+-- over those of its words that are 0 since.
 module _ (n : ℕ) (old new : ℕ → ℕ → ℕ) (k from to : ℕ) (order : from < to) (beside : IsSummedBeside n old k from to) (cleared : PutsRange false from to (old k) (new k))
     (others : (l p : ℕ) → l ≢ k → new l p ≡ old l p) (new_fits : (l p : ℕ) → new l p < 2 ^ 64) (old_fits : (l p : ℕ) → old l p < 2 ^ 64) where
   -- summaries up to layer k are exact then

@@ -1,4 +1,5 @@
--- Lengths of the layers: of layer 0, by the numbers whose words lie past it, and of those above it, which cover it and no more.
+-- Lengths of the layers:
+-- of layer 0, by the numbers whose words lie past it, and of those above it, which cover it and no more.
 use Rattle.std.proofs.Common.{◌≡◌, ℕ, suc, ◌+◌, ◌-◌, ◌*◌, ◌/◌, ◌^◌, ◌<◌, ◌≤◌, max, Bool, Result, Ok, Err, IfOk, OnOk, OnErr, sym, ◌∙◌, ap, arith, lit<}
 use Rattle.std.proofs.Math.Nat.{pow-suc, div-div-eq-div-mul, one-le-pow, lt-mul-div-succ, mul_comm, mul_assoc, mul-le-mul_left, le_trans}
 use Rattle.hibitset_base.specs.Building.{LiesApart}

@@ -24,7 +24,8 @@ member_apart set i j on lacks = elim (cases_lt (i / 64) (slice_len set 0)) [
 
 -- U is what is iterated over, S its iterator and A an item, of which `number` reads the index.
 module _ {U S A : Type 0} (becomes : U → S → Type 0) (steps : S → Option A → S → Type 0) (number : A → ℕ) (iter : U) where
-  -- An item was refused with this error, after items that are all in range, and no item was drawn after it. Memory is refused only for an item whose word lies past those of all before it.
+  -- An item was refused with this error, after items that are all in range, and no item was drawn after it. Memory is
+  -- refused only for an item whose word lies past those of all before it.
   abbrev pub Refuses : BuildError → Type 0
   Refuses = RefusesBelow MAX_EID becomes steps number iter (λ i j. i / 64 < j / 64)
 
@@ -33,6 +34,7 @@ module _ {U S A : Type 0} (becomes : U → S → Type 0) (steps : S → Option A
     abbrev pub TakesAll : Type 0
     TakesAll = TakesAllBelow MAX_EID becomes steps number iter old new
 
-    -- The items were added up to one that was refused with this error, and no item was drawn after it. Memory is refused only for an item whose word lies past so many words.
+    -- The items were added up to one that was refused with this error, and no item was drawn after it. Memory is
+    -- refused only for an item whose word lies past so many words.
     abbrev pub StopsAtRefused : ℕ → BuildError → Type 0
     StopsAtRefused words = StopsAtRefusedBelow MAX_EID becomes steps number iter old new (λ i. words ≤ i / 64)

@@ -1,4 +1,5 @@
--- The words of n layers, of which the top is one word and the others lie in one list: those of layer 0 first, then those of layer 1, and so on.
+-- The words of n layers, of which the top is one word and the others lie in one list:
+-- those of layer 0 first, then those of layer 1, and so on.
 use Rattle.std.specs.Prelude.{◌≡◌, ◌≢◌, ℕ, zero, suc, ◌+◌, ◌-◌, ◌*◌, ◌/◌, ◌^◌, ◌<◌, ◌≤◌, ◌↔◌, List, [], ◌∷◌, take, drop, get_or, length}
 use Rattle.std.specs.Int.{bit_at}
 
@@ -21,7 +22,8 @@ unfoldable pub parts : List ℕ → ℕ → ℕ → ℕ → ℕ → ℕ → List
 parts words room len top l zero = (top ∷ []) ∷ []
 parts words room len top l (suc k) = part words room len l ∷ parts words room len top (l + 1) k
 
--- The list has room for the layers below the top, over so many words of layer 0, of which so many count: past those all are 0.
+-- The list has room for the layers below the top, over so many words of layer 0, of which so many count: past those all
+-- are 0.
 pub record IsLaid (n : ℕ) (words : List ℕ) (room len top : ℕ) : Type 0 where
   pub whole : length words ≡ start (n - 1) room
   pub within : len ≤ room
@@ -56,7 +58,8 @@ pub record IsKept (n : ℕ) (words starts lens : List ℕ) (top : ℕ) : Type 0 
 pub record IsSummedBut (n : ℕ) (word : ℕ → ℕ → ℕ) (k q : ℕ) : Type 0 where
   pub off : (l p b : ℕ) → l + 1 < n → b < 64 → (l ≡ k → 64 * p + b ≢ q) → (bit_at (word (l + 1) p) b ≡ 1) ↔ (0 < word l (64 * p + b))
 
--- The list has been given more room, and the layers from layer k on, of which `len` words of layer 0 count, have been moved to where they begin then; between the others and them all words are 0.
+-- The list has been given more room, and the layers from layer k on, of which `len` words of layer 0 count, have been
+-- moved to where they begin then; between the others and them all words are 0.
 pub record IsMovedFrom (layers room len wider k : ℕ) (old new : List ℕ) : Type 0 where
   pub long : length new ≡ start layers wider
   pub below : (at : ℕ) → at < start k room → get_or new at 0 ≡ get_or old at 0

@@ -11,7 +11,8 @@ counted len words p = get_or (take len words) p 0
 abbrev pub AreWords : (ℕ → ℕ) → Type 0
 AreWords words = (p : ℕ) → words p < 2 ^ 64
 
--- The new words are the old ones merged with theirs at place q, where a place has `size` words, and the old ones elsewhere.
+-- The new words are the old ones merged with theirs at place q, where a place has `size` words, and the old ones
+-- elsewhere.
 pub record MergedUnder (merged : ℕ → ℕ → ℕ) (theirs old new : ℕ → ℕ) (size q : ℕ) : Type 0 where
   pub inside : (p : ℕ) → p / size ≡ q → new p ≡ merged (old p) (theirs p)
   pub outside : (p : ℕ) → p / size ≢ q → new p ≡ old p

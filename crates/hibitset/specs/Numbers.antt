@@ -8,7 +8,8 @@ pub use Rattle.hibitset_base.specs.Ranges.{in_range}
 abbrev pub stands_in : List ℕ → ℕ → Bool
 stands_in words i = bit_at (get_or words (i / 64) 0) (i % 64) == 1
 
--- The bits at the positions of a range stand in the new words of a layer, or do not stand, and the others are the old ones.
+-- The bits at the positions of a range stand in the new words of a layer, or do not stand, and the others are the old
+-- ones.
 pub record PutsRange (stands : Bool) (from to : ℕ) (old new : ℕ → ℕ) : Type 0 where
   pub bits : (p b : ℕ) → b < 64 → bit_at (new p) b ≡ (if in_range from to (64 * p + b) then bit_of stands else bit_at (old p) b)
 

@@ -34,7 +34,8 @@ without x y = bit_xor x (bit_and x y)
 pub without_bits : (x y i : ℕ) → bit_at (without x y) i ≡ bit_of ((bit_at x i == 1) && not (bit_at y i == 1))
 without_bits x y i = bit_at_xor x (bit_and x y) i ∙ (ap (λ t. (bit_at x i + t) % 2) (bit_at_and x y i) ∙ by_bits (λ a b. (a + min a b) % 2) (λ a b. a && not b) refl refl refl refl (bit_at x i) (bit_at y i) (bit_at-lt x i) (bit_at-lt y i))
 
--- A word stays where the place over it is not visited. For and, that is where ours has no bit; for or and exclusive or, where theirs has none; where one is taken from the other, where either has none.
+-- A word stays where the place over it is not visited. For and, that is where ours has no bit; for or and exclusive or,
+-- where theirs has none; where one is taken from the other, where either has none.
 pub and_keeps : (ours theirs b x y : ℕ) → bit_at ours b ≡ 0 → (0 < x → bit_at ours b ≡ 1) → (0 < y → bit_at theirs b ≡ 1) → bit_and x y ≡ x
 and_keeps ours theirs b zero y off here there = and_zero_l y
 and_keeps ours theirs b (suc x) y off here there = absurd (let h = here (omega arith) in omega arith)

@@ -85,7 +85,8 @@ fn merge_word<O: Operator, B: BitSetLike>(
     word != 0
 }
 
-// Merges those of the first `len` words below word `place` of layer 1 whose bits stand in `bits`, and answers the summary of all 64, which was `summary`.
+// Merges those of the first `len` words below word `place` of layer 1 whose bits stand in `bits`, and answers the
+// summary of all 64, which was `summary`.
 #[inline]
 pub(crate) fn merge_words<O: Operator, B: BitSetLike>(
     words: &mut Vec<usize>,
@@ -116,7 +117,8 @@ pub(crate) fn merge_words<O: Operator, B: BitSetLike>(
     above
 }
 
-// The other's word at place `64 * place + bit` of the layer below `layer`, which is read only where the word above, `theirs`, has the bit.
+// The other's word at place `64 * place + bit` of the layer below `layer`, which is read only where the word above,
+// `theirs`, has the bit.
 #[inline]
 fn lower_word<B: BitSetLike>(
     other: &B,
@@ -159,7 +161,8 @@ fn lower_end<B: BitSetLike>(other: &B, layer: usize, end: usize) -> usize
     }
 }
 
-// A place of layer 0 from which on the other has no words, found by the last bit of each layer. Past the last word lie places of summary bits over words that are 0.
+// A place of layer 0 from which on the other has no words, found by the last bit of each layer. Past the last word lie
+// places of summary bits over words that are 0.
 fn end_of<B: BitSetLike>(other: &B) -> usize
     ensures within { result ≤ 64 ^ (LAYERS - 1) }
     ensures end { NoWordsFrom (B.word other.now) result }
@@ -173,7 +176,8 @@ fn end_of<B: BitSetLike>(other: &B) -> usize
     end
 }
 
-// The place after the last word of layer 0 that the other has under word `place` of a layer, and 0 where it has none there. Words under summary bits are read from the last one down, until one is not 0.
+// The place after the last word of layer 0 that the other has under word `place` of a layer, and 0 where it has none
+// there. Words under summary bits are read from the last one down, until one is not 0.
 fn end_under<B: BitSetLike>(other: &B, layer: usize, place: usize) -> usize
     requires layer { layer < LAYERS }
     requires place { place < 64 ^ (LAYERS - 1 - layer) }
@@ -195,7 +199,8 @@ fn end_under<B: BitSetLike>(other: &B, layer: usize, place: usize) -> usize
 }
 
 impl BitSet {
-    // Merges the words below word `place` of layer 1, where the other has the word `theirs`, and sets the summaries over them right, as far up as one turns. It is apart, so that its loops have the registers to themselves.
+    // Merges the words below word `place` of layer 1, where the other has the word `theirs`, and sets the summaries
+    // over them right, as far up as one turns. It is apart, so that its loops have the registers to themselves.
     #[inline(never)]
     fn merge_block<O: Operator, B: BitSetLike>(&mut self, other: &B, place: usize, theirs: usize)
         requires range { place < 64 ^ (LAYERS - 2) }
@@ -221,7 +226,8 @@ impl BitSet {
         }
     }
 
-    // Merges what lies under word `place` of a layer above 1, where the other has the word `theirs`. The blocks below layer 2 are merged from its loop, without a call of this for each.
+    // Merges what lies under word `place` of a layer above 1, where the other has the word `theirs`. The blocks below
+    // layer 2 are merged from its loop, without a call of this for each.
     fn merge_under<O: Operator, B: BitSetLike>(
         &mut self,
         other: &B,
@@ -260,7 +266,8 @@ impl BitSet {
         self.merge_under::<O, B>(other, LAYERS - 1, 0, theirs);
     }
 
-    // Makes room for all words of the other that are not 0, and no more. The exact end is looked for where summary bits lie past the room.
+    // Makes room for all words of the other that are not 0, and no more. The exact end is looked for where summary bits
+    // lie past the room.
     fn make_room<B: BitSetLike>(&mut self, other: &B) -> Result<(), AllocError>
         ensures same { (l p : ℕ) → word_of self.new l p ≡ word_of self.old l p }
         ensures keeps { slice_len self.old 0 ≤ slice_len self.new 0 }
@@ -281,7 +288,10 @@ impl BitSet {
 
     /// Adds the members of any other set. Where memory is refused the members stay.
     ///
-    /// All room is made first, in each layer up to the word over the last one of the other that is not 0 and no further: it needs no memory where `layer0_as_slice` is that long, and refused, it leaves its length. Words that the other has not are neither read nor changed; where it has summary bits over words that are 0, past the room of this set, those may be read twice, and take no room.
+    /// All room is made first, in each layer up to the word over the last one of the other that is not 0 and no
+    /// further: it needs no memory where `layer0_as_slice` is that long, and refused, it leaves its length. Words that
+    /// the other has not are neither read nor changed; where it has summary bits over words that are 0, past the room
+    /// of this set, those may be read twice, and take no room.
     pub fn bitor_assign<B: BitSetLike>(&mut self, other: &B) -> Result<(), AllocError>
         ensures members { OnOk result (IsUnion (has self.old) (is_member (B.holds other.now)) (has self.new)) }
         ensures refused { OnErr result ((i : ℕ) → has self.new i ≡ has self.old i) }
@@ -296,9 +306,13 @@ impl BitSet {
         Ok(())
     }
 
-    /// Adds the members of any other set that were not there, and takes out those that were. Where memory is refused the members stay.
+    /// Adds the members of any other set that were not there, and takes out those that were. Where memory is refused
+    /// the members stay.
     ///
-    /// All room is made first, in each layer up to the word over the last one of the other that is not 0 and no further: it needs no memory where `layer0_as_slice` is that long, and refused, it leaves its length. Words that the other has not are neither read nor changed; where it has summary bits over words that are 0, past the room of this set, those may be read twice, and take no room.
+    /// All room is made first, in each layer up to the word over the last one of the other that is not 0 and no
+    /// further: it needs no memory where `layer0_as_slice` is that long, and refused, it leaves its length. Words that
+    /// the other has not are neither read nor changed; where it has summary bits over words that are 0, past the room
+    /// of this set, those may be read twice, and take no room.
     pub fn bitxor_assign<B: BitSetLike>(&mut self, other: &B) -> Result<(), AllocError>
         ensures members { OnOk result (IsExclusive (has self.old) (is_member (B.holds other.now)) (has self.new)) }
         ensures refused { OnErr result ((i : ℕ) → has self.new i ≡ has self.old i) }

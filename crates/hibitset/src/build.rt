@@ -37,7 +37,9 @@ impl Extendable for BitSet {
 impl BitSet {
     /// Adds the items of an iterator, each of which is to be below `MAX_EID`.
     ///
-    /// It stops at the first item that is not, and where memory is refused: then the set has its old members and the items before that one, and no later item is drawn. Memory is refused only for an item whose word lies past `layer0_as_slice`, and no slice grows longer than the members need.
+    /// It stops at the first item that is not, and where memory is refused: then the set has its old members and the
+    /// items before that one, and no later item is drawn. Memory is refused only for an item whose word lies past
+    /// `layer0_as_slice`, and no slice grows longer than the members need.
     pub fn extend_indices<U: IntoIterator<Item = Index>>(
         &mut self,
         iter: U,
@@ -69,7 +71,8 @@ impl BitSet {
 
     /// A set of the items of an iterator, each of which is to be below `MAX_EID`.
     ///
-    /// It stops at the first item that is not, and where memory is refused: then no later item is drawn. Memory is refused only for an item whose word lies past those of all items before it.
+    /// It stops at the first item that is not, and where memory is refused: then no later item is drawn. Memory is
+    /// refused only for an item whose word lies past those of all items before it.
     pub fn from_indices<U: IntoIterator<Item = Index>>(
         alloc: Global,
         iter: U,
@@ -97,7 +100,9 @@ impl BitSet {
         build::from_index_refs(BitSet::new(alloc), iter)
     }
 
-    /// The set whose words of layer 0 are these, at most as many as that layer may have: index `64 * p + b` is a member where bit `b` of word `p` stands. With `layer0_as_slice` it is how a set is saved and read again. It makes one request for memory, for these words and those over them; the error is want of it. The original has no such call.
+    /// The set whose words of layer 0 are these, at most as many as that layer may have: index `64 * p + b` is a member
+    /// where bit `b` of word `p` stands. With `layer0_as_slice` it is how a set is saved and read again. It makes one
+    /// request for memory, for these words and those over them; the error is want of it. The original has no such call.
     pub fn from_words(alloc: Global, words: &[usize]) -> Result<BitSet, AllocError>
         requires { length words.now ≤ 64 ^ (LAYERS - 1) }
         ensures members { IfOk result (λ set. (i : ℕ) → has set i ≡ stands_in words.now i) }
@@ -109,7 +114,9 @@ impl BitSet {
         Ok(BitSet { layers })
     }
 
-    /// An empty vector with room for `len` words, at most as many as layer 0 may have, and for those that lie over them: what `from_vec` makes a set of without another request for memory. The error is want of memory. The original has no such call.
+    /// An empty vector with room for `len` words, at most as many as layer 0 may have, and for those that lie over
+    /// them: what `from_vec` makes a set of without another request for memory. The error is want of memory. The
+    /// original has no such call.
     pub fn vec_with_room(alloc: Global, len: usize) -> Result<Vec<usize>, AllocError>
         requires { len ≤ 64 ^ (LAYERS - 1) }
         ensures empty { IfOk result (λ words. words.items ≡ []) }
@@ -118,7 +125,10 @@ impl BitSet {
         Layers::vec_with_room(alloc, len)
     }
 
-    /// The set whose words of layer 0 are those of a vector, at most as many as that layer may have, as `from_words` makes it of a slice. The set keeps the vector, and puts the words over them behind them: that takes one request for memory at most, and none if `vec_with_room` made the vector for so many words or more. The error is want of memory; the vector is gone then. The original has no such call.
+    /// The set whose words of layer 0 are those of a vector, at most as many as that layer may have, as `from_words`
+    /// makes it of a slice. The set keeps the vector, and puts the words over them behind them: that takes one request
+    /// for memory at most, and none if `vec_with_room` made the vector for so many words or more. The error is want of
+    /// memory; the vector is gone then. The original has no such call.
     pub fn from_vec(words: Vec<usize>) -> Result<BitSet, AllocError>
         requires { length words.items ≤ 64 ^ (LAYERS - 1) }
         ensures members { IfOk result (λ set. (i : ℕ) → has set i ≡ stands_in words.items i) }
@@ -131,9 +141,12 @@ impl BitSet {
         Ok(BitSet { layers })
     }
 
-    /// The set whose layers have these words, and whose top layer has the word `top`: a copy of a set of which the slices are at hand. It makes one request for memory, for these words; the error is want of it. The original has no such call.
+    /// The set whose layers have these words, and whose top layer has the word `top`: a copy of a set of which the
+    /// slices are at hand. It makes one request for memory, for these words; the error is want of it. The original has
+    /// no such call.
     ///
-    /// Layer 0 has at most as many words as it may have, each layer above it as many as the words below need, and the summaries are exact.
+    /// Layer 0 has at most as many words as it may have, each layer above it as many as the words below need, and the
+    /// summaries are exact.
     pub fn from_layers(
         alloc: Global,
         layer0: &[usize],

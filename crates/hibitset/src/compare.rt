@@ -118,7 +118,8 @@ fn compare_words<C: Comparison>(ours: &BitSet, theirs: &BitSet, place: usize, bi
     true
 }
 
-// Compares the words below word `place` of layer 1, where theirs has the word `word`: as a block where many of them are not 0.
+// Compares the words below word `place` of layer 1, where theirs has the word `word`: as a block where many of them are
+// not 0.
 #[inline]
 fn compare_lowest<C: Comparison>(ours: &BitSet, theirs: &BitSet, place: usize, word: usize) -> bool
     requires { place < 64 ^ (LAYERS - 2) }

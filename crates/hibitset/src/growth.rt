@@ -2,7 +2,8 @@
 ghost use Rattle.std.specs.Prelude.{◌-◌, ◌*◌, ◌^◌, ◌<◌, ◌≤◌, max};
 ghost use Rattle.hibitset_base.specs.declared.util.TheConstants.{LAYERS};
 
-// An assignment makes room for one in so many words more than there was room for. All that the other set has is known by then, and room that is not needed is written all the same.
+// An assignment makes room for one in so many words more than there was room for. All that the other set has is known
+// by then, and room that is not needed is written all the same.
 const SPARE_PART: usize = 8;
 
 /// What a set makes room for. It is a type, so that `grow` is compiled for each and has no argument for it.
@@ -15,7 +16,9 @@ pub(crate) trait Growth {
         ensures { result ≤ 2 * max room len };
 }
 
-/// Adds, which come one by one. They make room for a power of two of words, so that they seldom take memory and random ones end with the words of their range; but for no more than they need where that is more than twice what there was, so that one index far up takes the words up to it alone.
+/// Adds, which come one by one. They make room for a power of two of words, so that they seldom take memory and random
+/// ones end with the words of their range; but for no more than they need where that is more than twice what there was,
+/// so that one index far up takes the words up to it alone.
 pub(crate) struct Adds;
 
 impl Growth for Adds {

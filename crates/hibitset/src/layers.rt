@@ -19,9 +19,13 @@ const LEAST_ROOM: usize = 4;
 // How many words of layer 0 there is room for at most.
 const MOST_ROOM: usize = 1 << (BITS * (LAYERS - 1));
 
-/// The words of a set, by layer and place. It says nothing of summaries: a `BitSet` has these words with exact summaries.
+/// The words of a set, by layer and place. It says nothing of summaries: a `BitSet` has these words with exact
+/// summaries.
 ///
-/// The vector has room for the words over so many words of layer 0: those of layer 0 first, then those of layer 1, and so on up to the top, which is one word and lies apart. `starts` are the places where the layers begin, and `lens` tells how many words of each count, those over the words of layer 0 that count. Past them all words are 0, so that they are counted in without being written.
+/// The vector has room for the words over so many words of layer 0: those of layer 0 first, then those of layer 1, and
+/// so on up to the top, which is one word and lies apart. `starts` are the places where the layers begin, and `lens`
+/// tells how many words of each count, those over the words of layer 0 that count. Past them all words are 0, so that
+/// they are counted in without being written.
 #[derive(Drop)]
 pub(crate) struct Layers {
     words: Vec<usize>,
@@ -75,7 +79,8 @@ fn larger_room(room: usize, len: usize) -> usize
     room.max(LEAST_ROOM).min(MOST_ROOM).max(len)
 }
 
-// Lengthens a list by words that are 0. It makes one request for memory at most, for no more than it needs; refused, nothing changes.
+// Lengthens a list by words that are 0. It makes one request for memory at most, for no more than it needs; refused,
+// nothing changes.
 fn lengthen_to(words: &mut Vec<usize>, end: usize) -> Result<(), AllocError>
     requires { length words.old.items ≤ end }
     ensures same { (at : ℕ) → get_or words.new.items at 0 ≡ get_or words.old.items at 0 }
@@ -120,7 +125,8 @@ fn move_up(words: &mut Vec<usize>, from: usize, count: usize, to: usize)
     blank(words, from, to.min(from + count));
 }
 
-// Moves the layers to where they begin in more room, from the last one down, and makes 0 what they leave behind. Layer 0 begins at 0 and stays.
+// Moves the layers to where they begin in more room, from the last one down, and makes 0 what they leave behind. Layer
+// 0 begins at 0 and stays.
 fn move_layers(
     words: &mut Vec<usize>,
     lens: [usize; LAYERS - 1],
@@ -157,7 +163,8 @@ const ONE_BIT: [usize; 64] = [
     1 << 56, 1 << 57, 1 << 58, 1 << 59, 1 << 60, 1 << 61, 1 << 62, 1 << 63,
 ];
 
-// The summary of up to 64 words: the bit of each that is not 0. It comes from a table, since a loop that shifts by a count does not go by vectors.
+// The summary of up to 64 words: the bit of each that is not 0. It comes from a table, since a loop that shifts by a
+// count does not go by vectors.
 #[inline]
 fn summary_of(words: &[usize]) -> usize
     requires { length words.now ≤ 64 }
@@ -174,7 +181,8 @@ fn summary_of(words: &[usize]) -> usize
     summary
 }
 
-// The summary of the 64 words from a place on, or of those that are left. The 64 have a call of their own, whose loop is unrolled.
+// The summary of the 64 words from a place on, or of those that are left. The 64 have a call of their own, whose loop
+// is unrolled.
 #[inline]
 fn summary_at(words: &[usize], start: usize) -> usize
     requires { start ≤ length words.now }
@@ -187,7 +195,8 @@ fn summary_at(words: &[usize], start: usize) -> usize
     }
 }
 
-// Tells whether a word turns from 0 or to 0 as one of its bits is set or cleared: it is 0 before the one, and after the other.
+// Tells whether a word turns from 0 or to 0 as one of its bits is set or cleared: it is 0 before the one, and after the
+// other.
 #[inline]
 pub(crate) fn turns(before: usize, word: usize, stands: bool) -> bool
     requires set { stands ≡ true → 0 < word }
@@ -227,7 +236,8 @@ impl Layers {
         Ok(layers)
     }
 
-    /// These words in layer 0 with exact summaries over them, and no more room than they need. It makes one request for memory.
+    /// These words in layer 0 with exact summaries over them, and no more room than they need. It makes one request for
+    /// memory.
     pub(crate) fn of_words(alloc: Global, words: &[usize]) -> Result<Layers, AllocError>
         requires { length words.now ≤ 64 ^ (LAYERS - 1) }
         ensures words { IfOk result (λ layers. (p : ℕ) → word_in layers 0 p ≡ get_or words.now p 0) }
@@ -237,7 +247,8 @@ impl Layers {
         Layers::of_vec(Layers::vec_of(alloc, words)?)
     }
 
-    /// The words of a vector in layer 0 with exact summaries over them, which are put behind them. It makes one request for memory at most, and none if the vector has room for the summaries.
+    /// The words of a vector in layer 0 with exact summaries over them, which are put behind them. It makes one request
+    /// for memory at most, and none if the vector has room for the summaries.
     pub(crate) fn of_vec(words: Vec<usize>) -> Result<Layers, AllocError>
         requires { length words.items ≤ 64 ^ (LAYERS - 1) }
         ensures words { IfOk result (λ layers. (p : ℕ) → word_in layers 0 p ≡ get_or words.items p 0) }
@@ -250,7 +261,8 @@ impl Layers {
         Ok(layers)
     }
 
-    /// The words of these layers with a word of the top layer, and no more room than they need. It makes one request for memory.
+    /// The words of these layers with a word of the top layer, and no more room than they need. It makes one request
+    /// for memory.
     pub(crate) fn of_layers(
         alloc: Global,
         layer0: &[usize],
@@ -301,7 +313,8 @@ impl Layers {
         Vec::with_capacity(alloc, end)
     }
 
-    // These words in layer 0, and words that are 0 behind them. It makes one request for memory at most, and none if the vector has room for both.
+    // These words in layer 0, and words that are 0 behind them. It makes one request for memory at most, and none if
+    // the vector has room for both.
     fn before_zeros(words: Vec<usize>) -> Result<Layers, AllocError>
         requires { length words.items ≤ 64 ^ (LAYERS - 1) }
         ensures words { IfOk result (λ layers. (p : ℕ) → word_in layers 0 p ≡ get_or words.items p 0) }
@@ -409,7 +422,9 @@ impl Layers {
         self.top
     }
 
-    /// The word of a layer below the top at a place, which is 0 past the layer's end. One of layer 1, which a sparse walk reads as often as one of layer 0, is taken from the layer's slice, whose beginning a loop knows: so the place needs no addition.
+    /// The word of a layer below the top at a place, which is 0 past the layer's end. One of layer 1, which a sparse
+    /// walk reads as often as one of layer 0, is taken from the layer's slice, whose beginning a loop knows: so the
+    /// place needs no addition.
     #[inline]
     pub(crate) fn word(&self, layer: usize, place: usize) -> usize
         requires { layer < LAYERS - 1 }
@@ -449,7 +464,8 @@ impl Layers {
         self.top = word;
     }
 
-    /// Sets the bit over a word right that has turned from 0 or to 0 and is not 0 where it stands, and tells whether the word with that bit has turned too.
+    /// Sets the bit over a word right that has turned from 0 or to 0 and is not 0 where it stands, and tells whether
+    /// the word with that bit has turned too.
     #[inline]
     pub(crate) fn link(&mut self, layer: usize, place: usize, stands: bool) -> bool
         requires layer { layer + 2 < LAYERS }
@@ -468,7 +484,8 @@ impl Layers {
         turns(before, word, stands)
     }
 
-    /// Sets the summaries over a word right that has turned from 0 or to 0 and is not 0 where it stands, as far up as one turns. It is apart, so that what calls it is small, and is inlined.
+    /// Sets the summaries over a word right that has turned from 0 or to 0 and is not 0 where it stands, as far up as
+    /// one turns. It is apart, so that what calls it is small, and is inlined.
     #[inline(never)]
     pub(crate) fn sum_up(&mut self, layer: usize, place: usize, stands: bool)
         requires layer { layer < LAYERS - 1 }
@@ -491,7 +508,8 @@ impl Layers {
         self.put_top(with_bit(self.top, place, stands));
     }
 
-    /// Merges the words of layer 0 below word `place` of layer 1 whose bits stand in `bits`, and answers the summary of all 64, which was `summary`. The layers above stay as they are.
+    /// Merges the words of layer 0 below word `place` of layer 1 whose bits stand in `bits`, and answers the summary of
+    /// all 64, which was `summary`. The layers above stay as they are.
     #[inline]
     pub(crate) fn merge<O: Operator, B: BitSetLike>(
         &mut self,
@@ -512,7 +530,8 @@ impl Layers {
         merge_words::<O, B>(&mut self.words, len, other, place, bits, summary)
     }
 
-    // Gives the vector room for so many words of layer 0, and moves the layers above it up, from the last one down. It makes one request for memory at most; refused, nothing changes.
+    // Gives the vector room for so many words of layer 0, and moves the layers above it up, from the last one down. It
+    // makes one request for memory at most; refused, nothing changes.
     fn widen(&mut self, room: usize) -> Result<(), AllocError>
         requires more { room_in self.old ≤ room }
         requires within { room ≤ 64 ^ (LAYERS - 1) }
@@ -537,7 +556,9 @@ impl Layers {
         self.lens = lens_over(len);
     }
 
-    /// Makes layer 0 `len` words long, and the layers above it as long as they are over it, by words that are 0. It makes one request for memory at most, and then makes room for `room` words of layer 0, where that is more and not too much; refused, nothing changes.
+    /// Makes layer 0 `len` words long, and the layers above it as long as they are over it, by words that are 0. It
+    /// makes one request for memory at most, and then makes room for `room` words of layer 0, where that is more and
+    /// not too much; refused, nothing changes.
     pub(crate) fn lengthen(&mut self, len: usize, room: usize) -> Result<(), AllocError>
         requires more { len_in self.old 0 ≤ len }
         requires within { len ≤ 64 ^ (LAYERS - 1) }
@@ -552,7 +573,8 @@ impl Layers {
         Ok(())
     }
 
-    /// The same words in slices of the same lengths, and no more room than they need. It makes one request for memory at most.
+    /// The same words in slices of the same lengths, and no more room than they need. It makes one request for memory
+    /// at most.
     pub(crate) fn copy(&self) -> Result<Layers, AllocError>
         ensures same { IfOk result (λ copy. (l p : ℕ) → word_in copy l p ≡ word_in self.now l p) }
         ensures length { IfOk result (λ copy. len_in copy 0 ≡ len_in self.now 0) }

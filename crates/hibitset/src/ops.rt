@@ -1,4 +1,5 @@
-//! Operators over the sets that keep their words: `!`, `&`, `|`, `^` and `-` make a virtual set of their operands, and `into_iter` a walk.
+//! Operators over the sets that keep their words:
+//! `!`, `&`, `|`, `^` and `-` make a virtual set of their operands, and `into_iter` a walk.
 ghost use Rattle.std.specs.Prelude.{◌≡◌};
 ghost use Rattle.hibitset_base.specs.Connectives.{IsComplement, IsDifference, IsExclusive, IsIntersection, IsUnion};
 ghost use Rattle.hibitset_base.specs.Walk.{Starts};

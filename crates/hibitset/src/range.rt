@@ -93,7 +93,8 @@ impl Layers {
         }
     }
 
-    // Sets or clears the bits of a layer below the top, from one position on before another: those of the first word and of the last, and all between.
+    // Sets or clears the bits of a layer below the top, from one position on before another: those of the first word
+    // and of the last, and all between.
     fn put_range(&mut self, layer: usize, from: usize, to: usize, stands: bool)
         requires layer { layer < LAYERS - 1 }
         requires order { from < to }
@@ -112,7 +113,8 @@ impl Layers {
         }
     }
 
-    // Sets the bits of a range of indices for which there are words, and in each layer above those over the words that it touches.
+    // Sets the bits of a range of indices for which there are words, and in each layer above those over the words that
+    // it touches.
     fn fill(&mut self, start: usize, end: usize)
         requires order { start < end }
         requires room { end ≤ 64 * len_in self.old 0 }
@@ -134,7 +136,8 @@ impl Layers {
         self.put_top(with_bits(self.top(), bits_within(0, from, to), true));
     }
 
-    // Where the words begin that are 0 since bits of theirs were cleared, from one position on: at the first word, or after it.
+    // Where the words begin that are 0 since bits of theirs were cleared, from one position on: at the first word, or
+    // after it.
     #[inline]
     fn first_blank(&self, layer: usize, from: usize) -> usize
         requires { layer < LAYERS - 1 }
@@ -163,7 +166,8 @@ impl Layers {
         }
     }
 
-    // Clears the bits of a range of indices for which there are words, and in each layer above those over words that are 0 then.
+    // Clears the bits of a range of indices for which there are words, and in each layer above those over words that
+    // are 0 then.
     fn blank(&mut self, start: usize, end: usize)
         requires order { start < end }
         requires room { end ≤ 64 * len_in self.old 0 }
@@ -189,9 +193,11 @@ impl Layers {
 }
 
 impl BitSet {
-    /// Adds the indices from `start` on before `end`, which is at most `MAX_EID`, by whole words. Where `end` is not above `start` there is nothing to add. Where memory is refused the members stay. The original has no such call.
+    /// Adds the indices from `start` on before `end`, which is at most `MAX_EID`, by whole words. Where `end` is not
+    /// above `start` there is nothing to add. Where memory is refused the members stay. The original has no such call.
     ///
-    /// It makes one request for memory at most, and none where the word of `end - 1` lies in `layer0_as_slice`. Else it makes the slices as long as `add` of `end - 1` does; refused, it leaves the length of layer 0.
+    /// It makes one request for memory at most, and none where the word of `end - 1` lies in `layer0_as_slice`. Else it
+    /// makes the slices as long as `add` of `end - 1` does; refused, it leaves the length of layer 0.
     pub fn add_range(&mut self, start: Index, end: Index) -> Result<(), AllocError>
         requires { end ≤ MAX_EID }
         ensures added { OnOk result ((i : ℕ) → has self.new i ≡ (has self.old i || in_range start end i)) }
@@ -212,7 +218,8 @@ impl BitSet {
         Ok(())
     }
 
-    /// Takes the indices from `start` on before `end` out, by whole words, for any two numbers. It takes no memory, and keeps the slice of layer 0 as long as it is. The original has no such call.
+    /// Takes the indices from `start` on before `end` out, by whole words, for any two numbers. It takes no memory, and
+    /// keeps the slice of layer 0 as long as it is. The original has no such call.
     pub fn remove_range(&mut self, start: Index, end: Index)
         ensures removed { (i : ℕ) → has self.new i ≡ (has self.old i && not (in_range start end i)) }
         ensures length { slice_len self.new 0 ≡ slice_len self.old 0 }
@@ -223,9 +230,11 @@ impl BitSet {
         }
     }
 
-    /// Flips the indices from `start` on before `end`, which is at most `MAX_EID`: those in the set are taken out, and the others are added. If `end` is not above `start` nothing changes. If memory is refused the members stay.
+    /// Flips the indices from `start` on before `end`, which is at most `MAX_EID`: those in the set are taken out, and
+    /// the others are added. If `end` is not above `start` nothing changes. If memory is refused the members stay.
     ///
-    /// It makes one request for memory at most, and none where the word of `end - 1` lies in `layer0_as_slice`. Else it makes the slices as long as `add` of `end - 1` does; refused, it leaves the length of layer 0.
+    /// It makes one request for memory at most, and none where the word of `end - 1` lies in `layer0_as_slice`. Else it
+    /// makes the slices as long as `add` of `end - 1` does; refused, it leaves the length of layer 0.
     pub fn flip_range(&mut self, start: Index, end: Index) -> Result<(), AllocError>
         requires { end ≤ MAX_EID }
         ensures flipped { OnOk result ((i : ℕ) → has self.new i ≡ differ (has self.old i) (in_range start end i)) }

@@ -20,9 +20,16 @@ use std::fmt::{self, Debug, Formatter};
 ///
 /// A bit of a layer above the lowest stands exactly over a word that is not 0, at all times.
 ///
-/// A set is 96 bytes, and its words lie in one block of memory beside it: none for an empty set, 56 bytes for {5} or the first 20 indices, 152 for the first 1,000, added one by one. With a vector for each layer it was 104 bytes, and 128, 128 and 224 in four blocks. `fixedbitset` takes 32 bytes, and 16, 16 and 128 beside them; CRoaring 80, 142 and 2,264 in all, and 69, 71 and 71 once it has been optimized and shrunk. These are measurements; no contract says them.
+/// A set is 96 bytes, and its words lie in one block of memory beside it: none for an empty set, 56 bytes for {5} or
+/// the first 20 indices, 152 for the first 1,000, added one by one. With a vector for each layer it was 104 bytes, and
+/// 128, 128 and 224 in four blocks. `fixedbitset` takes 32 bytes, and 16, 16 and 128 beside them; CRoaring 80, 142 and
+/// 2,264 in all, and 69, 71 and 71 once it has been optimized and shrunk. These are measurements; no contract says
+/// them.
 ///
-/// Layer 0 has a word for each 64 indices up to the highest member that there has been since `clear`, however few there are, and the layers above it have a sixty-third of that: 8 bytes for each 64 indices, so 2,130,440 bytes where a member lies just below 2^24, and 136,348,160 where one lies just below 2^30. Room that adds made may be up to twice as much.
+/// Layer 0 has a word for each 64 indices up to the highest member that there has been since `clear`, however few there
+/// are, and the layers above it have a sixty-third of that: 8 bytes for each 64 indices, so 2,130,440 bytes where a
+/// member lies just below 2^24, and 136,348,160 where one lies just below 2^30. Room that adds made may be up to twice
+/// as much.
 #[derive(Drop)]
 pub struct BitSet {
     pub(crate) layers: Layers,
@@ -54,7 +61,9 @@ impl BitSet {
         }
     }
 
-    /// An empty set with room for every index below `max`, which is at most `MAX_EID`, and no more words in any layer than these have: no `add` of one needs memory until `clear`. It takes 8 bytes for each 64 indices and a sixty-third more: 2,130,440 for 2^24, and 136,348,160 for 2^30.
+    /// An empty set with room for every index below `max`, which is at most `MAX_EID`, and no more words in any layer
+    /// than these have: no `add` of one needs memory until `clear`. It takes 8 bytes for each 64 indices and a
+    /// sixty-third more: 2,130,440 for 2^24, and 136,348,160 for 2^30.
     pub fn with_capacity(alloc: Global, max: Index) -> Result<BitSet, AllocError>
         requires { max ≤ MAX_EID }
         ensures empty { IfOk result (λ set. (i : ℕ) → has set i ≡ false) }
@@ -66,7 +75,8 @@ impl BitSet {
         Ok(BitSet { layers })
     }
 
-    // Makes room for the words over `id`, and changes no word. It is apart from `extend`, so that a call of `add` that needs no room tests one length alone.
+    // Makes room for the words over `id`, and changes no word. It is apart from `extend`, so that a call of `add` that
+    // needs no room tests one length alone.
     #[inline(never)]
     pub(crate) fn grow<G: Growth>(&mut self, id: Index) -> Result<(), AllocError>
         requires range { id < MAX_EID }
@@ -101,7 +111,8 @@ impl BitSet {
         self.grow::<Adds>(id)
     }
 
-    // Puts a word into layer 0 in the place of the word `before`, of which one bit was set or cleared, and sets the summaries over it right, as far up as one turns from 0 or to 0.
+    // Puts a word into layer 0 in the place of the word `before`, of which one bit was set or cleared, and sets the
+    // summaries over it right, as far up as one turns from 0 or to 0.
     #[inline]
     pub(crate) fn put_word(&mut self, place: usize, before: usize, word: usize, stands: bool)
         requires place { place < slice_len self.old 0 }
@@ -138,7 +149,10 @@ impl BitSet {
 
     /// Adds an index below `MAX_EID`, and tells whether it was there. Where memory is refused the members stay.
     ///
-    /// It needs no memory where the word at position `id / 64` lies in `layer0_as_slice`, so for no index that is there. Else it makes that slice as long as this word needs and no longer, and those of the layers above no longer than the words over it need; refused, it leaves the length of layer 0. So one index far up takes the words below it too: 136,348,160 bytes for the last one, 1,073,741,823.
+    /// It needs no memory where the word at position `id / 64` lies in `layer0_as_slice`, so for no index that is
+    /// there. Else it makes that slice as long as this word needs and no longer, and those of the layers above no
+    /// longer than the words over it need; refused, it leaves the length of layer 0. So one index far up takes the
+    /// words below it too: 136,348,160 bytes for the last one, 1,073,741,823.
     #[inline]
     pub fn add(&mut self, id: Index) -> Result<bool, AllocError>
         requires { id < MAX_EID }
@@ -168,7 +182,8 @@ impl BitSet {
         self.put(id, false)
     }
 
-    /// Takes all members out, and gives up the words: the four slices have length 0 then. The memory is kept for words to come, but no contract says that it is enough, so an addition may be refused memory again.
+    /// Takes all members out, and gives up the words: the four slices have length 0 then. The memory is kept for words
+    /// to come, but no contract says that it is enough, so an addition may be refused memory again.
     pub fn clear(&mut self)
         ensures empty { (i : ℕ) → has self.new i ≡ false }
         ensures lengths { (l : ℕ) → l < LAYERS - 1 → slice_len self.new l ≡ 0 }
@@ -176,7 +191,8 @@ impl BitSet {
         self.layers.clear();
     }
 
-    /// The words of layer 0, at least as many as the members need. Past the end all are 0. `from_words` makes the set of them again.
+    /// The words of layer 0, at least as many as the members need. Past the end all are 0. `from_words` makes the set
+    /// of them again.
     #[inline]
     pub fn layer0_as_slice(&self) -> &[usize]
         ensures members { (i : ℕ) → has self.now i ≡ stands_in result.now i }

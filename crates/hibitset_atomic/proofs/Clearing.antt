@@ -40,7 +40,8 @@ none_under_top w q exact single off = zero_if (w 2 q) (λ some.
       | inr past ↦ (let none = single (q / 64) past in let here = rw none at bit in let zero = bit_at-zero (q % 64) in omega (arith, here, zero))
     ])
 
--- One block more: w before, v after. `left` are the bits that are still to be visited, and `later` those after this one.
+-- One block more: w before, v after. `left` are the bits that are still to be visited, and `later` those after this
+-- one.
 module _ (w v : ℕ → ℕ → ℕ) (q bit left later : ℕ) (below : bit < 64) (same : (b : ℕ) → b < 64 → b ≢ bit → bit_at later b ≡ bit_at left b)
     (layer2 : (k : ℕ) → v 2 k ≡ w 2 k) (layer1 : v 1 (64 * q + bit) ≡ 0) (others : (k : ℕ) → k ≢ 64 * q + bit → v 1 k ≡ w 1 k)
     (inside : (p : ℕ) → p / 64 ≡ 64 * q + bit → v 0 p ≡ 0) (outside : (p : ℕ) → p / 64 ≢ 64 * q + bit → v 0 p ≡ w 0 p) where

@@ -102,7 +102,8 @@ pub record SetsBit (before x bit below : ℕ) : Type 0 where
 pub sets_bit : {before x bit below : ℕ} → ((b : ℕ) → b < 64 → b ≢ bit → bit_at x b ≡ bit_at before b) → bit_at x bit ≡ bit_of (not (below == 0)) → SetsBit before x bit below
 sets_bit same here = record { same = same; here = here }
 
--- the word of an upper layer is put in, with the bit that tells whether the word below is 0, one layer over what was put in so far
+-- the word of an upper layer is put in, with the bit that tells whether the word below is 0, one layer over what was
+-- put in so far
 pub over_up : {q : ℕ} {old : ℕ → ℕ → ℕ} {xs : List ℕ} {place x before bit below : ℕ} (k : ℕ) (bottom : ℕ → ℕ) (upper : List (List ℕ)) → MendedUpTo k old (word_over bottom upper) q → k < length upper → Puts (get_or upper k []) xs place x
     → place < length (get_or upper k []) → before ≡ get_or (get_or upper k []) place before → SetsBit before x bit below → q / 64 ^ (k + 1) ≡ place → q / 64 ^ k % 64 ≡ bit → word_over bottom upper k (q / 64 ^ k) ≡ below
     → MendedUpTo (k + 1) old (word_over bottom (set upper k xs)) q

@@ -8,8 +8,10 @@ use Rattle.std.proofs.lemmas.List.Concat.{flat_map-cons}
 twice : (m : ℕ) → 2 ^ (suc m + 1) ≡ 2 ^ (m + 1) * 2
 twice m = let e : suc m + 1 ≡ suc (m + 1) = omega arith in ap (λ k. 2 ^ k) e ∙ pow-suc 2 (m + 1)
 
--- A part of the second half is cut off, and the rest of that half goes back to the first: one load for each halving, but none for the last.
--- h is the half, k how many shares are cut off; before: the loads of the seat; kept and cut: those of the two halves of the half
+-- A part of the second half is cut off, and the rest of that half goes back to the first: one load for each halving,
+-- but none for the last.
+-- h is the half, k how many shares are cut off; before: the loads of the seat; kept and cut: those of the two halves of
+-- the half
 pub loads-cut_of_second : (w h k before kept cut joined : ℕ) → h ≡ w / 2 → 0 < k → k < h → joined ≡ before + kept + 1
     → ((m : ℕ) → h ≤ 2 ^ (m + 1) → (kept + cut ≤ m) × (cut ≤ m))
     → (n : ℕ) → w ≤ 2 ^ (n + 1) → (joined + cut ≤ before + n) × (cut ≤ n)

@@ -43,7 +43,8 @@ HasNear set i = (j : ℕ) × (j / 4096 ≡ i / 4096) × (has set j ≡ true)
 abbrev pub HasNoNear : AtomicBitSet → ℕ → Type 0
 HasNoNear set i = (j : ℕ) → has set j ≡ true → j / 4096 ≢ i / 4096
 
--- The block of 4,096 indices that has the number is not made, so that an addition there needs memory. Where some member is near, it is made.
+-- The block of 4,096 indices that has the number is not made, so that an addition there needs memory. Where some member
+-- is near, it is made.
 unfoldable pub LacksBlock : AtomicBitSet → ℕ → Type 0
 LacksBlock set i = IsUnmade set.layers.layer0 (i / 4096)
 

@@ -6,7 +6,8 @@ use Rattle.hibitset_atomic.specs.declared.atomic.TheConstants.{ATOMIC_MAX_EID}
 
 -- U is what is iterated over, S its iterator and A an item, of which `number` reads the index.
 module _ {U S A : Type 0} (becomes : U → S → Type 0) (steps : S → Option A → S → Type 0) (number : A → ℕ) (iter : U) where
-  -- An item was refused with this error, after items that are all in range, and no item was drawn after it. Memory is refused only for an item with none before it in the same 4,096 indices.
+  -- An item was refused with this error, after items that are all in range, and no item was drawn after it. Memory is
+  -- refused only for an item with none before it in the same 4,096 indices.
   abbrev pub Refuses : BuildError → Type 0
   Refuses = RefusesBelow ATOMIC_MAX_EID becomes steps number iter (λ i j. i / 4096 ≢ j / 4096)
 
@@ -15,6 +16,7 @@ module _ {U S A : Type 0} (becomes : U → S → Type 0) (steps : S → Option A
     abbrev pub TakesAll : Type 0
     TakesAll = TakesAllBelow ATOMIC_MAX_EID becomes steps number iter old new
 
-    -- The items were added up to one that was refused with this error, and no item was drawn after it. Memory is refused only for an item that lacks its block then.
+    -- The items were added up to one that was refused with this error, and no item was drawn after it. Memory is
+    -- refused only for an item that lacks its block then.
     abbrev pub StopsAtRefused : (ℕ → Type 0) → BuildError → Type 0
     StopsAtRefused lacks_block = StopsAtRefusedBelow ATOMIC_MAX_EID becomes steps number iter old new lacks_block

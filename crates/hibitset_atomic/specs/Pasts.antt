@@ -50,13 +50,15 @@ has_passed (e ∷ past) layer index = passes past e layer index || has_passed pa
 abbrev pub is_there : (ℕ → Bool) → List Event → ℕ → Bool
 is_there old past index = old index || has_passed past 0 index
 
--- Words: bit b of the word at position p of a layer is bit 64 * p + b of the layer. A bit of a layer stands where an index under it is old or belongs to a call that has passed the layer.
+-- Words: bit b of the word at position p of a layer is bit 64 * p + b of the layer. A bit of a layer stands where an
+-- index under it is old or belongs to a call that has passed the layer.
 abbrev pub stands : (ℕ → Bool) → List Event → ℕ → ℕ → Bool
 stands old past layer bit = some_in (λ i. old i || has_passed past layer i) (bit * 64 ^ layer) (64 ^ layer)
 
 -- Walks
 
--- A walk: its items, the words that it has still to read as far as it knows them, in the order in which it reads them, and how many it has read.
+-- A walk: its items, the words that it has still to read as far as it knows them, in the order in which it reads them,
+-- and how many it has read.
 pub record Walk : Type 0 where
   pub items : List ℕ
   pub left : List Place
@@ -73,7 +75,8 @@ new_walk n = record { items = []; left = top_word n ∷ []; reads = 0 }
 abbrev pub bits : (ℕ → ℕ → Bool) → ℕ → ℕ → List ℕ
 bits standing layer position = members (standing layer) (64 * position) 64
 
--- A walk reads the first word that it has left: under each bit of a word above layer 0 lies a word that it has then to read, and the bits of a word of layer 0 are items.
+-- A walk reads the first word that it has left: under each bit of a word above layer 0 lies a word that it has then to
+-- read, and the bits of a word of layer 0 are items.
 abbrev pub read_word : (ℕ → ℕ → Bool) → List ℕ → ℕ → ℕ → ℕ → List Place → Walk
 read_word standing items reads zero position rest = record { items = items ++ bits standing 0 position; left = rest; reads = reads + 1 }
 read_word standing items reads (suc layer) position rest = record { items = items; left = places_in layer (bits standing (suc layer) position) ++ rest; reads = reads + 1 }

@@ -20,7 +20,8 @@ reason Ended = Some Ended
 reason Range = Some Range
 reason Memory = None
 
--- the first step of a call tells whether its index was old or written before it, and a later one how many layers the call has still to pass
+-- the first step of a call tells whether its index was old or written before it, and a later one how many layers the
+-- call has still to pass
 abbrev pub StepAnswer : ℕ → (ℕ → Bool) → List Event → Option Call → Reply → Type 0
 StepAnswer n old past None reply = ⊥
 StepAnswer n old past (Some call) (First there) = (call.passed ≡ 0) × (there ≡ is_there old past call.index)

@@ -1,5 +1,6 @@
 -- The rule of the shared set.
--- Its words lie in one row: layer 0, then layers 1, 2 and 3. Bit b of the word p is the mark 64 * p + b, so the marks below `ATOMIC_MAX_EID` are the indices.
+-- Its words lie in one row: layer 0, then layers 1, 2 and 3. Bit b of the word p is the mark 64 * p + b, so the marks
+-- below `ATOMIC_MAX_EID` are the indices.
 -- The mark `ATOMIC_MAX_EID` + p is the summary bit over the word p, whatever its layer.
 use Rattle.std.specs.Prelude.{◌≡◌, ◌⊎◌, ℕ, suc, zero, ◌+◌, ◌*◌, ◌/◌, ◌%◌, ◌^◌, ◌<◌, List, [], ◌∷◌, ◌++◌, length, slice_index, take, drop}
 use Rattle.std.specs.Int.{bit_at}

@@ -32,7 +32,8 @@ Known s i = (i < ATOMIC_MAX_EID) × Knows s.pass.me.0 i
 unfoldable pub Came : SharedBitSet → Seat → Type 0
 Came set s = (s.pass.table_id ≡ set.table.shared.table_id) × (s.pass.me.0.old ≡ set.table.shared.key.value.items) × Settled s.pass.me.0
 
--- A state of the set's words and of all its seats, dropped ones too, in which the rule holds and this seat is as it is now.
+-- A state of the set's words and of all its seats, dropped ones too, in which the rule holds and this seat is as it is
+-- now.
 abbrev pub IsStateOf : SharedBitSet → Seat → State (Unit {0}) View → Type 0
 IsStateOf set s = Seen (Holds set.table.shared.key.value.items) s.pass.id s.pass.me.0
 

@@ -19,7 +19,8 @@ use Rattle.hibitset_atomic.specs.Seats.{IsOld, Came, Known, weight_of, reports_o
 abbrev pub view_of : Seat → View
 view_of s = s.pass.me.0
 
--- The seat has seen the bit of this place, and each bit above it. The layer past the highest has one place, the root, over the highest layer's word, and no bits.
+-- The seat has seen the bit of this place, and each bit above it. The layer past the highest has one place, the root,
+-- over the highest layer's word, and no bits.
 pub record IsSeen (v : View) (place : Place) : Type 0 where
   pub layer : place.layer ≤ ATOMIC_LAYERS
   pub within : place.position < 64 ^ (ATOMIC_LAYERS - place.layer)
@@ -63,7 +64,8 @@ pub record Keeps (set : SharedBitSet) (old new : Seat) : Type 0 where
   pub seen : (m : ℕ) → Has (view_of old).seen m → Has (view_of new).seen m
   pub exchanged : exchanges_by new ≡ exchanges_by old
 
--- A walk that had made so many loads, with the places ps left, has come to the later count and the places qs without giving an item.
+-- A walk that had made so many loads, with the places ps left, has come to the later count and the places qs without
+-- giving an item.
 pub record Goes (set : SharedBitSet) (old new : Seat) (loads : ℕ) (ps : List Place) (later : ℕ) (qs : List Place) : Type 0 where
   pub keeps : Keeps set old new
   pub stands : MayStand (view_of new) later qs

@@ -1,4 +1,5 @@
--- What a contract sees of a world of the step core. Its past is the list of the events that it accepted, the newest first.
+-- What a contract sees of a world of the step core.
+-- Its past is the list of the events that it accepted, the newest first.
 use Rattle.std.specs.Prelude.{◌≡◌, ℕ, ◌/◌, ◌^◌, ◌<◌, Bool, true, option_map, Option, None, List, [], ◌∷◌, ◌++◌, Result, Ok, Err, reverse}
 use Rattle.hibitset_atomic.specs.declared.layers.TheConstants.{ATOMIC_LAYERS}
 use Rattle.hibitset_atomic.specs.declared.steps.event.Event.{Event}
@@ -50,7 +51,8 @@ refusal_of world = refusal ATOMIC_LAYERS (old_of world) (past_of world)
 abbrev pub AnswersTo : World → Event → Reply → Type 0
 AnswersTo world = Answers ATOMIC_LAYERS (old_of world) (past_of world)
 
--- What an event does: where it is accepted, it comes to the past and is answered, and where it is refused, for its reason or for want of memory, the past stays.
+-- What an event does: where it is accepted, it comes to the past and is answered, and where it is refused, for its
+-- reason or for want of memory, the past stays.
 abbrev pub Outcome : World → World → Event → Result Reply StepError → Type 0
 Outcome old new e (Ok reply) = (new.past.items ≡ old.past.items ++ e ∷ []) × (refusal_of old e ≡ None) × AnswersTo old e reply
 Outcome old new e (Err error) = (new.past.items ≡ old.past.items) × (refusal_of old e ≡ reason error)

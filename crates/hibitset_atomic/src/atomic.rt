@@ -19,7 +19,8 @@ pub const ATOMIC_MAX_EID: usize = 1 << (BITS * ATOMIC_LAYERS);
 
 /// A set of indices below `ATOMIC_MAX_EID`, kept as words in four layers, that can be shared between threads.
 ///
-/// A bit of a layer above the lowest stands exactly over a word that is not 0, at all times. The fifth layer, which every set has, is not kept: its one word is 1 where there is a member, and else 0.
+/// A bit of a layer above the lowest stands exactly over a word that is not 0, at all times. The fifth layer, which
+/// every set has, is not kept: its one word is 1 where there is a member, and else 0.
 #[derive(Drop)]
 pub struct AtomicBitSet {
     pub(crate) layers: Layers,
@@ -107,7 +108,9 @@ impl AtomicBitSet {
 
     /// Adds an index below `ATOMIC_MAX_EID`, and tells whether it was there. Where memory is refused the members stay.
     ///
-    /// It needs no memory where some member `j` has the same `j / 4096`, nor where the block of those 4,096 indices was made before: once made it stays. It makes no other block. A set that `settle` made has room for all blocks, and needs memory for none.
+    /// It needs no memory where some member `j` has the same `j / 4096`, nor where the block of those 4,096 indices was
+    /// made before: once made it stays. It makes no other block. A set that `settle` made has room for all blocks, and
+    /// needs memory for none.
     #[inline]
     pub fn add(&mut self, id: Index) -> Result<bool, AllocError>
         requires { id < ATOMIC_MAX_EID }

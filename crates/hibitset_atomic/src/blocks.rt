@@ -8,9 +8,11 @@ use std::alloc::{AllocError, Global};
 /// How many blocks there can be.
 const BLOCKS: usize = 4_096;
 
-/// 262,144 words in blocks of 64, each of which is made when it is first needed. The words of blocks that are not made are 0.
+/// 262,144 words in blocks of 64, each of which is made when it is first needed. The words of blocks that are not made
+/// are 0.
 ///
-/// One vector has all blocks, so a block is a request for memory only where the vector has to grow. Its first block has no bits: there the places of blocks that are not made lie, and reading needs no test.
+/// One vector has all blocks, so a block is a request for memory only where the vector has to grow. Its first block has
+/// no bits: there the places of blocks that are not made lie, and reading needs no test.
 #[derive(Drop)]
 pub(crate) struct Blocks {
     pub(crate) places: Vec<u16>,
@@ -80,7 +82,8 @@ impl Blocks {
         }
     }
 
-    // Makes a block that is not there. It is apart from `make`, so that a call of `add` that needs no block tests one place alone.
+    // Makes a block that is not there. It is apart from `make`, so that a call of `add` that needs no block tests one
+    // place alone.
     #[inline(never)]
     fn make_new(&mut self, block: usize) -> Result<(), AllocError>
         requires block { block < 4096 }

@@ -33,7 +33,9 @@ impl Extendable for AtomicBitSet {
 impl AtomicBitSet {
     /// Adds the items of an iterator, each of which is to be below `ATOMIC_MAX_EID`.
     ///
-    /// It stops at the first item that is not, and where memory is refused: then the set has its old members and the items before that one, and no later item is drawn. Memory is refused only for an item whose block of 4,096 indices is not made, and no block is made but those of members. It is `Extend` of the original.
+    /// It stops at the first item that is not, and where memory is refused: then the set has its old members and the
+    /// items before that one, and no later item is drawn. Memory is refused only for an item whose block of 4,096
+    /// indices is not made, and no block is made but those of members. It is `Extend` of the original.
     pub fn extend_indices<U: IntoIterator<Item = Index>>(
         &mut self,
         iter: U,
@@ -63,7 +65,10 @@ impl AtomicBitSet {
 
     /// A set of the items of an iterator, each of which is to be below `ATOMIC_MAX_EID`.
     ///
-    /// It stops at the first item that is not, and where memory is refused: then no later item is drawn. Memory is refused only for an item with none before it in the same 4,096 indices. Where there is no memory for the empty set itself, the error is `Memory` at place 0, whatever the items are, and none is drawn. It is `FromIterator` of the original.
+    /// It stops at the first item that is not, and where memory is refused: then no later item is drawn. Memory is
+    /// refused only for an item with none before it in the same 4,096 indices. Where there is no memory for the empty
+    /// set itself, the error is `Memory` at place 0, whatever the items are, and none is drawn. It is `FromIterator` of
+    /// the original.
     pub fn from_indices<U: IntoIterator<Item = Index>>(
         alloc: Global,
         iter: U,

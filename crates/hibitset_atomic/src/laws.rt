@@ -17,7 +17,12 @@ use hibitset_base::util::LAYERS;
 
 /// The laws of all atomic sets held alone. The call does nothing, and its contract says them.
 ///
-/// No number past the range is a member. Summaries are exact, so that no part that a split gives is empty. The words of an intersection lie within those of each operand, so by the clause `bound` of `iter` a walk over `BitSetAnd` of two atomic sets, or of references to them, reads at most four words of each for every member of the smaller one, and the top. The same holds beside a set of any other type, on either side of it. The words of the four layers that are kept are exact alone. Past its positions each layer has words that are 0: layer 0 has 262,144 positions, and each layer above it a 64th of those below.
+/// No number past the range is a member. Summaries are exact, so that no part that a split gives is empty. The words of
+/// an intersection lie within those of each operand, so by the clause `bound` of `iter` a walk over `BitSetAnd` of two
+/// atomic sets, or of references to them, reads at most four words of each for every member of the smaller one, and the
+/// top. The same holds beside a set of any other type, on either side of it. The words of the four layers that are kept
+/// are exact alone. Past its positions each layer has words that are 0: layer 0 has 262,144 positions, and each layer
+/// above it a 64th of those below.
 pub fn atomic_laws()
     ensures within { (set : AtomicBitSet) (i : ℕ) → has set i ≡ true → i < ATOMIC_MAX_EID }
     ensures exact { (set : AtomicBitSet) → IsExact LAYERS (topped_word set) × AreWords (topped_word set) }
@@ -29,7 +34,13 @@ pub fn atomic_laws()
 
 /// The laws of every world, whatever has happened to it. The call does nothing, and its contract says them.
 ///
-/// Each walk is honest: its items ascend, each was old or written when it was read, and once the walk has ended it has every index that was old or whose call had ended before the walk began. It reads next the word under the first bit that it has left, in the lowest layer; each word after its first is not 0; and it has read at most 3k + 1 words where it has ended, and 3k + 3 where it has not, k the number of its items. No number from `ATOMIC_MAX_EID` on is old or written. A summary bit never stands over a word that is 0, and at rest summaries are exact. Each index that is written and was not old was reported new once, and no other ever, so the old set are the members that no call reported new.
+/// Each walk is honest: its items ascend, each was old or written when it was read, and once the walk has ended it has
+/// every index that was old or whose call had ended before the walk began. It reads next the word under the first bit
+/// that it has left, in the lowest layer; each word after its first is not 0; and it has read at most 3k + 1 words
+/// where it has ended, and 3k + 3 where it has not, k the number of its items. No number from `ATOMIC_MAX_EID` on is
+/// old or written. A summary bit never stands over a word that is 0, and at rest summaries are exact. Each index that
+/// is written and was not old was reported new once, and no other ever, so the old set are the members that no call
+/// reported new.
 pub fn world_laws()
     ensures honest { (world : World) → WalksAreHonest world }
     ensures lowest { (world : World) → LowestIsRead world }

@@ -11,7 +11,8 @@ use std::alloc::{AllocError, Global};
 /// Number of layers of an atomic set.
 pub(crate) const ATOMIC_LAYERS: usize = 4;
 
-/// The words of an atomic set. A set with one member takes some 42 KB: 32,768 bytes for layer 1, 8,192 for the places of the blocks, and two blocks of 512.
+/// The words of an atomic set. A set with one member takes some 42 KB: 32,768 bytes for layer 1, 8,192 for the places
+/// of the blocks, and two blocks of 512.
 ///
 /// It says nothing of summaries: an `AtomicBitSet` has these words with exact summaries.
 #[derive(Drop)]
@@ -76,7 +77,8 @@ impl Layers {
         self.layer0.make_room()
     }
 
-    // Makes the word of layer 2 at a place 0, and all words under it. It goes by the bits, and only to words that are not 0.
+    // Makes the word of layer 2 at a place 0, and all words under it. It goes by the bits, and only to words that are
+    // not 0.
     fn clear_under(&mut self, place: usize)
         requires place { place < 64 }
         requires covered { IsCovered (layer_word self.old) }
@@ -156,7 +158,8 @@ impl Layers {
         self.layer0.make(place)
     }
 
-    /// Puts a word into a block of layer 0 in the place of the word `before`, and sets the summaries over it right, as far up as one turns from 0 or to 0.
+    /// Puts a word into a block of layer 0 in the place of the word `before`, and sets the summaries over it right, as
+    /// far up as one turns from 0 or to 0.
     #[inline]
     pub(crate) fn put_word(&mut self, place: usize, before: usize, word: usize)
         requires made { IsMade self.old.layer0 place }
@@ -199,7 +202,8 @@ impl Layers {
         }
     }
 
-    /// Sets a bit of a word, and tells the word as it was. Nothing else changes, no summary either; where memory is refused, nothing does.
+    /// Sets a bit of a word, and tells the word as it was. Nothing else changes, no summary either; where memory is
+    /// refused, nothing does.
     pub(crate) fn fetch_or(
         &mut self,
         layer: usize,

@@ -1,6 +1,9 @@
 //! A set that threads add to.
 //!
-//! `AtomicBitSet::share` gives the set and a seat; `divide` gives seats for further threads, each of which adds and asks with its own; `join` puts seats together, and `settle` ends it. A call on the shared set takes no lock and tries nothing again: it makes at most eleven atomic steps, each of them sequentially consistent. Loads and exchanges are counted where the words are touched, and its seat tells how many it has made (`loads_by`, `exchanges_by`).
+//! `AtomicBitSet::share` gives the set and a seat; `divide` gives seats for further threads, each of which adds and
+//! asks with its own; `join` puts seats together, and `settle` ends it. A call on the shared set takes no lock and
+//! tries nothing again: it makes at most eleven atomic steps, each of them sequentially consistent. Loads and exchanges
+//! are counted where the words are touched, and its seat tells how many it has made (`loads_by`, `exchanges_by`).
 
 ghost use Rattle.std.specs.Prelude.{◌≡◌, ◌≢◌, ℕ, ◌+◌, ◌-◌, ◌*◌, ◌/◌, ◌<◌, ◌≤◌, ◌⊎◌, true, false, [], ◌∷◌, ◌++◌, length, slice_index, nat_eq, Contains, IsOk, IfOk, IfSome, IsNone, IfErr, ◌↔◌};
 ghost use Rattle.std.specs.Slots.{slots_items, slots_len, IsFull};
@@ -82,9 +85,12 @@ fn fill(closed: &Closed<(), Global>, set: &mut AtomicBitSet)
 }
 
 impl AtomicBitSet {
-    /// Hands the set over to many threads: the set that they add to, and its opening seat. The indices that were members are old from then on.
+    /// Hands the set over to many threads: the set that they add to, and its opening seat. The indices that were
+    /// members are old from then on.
     ///
-    /// The opening seat has all shares, weight `SHARES`, no reports, and knows nothing. All words of the four layers are made here, 2 MB, so that no call on the shared set needs memory until `settle`. Where that memory is refused, the set comes back unchanged.
+    /// The opening seat has all shares, weight `SHARES`, no reports, and knows nothing. All words of the four layers
+    /// are made here, 2 MB, so that no call on the shared set needs memory until `settle`. Where that memory is
+    /// refused, the set comes back unchanged.
     #[tactic(auto, unfolding(crate::specs::Seats::Came, crate::specs::Seats::Known, crate::specs::Seats::IsOld, crate::specs::Seats::weight_of, crate::specs::Seats::reports_of, crate::specs::Seats::loads_by, crate::specs::Seats::exchanges_by))]
     pub fn share(self) -> Result<(SharedBitSet, Seat), AtomicBitSet>
         ensures back { IfErr result (λ set. set ≡ self) }
@@ -112,11 +118,17 @@ impl AtomicBitSet {
 }
 
 impl SharedBitSet {
-    /// Adds an index below `ATOMIC_MAX_EID`, and tells whether it was there, as `AtomicBitSet::add_atomic` of the original does, which takes no seat.
+    /// Adds an index below `ATOMIC_MAX_EID`, and tells whether it was there, as `AtomicBitSet::add_atomic` of the
+    /// original does, which takes no seat.
     ///
-    /// It answers false exactly where its own exchange put the index in, which is then the newest of the seat's reports. It never does so for an index that was there before `share`; and no two seats that are joined have a report in common, as `join` says. When it returns, the seat knows the index: all four bits on the way to it stand, and stay.
+    /// It answers false exactly where its own exchange put the index in, which is then the newest of the seat's
+    /// reports. It never does so for an index that was there before `share`; and no two seats that are joined have a
+    /// report in common, as `join` says. When it returns, the seat knows the index: all four bits on the way to it
+    /// stand, and stay.
     ///
-    /// It reads those four bits first, and where they stand, as for an index that is old or known to the seat, it writes nothing and answers true. Else it exchanges in layer 0, and above it, from the lowest up, in each layer whose bit does not stand yet: seven loads and four exchanges at most. It takes no memory and waits for nobody.
+    /// It reads those four bits first, and where they stand, as for an index that is old or known to the seat, it
+    /// writes nothing and answers true. Else it exchanges in layer 0, and above it, from the lowest up, in each layer
+    /// whose bit does not stand yet: seven loads and four exchanges at most. It takes no memory and waits for nobody.
     #[inline]
     #[tactic(auto, unfolding(crate::specs::Seats::Came, crate::specs::Seats::Known, crate::specs::Seats::IsOld, crate::specs::Seats::weight_of, crate::specs::Seats::reports_of, crate::specs::Seats::loads_by, crate::specs::Seats::exchanges_by))]
     pub fn add_atomic(&self, seat: &mut Seat, id: Index) -> bool
@@ -137,7 +149,8 @@ impl SharedBitSet {
         self.exchange(seat, id)
     }
 
-    // The exchanges, from layer 0 up, for an index that is neither old nor known to the seat: that of layer 0 always, and above it those whose bits do not stand by then.
+    // The exchanges, from layer 0 up, for an index that is neither old nor known to the seat: that of layer 0 always,
+    // and above it those whose bits do not stand by then.
     #[inline(never)]
     #[tactic(auto, unfolding(crate::specs::Seats::Came, crate::specs::Seats::Known, crate::specs::Seats::IsOld, crate::specs::Seats::weight_of, crate::specs::Seats::reports_of, crate::specs::Seats::loads_by, crate::specs::Seats::exchanges_by))]
     fn exchange(&self, seat: &mut Seat, id: Index) -> bool
@@ -160,7 +173,9 @@ impl SharedBitSet {
 
     /// Tells whether an index is there, as `AtomicBitSet::contains` of the original does, which takes no seat.
     ///
-    /// It is true of each index from before `share`, and of each that the seat knows; of another it is true only where all four bits on the way to it were seen to stand, and the seat knows it from then on. It is false from `ATOMIC_MAX_EID` on. It makes at most four loads and writes nothing. It takes no memory and waits for nobody.
+    /// It is true of each index from before `share`, and of each that the seat knows; of another it is true only where
+    /// all four bits on the way to it were seen to stand, and the seat knows it from then on. It is false from
+    /// `ATOMIC_MAX_EID` on. It makes at most four loads and writes nothing. It takes no memory and waits for nobody.
     #[inline]
     #[tactic(auto, unfolding(crate::specs::Seats::Came, crate::specs::Seats::Known, crate::specs::Seats::IsOld, crate::specs::Seats::weight_of, crate::specs::Seats::reports_of, crate::specs::Seats::loads_by, crate::specs::Seats::exchanges_by))]
     pub fn contains(&self, seat: &mut Seat, id: Index) -> bool
@@ -180,9 +195,11 @@ impl SharedBitSet {
             && self.stands(&mut seat.pass, mark_of(id, 3))
     }
 
-    /// Makes two seats of one: of weight w, the first has weight w - w / 2 and the second w / 2, rounded down. There is no second exactly where w is 1.
+    /// Makes two seats of one: of weight w, the first has weight w - w / 2 and the second w / 2, rounded down. There is
+    /// no second exactly where w is 1.
     ///
-    /// The reports stay with the first, and so does the count of its steps; both know what the seat knew. It makes no step, takes no memory and waits for nobody.
+    /// The reports stay with the first, and so does the count of its steps; both know what the seat knew. It makes no
+    /// step, takes no memory and waits for nobody.
     #[tactic(auto, unfolding(crate::specs::Seats::Came, crate::specs::Seats::Known, crate::specs::Seats::IsOld, crate::specs::Seats::weight_of, crate::specs::Seats::reports_of, crate::specs::Seats::loads_by, crate::specs::Seats::exchanges_by))]
     pub fn divide(&self, seat: Seat) -> (Seat, Option<Seat>)
         requires { Came self.now seat }
@@ -213,7 +230,8 @@ impl SharedBitSet {
 
     /// Makes one seat of two seats of this set: their weights, their reports and what they know, together.
     ///
-    /// No index is reported by both, none that was there before `share` is reported, and the weight is at most `SHARES`. It makes one load, takes no memory and waits for nobody.
+    /// No index is reported by both, none that was there before `share` is reported, and the weight is at most
+    /// `SHARES`. It makes one load, takes no memory and waits for nobody.
     #[tactic(auto, unfolding(crate::specs::Seats::Came, crate::specs::Seats::Known, crate::specs::Seats::IsOld, crate::specs::Seats::weight_of, crate::specs::Seats::reports_of, crate::specs::Seats::loads_by, crate::specs::Seats::exchanges_by))]
     pub fn join(&self, a: Seat, b: Seat) -> Seat
         requires { Came self.now a × Came self.now b }
@@ -240,11 +258,14 @@ impl SharedBitSet {
         }
     }
 
-    /// The set held alone again, with exact summaries. It has exactly the indices from before `share` and those that some seat of the set reported, this one or another: each that this seat knows or reported is one of them, and with a whole seat there are no reports but its own.
+    /// The set held alone again, with exact summaries. It has exactly the indices from before `share` and those that
+    /// some seat of the set reported, this one or another: each that this seat knows or reported is one of them, and
+    /// with a whole seat there are no reports but its own.
     ///
     /// There is room for all its blocks, so no `add` to it needs memory.
     ///
-    /// It is refused for memory alone, which it takes first: then both come back unchanged, and it can be called again. A seat that was dropped took its shares with it, so no seat is whole after that.
+    /// It is refused for memory alone, which it takes first: then both come back unchanged, and it can be called again.
+    /// A seat that was dropped took its shares with it, so no seat is whole after that.
     #[tactic(auto, unfolding(crate::specs::Seats::Came, crate::specs::Seats::Known, crate::specs::Seats::IsOld, crate::specs::Seats::weight_of, crate::specs::Seats::reports_of, crate::specs::Seats::loads_by, crate::specs::Seats::exchanges_by, crate::specs::Seats::HasAllReports, crate::specs::AtomicBitSet::has, crate::specs::AtomicBitSet::word_of, crate::specs::AtomicBitSet::HasAllRoom))]
     pub fn settle(self, seat: Seat) -> Result<AtomicBitSet, (SharedBitSet, Seat)>
         requires { Came self seat }
@@ -280,7 +301,8 @@ impl Seat {
         self.weight
     }
 
-    /// Tells whether the seat has all shares of its set, which are `SHARES`. A set that settles with such a seat has the old indices and this seat's reports, and no others.
+    /// Tells whether the seat has all shares of its set, which are `SHARES`. A set that settles with such a seat has
+    /// the old indices and this seat's reports, and no others.
     #[tactic(auto, unfolding(crate::specs::Seats::weight_of))]
     pub fn is_whole(&self) -> bool
         ensures yes { result ≡ true → weight_of self.now ≡ SHARES }

@@ -1,8 +1,11 @@
 //! The step core: additions and walks over one set that take turns in any order, one word each.
 //!
-//! A call that adds an index sets a bit in layer 0, then over it in layers 1, 2 and 3, one layer at a step. A walk reads one word at a time. Between two steps or reads any other call or walk may go on, so a list of events is an interleaving, and every interleaving is one.
+//! A call that adds an index sets a bit in layer 0, then over it in layers 1, 2 and 3, one layer at a step. A walk
+//! reads one word at a time. Between two steps or reads any other call or walk may go on, so a list of events is an
+//! interleaving, and every interleaving is one.
 //!
-//! What a world answers is said of its past, the list of events that it accepted. What holds of every past is the contract of [`world_laws`](crate::laws::world_laws).
+//! What a world answers is said of its past, the list of events that it accepted. What holds of every past is the
+//! contract of [`world_laws`](crate::laws::world_laws).
 ghost use Rattle.std.specs.Prelude.{◌≡◌, ℕ, true, false, Option, Some, None, cond, not, ◌==◌, ◌+◌, ◌-◌, ◌*◌, ◌/◌, ◌%◌, ◌^◌, ◌<◌, ◌≤◌, ◌↔◌, ◌||◌, ◌&&◌, IsTrue, [], ◌∷◌, ◌++◌, OnOk, OnErr, IfOk, IfErr, map, option_copied};
 ghost use Rattle.hibitset_atomic.specs.declared.atomic.TheConstants.{ATOMIC_MAX_EID};
 ghost use Rattle.hibitset_atomic.specs.LayerBits.{path_bit};
@@ -23,7 +26,8 @@ mod walks;
 pub use event::{Event, Reply, StepError};
 pub use state::World;
 
-/// The four bits that an addition of an index sets, from the lowest layer up. Each is told as its layer, the position of its word in the layer, and the word that has this bit alone.
+/// The four bits that an addition of an index sets, from the lowest layer up. Each is told as its layer, the position
+/// of its word in the layer, and the word that has this bit alone.
 ///
 /// The index is below `ATOMIC_MAX_EID`. It takes no memory.
 #[inline]
@@ -59,7 +63,8 @@ impl World {
     ghost use Rattle.hibitset_atomic.specs.Replies.{reason};
     ghost use Rattle.hibitset_atomic.specs.Worlds.{old_of, past_of, items_of, is_written, refusal_of, AnswersTo, Outcome, IsResting, WholePathStands};
 
-    /// A world of this set, in which nothing has happened: the set's members are the old indices, no call has begun, and no walk.
+    /// A world of this set, in which nothing has happened: the set's members are the old indices, no call has begun,
+    /// and no walk.
     ///
     /// It takes no memory. From `alloc` comes what the world keeps of its past, its calls and its walks.
     pub fn new(alloc: Global, set: AtomicBitSet) -> World
@@ -78,12 +83,20 @@ impl World {
 
     /// One event happens and is answered, or it is refused. One that happens comes to the past, and the old set stays.
     ///
-    /// - `Begin` touches no word and answers `Begun`. It is refused as `Used` where a call has the number, then as `Range` where the index is not below `ATOMIC_MAX_EID`.
-    /// - `Step` sets the bit of the call's next layer, from the lowest up. The first answers `First`, which tells whether the index was old or written before, and the next three answer `Path` with the number of layers that the call has still to pass. It is refused as `Unknown` where no call has the number, and as `Ended` where the call has passed all four layers.
+    /// - `Begin` touches no word and answers `Begun`. It is refused as `Used` where a call has the number, then as
+    ///   `Range` where the index is not below `ATOMIC_MAX_EID`.
+    /// - `Step` sets the bit of the call's next layer, from the lowest up. The first answers `First`, which tells
+    ///   whether the index was old or written before, and the next three answer `Path` with the number of layers that
+    ///   the call has still to pass. It is refused as `Unknown` where no call has the number, and as `Ended` where the
+    ///   call has passed all four layers.
     /// - `Open` reads no word and answers `Opened`. It is refused as `Used` where a walk has the number.
-    /// - `Read` reads one word: first that of layer 3, then always the one under the first bit in the lowest layer, among the bits above layer 0 that the walk has read and not gone under. The bits of a word of layer 0 become items. It answers `Word` with the word, and whether no bit is left to go under. It is refused as `Unknown` where no walk has the number, and as `Ended` where nothing is left.
+    /// - `Read` reads one word: first that of layer 3, then always the one under the first bit in the lowest layer,
+    ///   among the bits above layer 0 that the walk has read and not gone under. The bits of a word of layer 0 become
+    ///   items. It answers `Word` with the word, and whether no bit is left to go under. It is refused as `Unknown`
+    ///   where no walk has the number, and as `Ended` where nothing is left.
     ///
-    /// Numbers of calls and of walks are apart. Last of all tests, every event that needs memory which is refused answers `Memory`. After a refusal all is as it was.
+    /// Numbers of calls and of walks are apart. Last of all tests, every event that needs memory which is refused
+    /// answers `Memory`. After a refusal all is as it was.
     pub fn apply(&mut self, event: Event) -> Result<Reply, StepError>
         ensures appended { OnOk result (past_of self.new ≡ event ∷ past_of self.old) }
         ensures accepted { OnOk result (refusal_of self.old event ≡ None) }
@@ -212,7 +225,8 @@ impl World {
         self.calls.all_passed(4)
     }
 
-    /// Takes the set out of a world at rest: its members are the old indices and those that were written, and its summaries are exact.
+    /// Takes the set out of a world at rest: its members are the old indices and those that were written, and its
+    /// summaries are exact.
     ///
     /// It takes no memory. `is_at_rest` is the test for the condition.
     pub fn settle(self) -> AtomicBitSet
@@ -233,7 +247,8 @@ impl World {
         (self.layers.word(layer, place) >> bit) & 1 == 1
     }
 
-    /// Tells whether the whole path of an index stands: in each of the four layers the bit that `path` tells. So it is after each addition of the index has ended, and it may be before that, by other calls.
+    /// Tells whether the whole path of an index stands: in each of the four layers the bit that `path` tells. So it is
+    /// after each addition of the index has ended, and it may be before that, by other calls.
     ///
     /// The index is below `ATOMIC_MAX_EID`. It is no event, and takes no memory.
     pub fn stands(&self, id: Index) -> bool

@@ -34,7 +34,8 @@ fn set_of(alloc: Global, ids: &[Index]) -> Result<AtomicBitSet, AllocError> {
     Ok(set)
 }
 
-// The functions below compare for many tests: a comparison in a test makes the proof of all that follows there longer, and a call of one of these hardly does.
+// The functions below compare for many tests: a comparison in a test makes the proof of all that follows there longer,
+// and a call of one of these hardly does.
 
 // Sees that a walk over a set gives these indices.
 fn assert_members<T: BitSetLike>(

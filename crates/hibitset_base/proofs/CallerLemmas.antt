@@ -57,7 +57,8 @@ after_first bound p q x rest e without =
     (λ i after below. others_stay (p i) (q i) i x after (without i)) in
     cc
 
--- A set with no number from the bound on, as `laws` says of every set by `within`, has none at all where no member is left.
+-- A set with no number from the bound on, as `laws` says of every set by `within`, has none at all where no member is
+-- left.
 pub none_at_all : (bound : ℕ) (p : ℕ → Bool) → ((i : ℕ) → p i ≡ true → i < bound) → members_below bound p ≡ [] → (i : ℕ) → p i ≡ false
 none_at_all bound p within e i = false_from_ne_true (p i) (λ here. let no = none_below bound p e i (within i here) in cc)
 

@@ -43,7 +43,8 @@ members_in_range bound p start end = elim (cases_lt start (min end bound)) [
       empty ∙ sym (ap (members p start) nothing ∙ members-none p start 0 (λ i from below. absurd (omega (arith, from, below))))
 ]
 
--- Of the n numbers from a on, x is the one at place k: so many members come before it, and the list from that place on are the members from x on.
+-- Of the n numbers from a on, x is the one at place k: so many members come before it, and the list from that place on
+-- are the members from x on.
 record Stands_at (p : ℕ → Bool) (a n k x : ℕ) : Type 0 where
   pub from : a ≤ x
   pub within : x < a + n

@@ -1,4 +1,5 @@
--- Members before an index, from the top layer down; members of a range, from the lowest layer up; and the one at a place of their list.
+-- Members before an index, from the top layer down;
+-- members of a range, from the lowest layer up; and the one at a place of their list.
 use Rattle.std.proofs.Common.{◌≡◌, ◌≢◌, ℕ, zero, suc, ◌+◌, ◌-◌, ◌*◌, ◌/◌, ◌%◌, ◌^◌, ◌<◌, ◌≤◌, Bool, cond, List, [], ◌∷◌, ◌++◌, length, Some, refl, sym, ◌∙◌, ap, ap₂, lit<, arith, length-append}
 use Rattle.std.specs.Prelude.{slice_get}
 use Rattle.std.specs.Int.{bit_at}
@@ -104,7 +105,8 @@ cut_row p z a d e =
     let next : a * z + d * z ≡ (a + d) * z = omega arith in
     ap (members p (a * z)) sum ∙ (members-append p (a * z) (d * z) (e * z) ∙ ap (λ s. members p (a * z) (d * z) ++ members p s (e * z)) next)
 
--- The positions of layer l from one on before another, which lie in different words: those of the first word, those of the words between, which are positions of the layer above, and those of the last word.
+-- The positions of layer l from one on before another, which lie in different words: those of the first word, those of
+-- the words between, which are positions of the layer above, and those of the last word.
 module _ (p : ℕ → Bool) (l from to first last : ℕ) (apart : from / 64 < (to - 1) / 64) (first-is : first ≡ (from + 63) / 64) (last-is : last ≡ to / 64) where
   parts_of_row : members p (from * 64 ^ l) ((to - from) * 64 ^ l)
       ≡ members p (from * 64 ^ l) ((64 * first - from) * 64 ^ l) ++ (members p (first * 64 ^ (l + 1)) ((last - first) * 64 ^ (l + 1)) ++ members p (64 * last * 64 ^ l) ((to - 64 * last) * 64 ^ l))

@@ -1,4 +1,5 @@
--- Counts beside a set: they grow by a block, and tell how many members come before an index and in which block one lies.
+-- Counts beside a set:
+-- they grow by a block, and tell how many members come before an index and in which block one lies.
 use Rattle.std.proofs.Common.{◌≡◌, ℕ, ◌+◌, ◌-◌, ◌*◌, ◌^◌, ◌<◌, ◌≤◌, Bool, true, false, List, [], ◌∷◌, ◌++◌, length, min, nat_le, refl, sym, ◌∙◌, ap, ap₂, arith, inl, inr, get_or, length-append, None}
 use Rattle.std.specs.Prelude.{slice_get, slice_index_or}
 use Rattle.std.specs.List.Sorted.{IsPartitionedBy, IsPartitionPoint}

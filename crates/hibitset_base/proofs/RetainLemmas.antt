@@ -27,7 +27,8 @@ rest_after p a (suc n) x rest e = elim (true_or_false (p a)) [
       later ∙ ap (members p (suc x)) count
 ]
 
--- Each member before a number has got its answer, and what is left to look at are those from there on. No other number has changed.
+-- Each member before a number has got its answer, and what is left to look at are those from there on. No other number
+-- has changed.
 pub record RetainedTo (bound : ℕ) (answers : ℕ → Bool → Type 0) (old now : ℕ → Bool) (left : List ℕ) (from : ℕ) : Type 0 where
   pub upto : from ≤ bound
   pub left_is : left ≡ members old from (bound - from)

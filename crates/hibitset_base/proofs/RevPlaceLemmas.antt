@@ -12,7 +12,8 @@ unfolding rev_places
 rev-none m s zero none = refl
 rev-none m s (suc l) none = ap (λ xs. places_in l xs ++ rev_places m s l) (bits-none (s l) (m l) (none l (omega arith))) ∙ rev-none m s l (λ j below. none j (omega arith))
 
--- Two states that differ in one layer at most, with nothing below it: what is left above comes first, and then what is left in that layer.
+-- Two states that differ in one layer at most, with nothing below it: what is left above comes first, and then what is
+-- left in that layer.
 pub record DifferIn (m s m' s' : ℕ → ℕ) (l n : ℕ) : Type 0 where
   pub above : List Place
   pub old : rev_places m s n ≡ above ++ places_in l (bits_from (s l) (m l))

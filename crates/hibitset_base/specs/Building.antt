@@ -15,7 +15,8 @@ pub record AddsItemsBelow {A : Type 0} (range : ℕ) (number : A → ℕ) (old n
 abbrev pub place_after : ℕ → ℕ
 place_after count = min count (2 ^ 64 - 1)
 
--- The error tells of this item, after so many others: it is not in range, or else there was no memory for it, which only one that lacks room can need.
+-- The error tells of this item, after so many others: it is not in range, or else there was no memory for it, which
+-- only one that lacks room can need.
 abbrev pub IsRefusalBelow : ℕ → (ℕ → Type 0) → BuildError → ℕ → ℕ → Type 0
 IsRefusalBelow range lacks_room (OutOfRange place index) count item = (place ≡ place_after count) × (index ≡ item) × (range ≤ item)
 IsRefusalBelow range lacks_room (Memory place) count item = (place ≡ place_after count) × (item < range) × lacks_room item
@@ -31,7 +32,8 @@ text_of (Memory place) = codes "no memory for the index at place " ++ decimal pl
 
 -- U is what is iterated over, S its iterator and A an item, of which `number` reads the index.
 module _ {U S A : Type 0} (range : ℕ) (becomes : U → S → Type 0) (steps : S → Option A → S → Type 0) (number : A → ℕ) (iter : U) where
-  -- An item was refused with this error, after items that are all in range, and no item was drawn after it. Memory is refused only for an item that lies apart from all before it.
+  -- An item was refused with this error, after items that are all in range, and no item was drawn after it. Memory is
+  -- refused only for an item that lies apart from all before it.
   abbrev pub RefusesBelow : (ℕ → ℕ → Type 0) → BuildError → Type 0
   RefusesBelow lie_apart error = (it : S) × (items : List A) × (refused : A) × (rest : S) × becomes iter it × YieldsThen steps it items (Some refused) rest
       × All (λ x. number x < range) items × IsRefusalBelow range (λ i. All (λ x. lie_apart (number x) i) items) error (length items) (number refused)
@@ -41,7 +43,8 @@ module _ {U S A : Type 0} (range : ℕ) (becomes : U → S → Type 0) (steps : 
     abbrev pub TakesAllBelow : Type 0
     TakesAllBelow = (it : S) × (items : List A) × becomes iter it × Drains steps it items × AddsItemsBelow range number old new items
 
-    -- The items were added up to one that was refused with this error, and no item was drawn after it. Memory is refused only for an item that lacks room then.
+    -- The items were added up to one that was refused with this error, and no item was drawn after it. Memory is
+    -- refused only for an item that lacks room then.
     abbrev pub StopsAtRefusedBelow : (ℕ → Type 0) → BuildError → Type 0
     StopsAtRefusedBelow lacks_room error = (it : S) × (items : List A) × (refused : A) × (rest : S) × becomes iter it × YieldsThen steps it items (Some refused) rest
         × AddsItemsBelow range number old new items × IsRefusalBelow range lacks_room error (length items) (number refused)

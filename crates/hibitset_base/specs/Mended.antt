@@ -2,7 +2,8 @@
 use Rattle.std.specs.Prelude.{◌≡◌, ◌≢◌, ℕ, ◌+◌, ◌/◌, ◌%◌, ◌^◌, ◌<◌, ◌↔◌}
 use Rattle.std.specs.Int.{bit_at}
 
--- Words v and w are the same but on the way up from word q of layer 0, no higher than layer k, and each bit on the way up to there tells whether the word below it is 0.
+-- Words v and w are the same but on the way up from word q of layer 0, no higher than layer k, and each bit on the way
+-- up to there tells whether the word below it is 0.
 pub record MendedUpTo (k : ℕ) (w v : ℕ → ℕ → ℕ) (q : ℕ) : Type 0 where
   pub off : (l p : ℕ) → p ≢ q / 64 ^ l → v l p ≡ w l p
   pub above : (l p : ℕ) → k < l → v l p ≡ w l p

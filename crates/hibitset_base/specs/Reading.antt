@@ -6,7 +6,8 @@ use Rattle.hibitset_base.specs.Members.{members_below}
 use Rattle.hibitset_base.specs.Sets.{IsLawful, IsExact}
 use Rattle.hibitset_base.specs.Places.{Place, bits_from, items_of}
 
--- The words that are read to visit all that a place stands for, in the order in which they are read: none in layer 0, and above it the word at that position and then what is read under its bits.
+-- The words that are read to visit all that a place stands for, in the order in which they are read: none in layer 0,
+-- and above it the word at that position and then what is read under its bits.
 abbrev pub words_under : (ℕ → ℕ → ℕ) → ℕ → ℕ → List Place
 words_under word zero q = []
 words_under word (suc l) q = (record { layer = l; position = q }) ∷ flat_map (words_under word l) (bits_from (64 * q) (word l q))
@@ -27,7 +28,8 @@ abbrev pub depth : List Place → ℕ
 depth [] = 0
 depth (place ∷ _) = place.layer
 
--- A walk that had read so many words, with the places ps left, has come to the later count and the places qs without giving an item.
+-- A walk that had read so many words, with the places ps left, has come to the later count and the places qs without
+-- giving an item.
 pub record GoesOn (n : ℕ) (holds : ℕ → Bool) (word : ℕ → ℕ → ℕ) (reads : ℕ) (ps : List Place) (later : ℕ) (qs : List Place) : Type 0 where
   pub items : items_of holds qs ≡ items_of holds ps
   pub taken : List Place
@@ -51,7 +53,8 @@ LiesOver p place = (i : ℕ) × (p i ≡ true) × (i / 64 ^ (place.layer + 1) �
 abbrev pub words_in : ℕ → List Place → ℕ
 words_in l = count_by (λ place. place.layer == l)
 
--- These words lie over members of the set. In each layer there are at most as many as members, so below the top layer at most as many as members for each.
+-- These words lie over members of the set. In each layer there are at most as many as members, so below the top layer
+-- at most as many as members for each.
 pub record IsBoundBy (n : ℕ) (p : ℕ → Bool) (words : List Place) : Type 0 where
   pub over : All (LiesOver p) words
   pub each : (l : ℕ) → words_in l words ≤ length (members_below (64 ^ n) p)

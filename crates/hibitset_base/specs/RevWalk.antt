@@ -29,7 +29,8 @@ module _ {T : Type 0} where
   abbrev pub IsRevDrawn : (T → ℕ → ℕ → ℕ) → BitRevIter T → Type 0
   IsRevDrawn word walk = AllStand (word walk.set) (rev_left walk.cursor)
 
-  -- What a walk down keeps at each step: its set, how many words it reads in all, that it is drawn, and over exact summaries few reads.
+  -- What a walk down keeps at each step: its set, how many words it reads in all, that it is drawn, and over exact
+  -- summaries few reads.
   pub record RevKeepsOn (word : T → ℕ → ℕ → ℕ) (old new : BitRevIter T) : Type 0 where
     pub set : rev_set_of new ≡ rev_set_of old
     pub count : rev_words_read new + length (rev_words_ahead word new) ≡ rev_words_read old + length (rev_words_ahead word old)

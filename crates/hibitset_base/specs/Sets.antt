@@ -1,4 +1,6 @@
--- A set that is kept as words in n layers. Word p of layer l has bits for the positions 64 * p to 64 * p + 63 of that layer: in layer 0 these are indices, and above it words of the layer below.
+-- A set that is kept as words in n layers.
+-- Word p of layer l has bits for the positions 64 * p to 64 * p + 63 of that layer: in layer 0 these are indices, and
+-- above it words of the layer below.
 use Rattle.std.specs.Prelude.{◌≡◌, ℕ, ◌+◌, ◌-◌, ◌*◌, ◌/◌, ◌%◌, ◌^◌, ◌<◌, Bool, cond, ◌↔◌}
 use Rattle.std.specs.Int.{bit_at}
 
@@ -6,7 +8,8 @@ use Rattle.std.specs.Int.{bit_at}
 abbrev pub bit_of : Bool → ℕ
 bit_of b = cond b 1 0
 
--- Layer 0 has the set's bits, and over each word that is not 0, below the top layer, the bit in the layer above stands. Bits over a word that is 0 are allowed.
+-- Layer 0 has the set's bits, and over each word that is not 0, below the top layer, the bit in the layer above stands.
+-- Bits over a word that is 0 are allowed.
 pub record IsLawful (n : ℕ) (holds : ℕ → Bool) (word : ℕ → ℕ → ℕ) : Type 0 where
   pub members : (p b : ℕ) → p < 64 ^ (n - 1) → b < 64 → bit_at (word 0 p) b ≡ bit_of (holds (64 * p + b))
   pub summaries : (l p : ℕ) → l + 1 < n → p < 64 ^ (n - 1 - l) → 0 < word l p → bit_at (word (l + 1) (p / 64)) (p % 64) ≡ 1

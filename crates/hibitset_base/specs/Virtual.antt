@@ -16,7 +16,8 @@ differ false b = b
 abbrev pub all_ones : ℕ
 all_ones = 2 ^ 64 - 1
 
--- the words of the sets that are in one of two operands alone, not in the operand, and in all: above layer 0 they have bits wherever a member may be
+-- the words of the sets that are in one of two operands alone, not in the operand, and in all: above layer 0 they have
+-- bits wherever a member may be
 abbrev pub xor_word : (ℕ → ℕ → ℕ) → (ℕ → ℕ → ℕ) → ℕ → ℕ → ℕ
 xor_word v w zero p = bit_xor (v 0 p) (w 0 p)
 xor_word v w (suc l) p = bit_or (v (suc l) p) (w (suc l) p)

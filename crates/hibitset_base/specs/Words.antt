@@ -10,7 +10,8 @@ word_at layers l p = get_or (get_or layers l []) p 0
 abbrev pub holds_at : (ℕ → ℕ → ℕ) → ℕ → Bool
 holds_at word i = bit_at (word 0 (i / 64)) (i % 64) == 1
 
--- A bit above layer 0 stands over a word that is not 0, and over no other. With words that are 0 past their layer's end this may be said of every position.
+-- A bit above layer 0 stands over a word that is not 0, and over no other. With words that are 0 past their layer's end
+-- this may be said of every position.
 pub record IsSummed (n : ℕ) (word : ℕ → ℕ → ℕ) : Type 0 where
   pub summed : (l p b : ℕ) → l + 1 < n → b < 64 → (bit_at (word (l + 1) p) b ≡ 1) ↔ (0 < word l (64 * p + b))
 

@@ -35,7 +35,8 @@ fn tail_after(word: usize, bit: u32) -> usize
     word & (!1usize << bit)
 }
 
-// What is left of the word over an index, which lies at a place of a layer: in layer 0 the bits from the index's own on, and above it those after its own.
+// What is left of the word over an index, which lies at a place of a layer: in layer 0 the bits from the index's own
+// on, and above it those after its own.
 #[inline]
 fn left_over(layer: usize, word: usize, place: u32) -> usize
     ensures lowest { layer ≡ 0 → HasTail word (place % 64) result }
@@ -76,7 +77,8 @@ fn prefixes_over(from: Index) -> [u32; LAYERS]
     prefixes
 }
 
-// Reads the words over an index from the top layer down, as long as the bit over the index stands, and answers what is left of each.
+// Reads the words over an index from the top layer down, as long as the bit over the index stands, and answers what is
+// left of each.
 #[inline]
 fn tails_over<T: BitSetLike>(
     set: &T,

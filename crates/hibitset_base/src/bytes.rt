@@ -7,7 +7,8 @@ ghost use Rattle.hibitset_base.specs.Places.{bits_from};
 
 use crate::util::Index;
 
-// The positions of each byte's bits, ascending, in a row of eight: what follows the last is 0. They are as wide as the indices that are made of them, so that none has to be widened.
+// The positions of each byte's bits, ascending, in a row of eight: what follows the last is 0. They are as wide as the
+// indices that are made of them, so that none has to be widened.
 #[rattlefmt::skip]
 const BITS_OF: [Index; 2_048] = [
     0, 0, 0, 0, 0, 0, 0, 0,
@@ -268,7 +269,9 @@ const BITS_OF: [Index; 2_048] = [
     0, 1, 2, 3, 4, 5, 6, 7,
 ];
 
-// Writes the indices of a byte's bits into a buffer, from a place on, where the first is at `start`, and answers the place after them. It writes eight, so it may write past that place: the loop has no test and goes by vectors. Where the row begins has as many bits as the byte, and is at hand.
+// Writes the indices of a byte's bits into a buffer, from a place on, where the first is at `start`, and answers the
+// place after them. It writes eight, so it may write past that place: the loop has no test and goes by vectors. Where
+// the row begins has as many bits as the byte, and is at hand.
 #[inline]
 pub(crate) fn write_byte(buffer: &mut [Index], at: usize, start: Index, byte: u8) -> usize
     requires room { at + 8 ≤ length buffer.old }
@@ -283,7 +286,9 @@ pub(crate) fn write_byte(buffer: &mut [Index], at: usize, start: Index, byte: u8
     at + row.count_ones() as usize
 }
 
-// Puts the indices of a byte's bits, where the first is at `start`, at the end of a list with room for eight more. It writes eight and cuts what is too much, so the loop has no test and goes by vectors. The list is handed over and back, so that a loop has the place where it ends in a register.
+// Puts the indices of a byte's bits, where the first is at `start`, at the end of a list with room for eight more. It
+// writes eight and cuts what is too much, so the loop has no test and goes by vectors. The list is handed over and
+// back, so that a loop has the place where it ends in a register.
 #[inline]
 pub(crate) fn push_byte(list: Vec<Index>, start: Index, byte: u8) -> Vec<Index>
     requires room { length list.items + 8 ≤ vec_capacity list }

@@ -20,7 +20,8 @@ pub(crate) fn find_last<T: BitSetLike>(set: &T, reads: &mut Reads) -> Option<Ind
     step_last(set, &mut cursor, reads)
 }
 
-// The last member before an index. It begins with the word of layer 0 over the index, and goes up until a word has a bit before the index.
+// The last member before an index. It begins with the word of layer 0 over the index, and goes up until a word has a
+// bit before the index.
 fn find_last_before<T: BitSetLike>(set: &T, reads: &mut Reads, end: Index) -> Option<Index>
     requires { end < MAX_EID }
     ensures last { MatchOption result (HasNone end (T.holds set.now)) (IsLast end (T.holds set.now)) }

@@ -4,7 +4,8 @@ ghost use Rattle.std.specs.Prelude.{◌≡◌, ℕ};
 use crate::like::BitSetLike;
 use crate::virt::{BitSetAnd, BitSetNot, BitSetOr};
 
-/// The laws of De Morgan and of distribution, at every number, for any three sets. The call does nothing, and its contract says them.
+/// The laws of De Morgan and of distribution, at every number, for any three sets. The call does nothing, and its
+/// contract says them.
 pub fn virtual_laws<A: BitSetLike, B: BitSetLike, C: BitSetLike>()
     ensures not_and { (a : A) (b : B) (i : ℕ) → ⟦<BitSetNot<BitSetAnd<A, B>> as BitSetLike>⟧.holds (record { 0 = record { 0 = a; 1 = b } }) i
         ≡ ⟦<BitSetOr<BitSetNot<A>, BitSetNot<B>> as BitSetLike>⟧.holds (record { 0 = record { 0 = a }; 1 = record { 0 = b } }) i }

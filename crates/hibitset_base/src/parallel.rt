@@ -26,11 +26,13 @@ mod workers;
 
 pub use self::par_iter::BitParIter;
 
-/// A part of a walk over a set, which can be split, and the number of layers, from the top one on, that a split looks at; 0 acts as 1.
+/// A part of a walk over a set, which can be split, and the number of layers, from the top one on, that a split looks
+/// at; 0 acts as 1.
 #[derive(Debug, Drop)]
 pub struct BitProducer<'a, T: 'a + Send + Sync>(pub BitIter<&'a T>, pub u8);
 
-// Looks at one layer of a walk whose bits all lie there or in one layer below: cuts its bits in halves, of which the answer has the second, or reads the word under its one bit.
+// Looks at one layer of a walk whose bits all lie there or in one layer below: cuts its bits in halves, of which the
+// answer has the second, or reads the word under its one bit.
 fn look_at<'a, T: BitSetLike>(walk: &mut BitIter<&'a T>, layer: usize) -> Option<BitIter<&'a T>>
     requires layer { layer < LAYERS }
     requires above { 0 < layer }
@@ -77,7 +79,10 @@ fn divide<'a, T: BitSetLike>(walk: &mut BitIter<&'a T>, looks: usize) -> Option<
 impl<'a, T: BitSetLike + Send + Sync> BitProducer<'a, T> {
     /// Splits the work in two, the lower items and the higher ones. The number of layers to look at is at most 4.
     ///
-    /// Where more than one mask has bits, it answers none and the producer unchanged. Else it looks at the layers from the top one on: under one bit it goes down, and the first layer that has two bits or more is cut at its halving bit. Both parts then have as many bits left to visit, or the first one more. So it may answer none and still have gone down. How many items lie under each half is not said.
+    /// Where more than one mask has bits, it answers none and the producer unchanged. Else it looks at the layers from
+    /// the top one on: under one bit it goes down, and the first layer that has two bits or more is cut at its halving
+    /// bit. Both parts then have as many bits left to visit, or the first one more. So it may answer none and still
+    /// have gone down. How many items lie under each half is not said.
     pub fn split(self) -> (Self, Option<Self>)
         requires { self.1 < LAYERS }
         ensures items { part_items T.holds self.entry ≡ part_items T.holds result.0 ++ other_items T.holds result.1 }

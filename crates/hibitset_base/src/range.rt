@@ -19,7 +19,8 @@ pub(crate) fn low_ones(count: usize) -> usize
     }
 }
 
-// The word `place` of a layer, with the bits of the positions from `from` on before `to`. Most words of a long range have all bits, so that is asked first.
+// The word `place` of a layer, with the bits of the positions from `from` on before `to`. Most words of a long range
+// have all bits, so that is asked first.
 #[inline]
 fn bits_between(from: usize, to: usize, place: usize) -> usize
     ensures { result ≡ run_word from to place }
@@ -35,7 +36,9 @@ fn bits_between(from: usize, to: usize, place: usize) -> usize
 
 /// The indices from `start` on before `end`, as a set: `&set & range` has the members of a set within a range.
 ///
-/// It keeps no words. If `end` is not above `start` it is empty. It has numbers from `MAX_EID` on too, if `end` lies above; walks and counts stop below. Above layer 0 it has the bits over its indices, and if it is empty at most one phantom bit in a layer.
+/// It keeps no words. If `end` is not above `start` it is empty. It has numbers from `MAX_EID` on too, if `end` lies
+/// above; walks and counts stop below. Above layer 0 it has the bits over its indices, and if it is empty at most one
+/// phantom bit in a layer.
 #[derive(Debug, Clone, Copy)]
 pub struct BitSetRange {
     pub start: Index,

@@ -17,9 +17,11 @@ use std::alloc::{AllocError, Global};
 // Number of indices under a word of layer 1.
 const BLOCK: usize = 64 * 64;
 
-/// A set that stands still, with the number of members before each 4,096th index: for many calls of `rank` and `select`.
+/// A set that stands still, with the number of members before each 4,096th index: for many calls of `rank` and
+/// `select`.
 ///
-/// The counts take 4 bytes for each 4,096 indices up to the last member, which is 0.8 % of what the set takes. A set that changes can't have them: give it as a reference, and the borrow checker sees to it.
+/// The counts take 4 bytes for each 4,096 indices up to the last member, which is 0.8 % of what the set takes. A set
+/// that changes can't have them: give it as a reference, and the borrow checker sees to it.
 #[derive(Drop)]
 pub struct Ranked<T: BitSetLike> {
     set: T,
@@ -51,7 +53,8 @@ fn count_blocks<T: BitSetLike>(
 impl<T: BitSetLike> Ranked<T> {
     ghost use Rattle.hibitset_base.specs.Ranked.{counted_set, counts_len};
 
-    /// Counts the members of a set. It reads the words on the way to the last member, and then, for each 4,096 indices up to it, a word of layer 1 and the words under its bits. It makes one allocation, and fails only if that does.
+    /// Counts the members of a set. It reads the words on the way to the last member, and then, for each 4,096 indices
+    /// up to it, a word of layer 1 and the words under its bits. It makes one allocation, and fails only if that does.
     pub fn new(alloc: Global, set: T) -> Result<Ranked<T>, AllocError>
         ensures set { IfOk result (λ ranked. counted_set ranked ≡ set) }
         ensures small { IfOk result (λ ranked. counts_len ranked ≤ MAX_EID / block_size + 1) }
@@ -73,7 +76,8 @@ impl<T: BitSetLike> Ranked<T> {
         &self.set
     }
 
-    /// How many members lie before `end` and below `MAX_EID`, as `rank` of the set. It reads at most 64 words of layer 0, and one of layer 1.
+    /// How many members lie before `end` and below `MAX_EID`, as `rank` of the set. It reads at most 64 words of layer
+    /// 0, and one of layer 1.
     #[inline]
     pub fn rank(&self, end: Index) -> usize
         ensures { result ≡ length (members_below (min end MAX_EID) (T.holds (counted_set self.now))) }
@@ -99,7 +103,8 @@ impl<T: BitSetLike> Ranked<T> {
         )
     }
 
-    /// The member at a position of the ascending list of all, as `select` of the set, or `None` past its end. It finds the block by a binary search over the counts, and reads at most 64 words of layer 0, and one of layer 1.
+    /// The member at a position of the ascending list of all, as `select` of the set, or `None` past its end. It finds
+    /// the block by a binary search over the counts, and reads at most 64 words of layer 0, and one of layer 1.
     #[inline]
     pub fn select(&self, at: usize) -> Option<Index>
         ensures { result ≡ slice_get (members_below MAX_EID (T.holds (counted_set self.now))) at }

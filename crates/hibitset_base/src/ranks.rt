@@ -53,7 +53,8 @@ fn count_bits<T: BitSetLike>(set: &T, layer: usize, start: u32, word: usize) -> 
     count_left(set, &mut cursor, &mut Reads::none())
 }
 
-// How many members lie at the positions of a layer from one on before another, all in one word. It reads no word if there is no such position.
+// How many members lie at the positions of a layer from one on before another, all in one word. It reads no word if
+// there is no such position.
 #[inline]
 pub(crate) fn count_part<T: BitSetLike>(set: &T, layer: usize, from: u32, to: u32) -> usize
     requires layer { layer < LAYERS }
@@ -70,7 +71,8 @@ pub(crate) fn count_part<T: BitSetLike>(set: &T, layer: usize, from: u32, to: u3
     count_bits(set, layer, start, part(word, from % 64, to - start))
 }
 
-// How many members lie from `start` on before `end`. In each layer it counts what is left of the words at the two ends, and leaves the words between them to the layer above.
+// How many members lie from `start` on before `end`. In each layer it counts what is left of the words at the two ends,
+// and leaves the words between them to the layer above.
 pub(crate) fn count_range<T: BitSetLike>(set: &T, start: Index, end: Index) -> usize
     requires { end ≤ MAX_EID }
     ensures { result ≡ length (members (T.holds set.now) start (end - start)) }
@@ -114,7 +116,8 @@ fn nth_bit(start: Index, word: usize, at: usize) -> Option<Index>
     None
 }
 
-// The member at a place of those in the words of layer 0 under the bits of a word of layer 1, whose first bit is at `start`.
+// The member at a place of those in the words of layer 0 under the bits of a word of layer 1, whose first bit is at
+// `start`.
 #[inline]
 pub(crate) fn nth_under<T: BitSetLike>(set: &T, start: u32, word: usize, at: usize) -> Option<Index>
     requires aligned { start % 64 ≡ 0 }
@@ -134,7 +137,8 @@ pub(crate) fn nth_under<T: BitSetLike>(set: &T, start: u32, word: usize, at: usi
     None
 }
 
-// The member at a place of the list of all. It counts by words of layer 1, and looks at single words under the last of them alone.
+// The member at a place of the list of all. It counts by words of layer 1, and looks at single words under the last of
+// them alone.
 pub(crate) fn find_nth<T: BitSetLike>(set: &T, at: usize) -> Option<Index>
     ensures { result ≡ slice_get (members_below MAX_EID (T.holds set.now)) at }
 {

@@ -43,7 +43,8 @@ pub(crate) fn start_at_end<T: BitSetLike>(set: &T, reads: &mut Reads) -> RevCurs
     cursor
 }
 
-// Reads the word over an index in a layer, leaves its bits before the index to the walk, and returns whether the bit over the index is set.
+// Reads the word over an index in a layer, leaves its bits before the index to the walk, and returns whether the bit
+// over the index is set.
 #[inline]
 pub(crate) fn put_head<T: BitSetLike>(
     set: &T,
@@ -67,7 +68,8 @@ pub(crate) fn put_head<T: BitSetLike>(
     word >> (place % 64) & 1 == 1
 }
 
-// Reads the words over an index from the top layer down, as long as the bit over the index is set, and returns where a walk down begins that gives the members before it.
+// Reads the words over an index from the top layer down, as long as the bit over the index is set, and returns where a
+// walk down begins that gives the members before it.
 #[inline]
 fn start_before<T: BitSetLike>(set: &T, reads: &mut Reads, end: Index) -> RevCursor<LAYERS>
     requires { end < MAX_EID }

@@ -89,7 +89,8 @@ pub fn offsets(bit: Index) -> (usize, usize, usize, usize)
     )
 }
 
-/// The halving bit of a word: the set bit with exactly half of the set bits, rounded down, at or above it. None where fewer than two bits are set.
+/// The halving bit of a word: the set bit with exactly half of the set bits, rounded down, at or above it. None where
+/// fewer than two bits are set.
 #[inline]
 pub fn average_ones(n: usize) -> Option<usize>
     ensures { MatchOption result (count_ones n ≤ 1) (λ p. (1 < count_ones n) × IsHalvingBit n p) }

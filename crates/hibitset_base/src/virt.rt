@@ -1,6 +1,7 @@
 //! Sets that are made of other sets without copying. Each word is made of the operands' words when it is asked for.
 //!
-//! A bit above layer 0 may stand over a word that is 0 in `BitSetAnd`, `BitSetXor`, `BitSetNot` and whatever is built over them.
+//! A bit above layer 0 may stand over a word that is 0 in `BitSetAnd`, `BitSetXor`, `BitSetNot` and whatever is built
+//! over them.
 ghost use Rattle.std.specs.Prelude.{◌≡◌, ℕ, Bool, true, ◌==◌, ◌&&◌, ◌||◌, not, bit_and, bit_or, IfOk, IsOk};
 ghost use Rattle.hibitset_base.specs.Sets.{SameSet, ClonesToSame};
 ghost use Rattle.hibitset_base.specs.Virtual.{differ, xor_word, not_word, all_ones, and_lawful, or_lawful, xor_lawful, not_lawful, all_lawful};
@@ -246,7 +247,8 @@ impl<A: BitSetLike, B: BitSetLike> BitSetLike for BitSetXor<A, B> {
     }
 }
 
-/// The complement of a set: the indices that are not in it. It has every index from `MAX_EID` on that its operand lacks, but a walk stops below.
+/// The complement of a set: the indices that are not in it. It has every index from `MAX_EID` on that its operand
+/// lacks, but a walk stops below.
 #[derive(Debug, Drop)]
 pub struct BitSetNot<A: BitSetLike>(pub A);
 

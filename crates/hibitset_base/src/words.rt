@@ -25,7 +25,8 @@ use crate::util::{BITS, Index, LAYERS};
 use std::alloc::{AllocError, Global};
 use std::mem;
 
-// All places of the first word of layer 0 that has any left: the position of the word's first bit, and the word. They are taken.
+// All places of the first word of layer 0 that has any left: the position of the word's first bit, and the word. They
+// are taken.
 #[inline]
 fn step_word<T: BitSetLike>(
     set: &T,
@@ -45,7 +46,8 @@ fn step_word<T: BitSetLike>(
     Some(cursor.take_word(0))
 }
 
-// All places of the first word of layer 1 that has any left, where none is left in layer 0: the position of the word's first bit, and the word. They are taken.
+// All places of the first word of layer 1 that has any left, where none is left in layer 0: the position of the word's
+// first bit, and the word. They are taken.
 #[inline]
 pub(crate) fn step_block<T: BitSetLike>(
     set: &T,
@@ -82,7 +84,8 @@ fn count_block<T: BitSetLike>(set: &T, start: u32) -> usize
     count
 }
 
-// Takes the first bit of a word of layer 1, whose own first bit is at `start`, and reads the word of layer 0 under it: the position of that word's first bit, and the word.
+// Takes the first bit of a word of layer 1, whose own first bit is at `start`, and reads the word of layer 0 under it:
+// the position of that word's first bit, and the word.
 #[inline]
 pub(crate) fn take_under<T: BitSetLike>(set: &T, start: u32, rest: &mut usize) -> (Index, usize)
     requires some { 0 < rest.old }
@@ -98,7 +101,8 @@ pub(crate) fn take_under<T: BitSetLike>(set: &T, start: u32, rest: &mut usize) -
     (position << BITS, set.layer0(position as usize))
 }
 
-// How many members lie in the words of layer 0 under the bits of a word of layer 1, whose first bit is at `start`. Where all bits stand, the words are gone over one after the other.
+// How many members lie in the words of layer 0 under the bits of a word of layer 1, whose first bit is at `start`.
+// Where all bits stand, the words are gone over one after the other.
 #[inline]
 pub(crate) fn count_under<T: BitSetLike>(set: &T, start: u32, word: usize) -> usize
     requires aligned { start % 64 ≡ 0 }
@@ -117,7 +121,8 @@ pub(crate) fn count_under<T: BitSetLike>(set: &T, start: u32, word: usize) -> us
     count
 }
 
-// Takes what is left in layer 0: the position of the first bit of its word, and the word, which is 0 where nothing is left.
+// Takes what is left in layer 0: the position of the first bit of its word, and the word, which is 0 where nothing is
+// left.
 #[inline]
 fn take_lowest_word(cursor: &mut Cursor<LAYERS>) -> (Index, usize)
     ensures items { (holds : ℕ → Bool) → items_of holds (left cursor.old) ≡ bits_from result.0 result.1 ++ items_of holds (left cursor.new) }
@@ -144,7 +149,8 @@ fn count_blocks<T: BitSetLike>(set: &T, cursor: &mut Cursor<LAYERS>, reads: &mut
     count
 }
 
-// How many items are left. It goes by words of layer 1, since what lies under one is counted without a look at the layers above.
+// How many items are left. It goes by words of layer 1, since what lies under one is counted without a look at the
+// layers above.
 #[inline]
 pub(crate) fn count_left<T: BitSetLike>(
     set: &T,
@@ -180,7 +186,8 @@ pub(crate) fn find_first<T: BitSetLike>(set: &T, reads: &mut Reads) -> Option<In
     step(set, &mut cursor, reads)
 }
 
-// Writes the index of a word's first bit at a place of a buffer, or what does not matter where the word has none, and answers the word without that bit.
+// Writes the index of a word's first bit at a place of a buffer, or what does not matter where the word has none, and
+// answers the word without that bit.
 #[inline]
 fn write_bit(buffer: &mut [Index], end: usize, start: Index, rest: usize) -> usize
     requires room { end < length buffer.old }
@@ -191,7 +198,8 @@ fn write_bit(buffer: &mut [Index], end: usize, start: Index, rest: usize) -> usi
     rest & rest.wrapping_sub(1)
 }
 
-// Writes the indices of a word's first four bits into a buffer, from a place on, or what does not matter where it has fewer, and answers the word without them.
+// Writes the indices of a word's first four bits into a buffer, from a place on, or what does not matter where it has
+// fewer, and answers the word without them.
 #[inline]
 fn write_four(buffer: &mut [Index], at: usize, start: Index, word: usize) -> usize
     requires room { at + 4 ≤ length buffer.old }
@@ -234,7 +242,8 @@ fn write_all(buffer: &mut [Index], at: usize, start: Index)
     }
 }
 
-// Writes the indices of a word's bits into a buffer, from a place on, byte by byte, and answers the place after them. It is called where it pays: in line it would take registers from the loop around it.
+// Writes the indices of a word's bits into a buffer, from a place on, byte by byte, and answers the place after them.
+// It is called where it pays: in line it would take registers from the loop around it.
 #[inline(never)]
 fn write_by_bytes(buffer: &mut [Index], at: usize, start: Index, word: usize) -> usize
     requires room { at + 64 ≤ length buffer.old }
@@ -254,10 +263,12 @@ fn write_by_bytes(buffer: &mut [Index], at: usize, start: Index, word: usize) ->
     end
 }
 
-/// How many bits a word has at most that are written four and then eight at a time. Where there are more, a table of bytes is faster.
+/// How many bits a word has at most that are written four and then eight at a time. Where there are more, a table of
+/// bytes is faster.
 pub(crate) const MOST_BY_EIGHTS: usize = 12;
 
-// Writes the indices of a word's bits into a buffer, from a place on, and answers the place after them. Most words of a sparse set have no more than four, and those of a dense one all. It may write past that place.
+// Writes the indices of a word's bits into a buffer, from a place on, and answers the place after them. Most words of a
+// sparse set have no more than four, and those of a dense one all. It may write past that place.
 #[inline]
 fn write_bits(buffer: &mut [Index], at: usize, start: Index, word: usize) -> usize
     requires room { at + 68 ≤ length buffer.old }
@@ -282,7 +293,9 @@ fn write_bits(buffer: &mut [Index], at: usize, start: Index, word: usize) -> usi
     at + count
 }
 
-// Puts the indices of a word's first `count` bits at the end of a list, or what does not matter where it has fewer, and answers the list and the word without them. The list is handed over and back, as each function here does that adds to one without a test, so that a loop has the place where it ends in a register.
+// Puts the indices of a word's first `count` bits at the end of a list, or what does not matter where it has fewer, and
+// answers the list and the word without them. The list is handed over and back, as each function here does that adds to
+// one without a test, so that a loop has the place where it ends in a register.
 #[inline]
 fn push_first(list: Vec<Index>, start: Index, word: usize, count: usize) -> (Vec<Index>, usize)
     requires room { length list.items + count ≤ vec_capacity list }
@@ -300,7 +313,8 @@ fn push_first(list: Vec<Index>, start: Index, word: usize, count: usize) -> (Vec
     (list, rest)
 }
 
-// Puts the indices of a word's bits, of which it has `count`, at most twelve, at the end of a list. It goes by four and then by eight, and cuts what is too much. Most words of a sparse set have no more than four.
+// Puts the indices of a word's bits, of which it has `count`, at most twelve, at the end of a list. It goes by four and
+// then by eight, and cuts what is too much. Most words of a sparse set have no more than four.
 #[inline]
 fn push_few(list: Vec<Index>, start: Index, word: usize, count: usize) -> Vec<Index>
     requires room { length list.items + 12 ≤ vec_capacity list }
@@ -371,7 +385,9 @@ fn push_word(list: Vec<Index>, start: Index, word: usize) -> Vec<Index>
 // How many members the words under a word of layer 1 have at most.
 const BLOCK: usize = 64 * 64;
 
-// Puts the members in the 64 words of layer 0 from a position on at the end of a list that has room for as many as there can be. So they are written where they stay, without a test. It is a call of its own, and takes the list out of its place meanwhile, so that the loop has the registers to itself.
+// Puts the members in the 64 words of layer 0 from a position on at the end of a list that has room for as many as
+// there can be. So they are written where they stay, without a test. It is a call of its own, and takes the list out of
+// its place meanwhile, so that the loop has the registers to itself.
 #[inline(never)]
 fn push_block<T: BitSetLike>(set: &T, start: u32, list: &mut Vec<Index>)
     requires within { start + 64 ≤ 64 ^ (LAYERS - 1) }
@@ -387,7 +403,8 @@ fn push_block<T: BitSetLike>(set: &T, start: u32, list: &mut Vec<Index>)
     *list = taken;
 }
 
-// Empties a buffer into a list, where a word's bits might not fit behind those it has, and answers how many it has then.
+// Empties a buffer into a list, where a word's bits might not fit behind those it has, and answers how many it has
+// then.
 #[inline]
 fn make_room(buffer: &[Index], end: usize, list: &mut Vec<Index>) -> Result<usize, AllocError>
     requires within { end ≤ length buffer.now }
@@ -402,7 +419,9 @@ fn make_room(buffer: &[Index], end: usize, list: &mut Vec<Index>) -> Result<usiz
     Ok(end)
 }
 
-// Puts the members in the words of layer 0 under the bits of a word of layer 1, whose first bit is at `start`, behind the first `end` items of a buffer, which is emptied into a list where it is full, and answers how many it has then. Where all bits of the word stand and the list has room for what is under them, they go by way of no buffer.
+// Puts the members in the words of layer 0 under the bits of a word of layer 1, whose first bit is at `start`, behind
+// the first `end` items of a buffer, which is emptied into a list where it is full, and answers how many it has then.
+// Where all bits of the word stand and the list has room for what is under them, they go by way of no buffer.
 #[inline]
 fn list_under<T: BitSetLike>(
     set: &T,
@@ -463,7 +482,8 @@ const SAMPLE: usize = 32;
 // To go over words twice gains nothing where most have fewer bits than this.
 const FEW: usize = 4;
 
-// To go by whole words gains nothing where so few items are left, or where hardly a word of the sample has more than one.
+// To go by whole words gains nothing where so few items are left, or where hardly a word of the sample has more than
+// one.
 const SINGLE: usize = 36;
 
 // How many bits the first words have that are left, up to `SAMPLE` of them. They are taken.
@@ -508,7 +528,8 @@ fn list_items<T: BitSetLike>(
     Ok(list)
 }
 
-// The items that a walk has left, by whole words, with so much room taken for them. It is a call of its own: in line, it would take registers from the loop over single items.
+// The items that a walk has left, by whole words, with so much room taken for them. It is a call of its own: in line,
+// it would take registers from the loop over single items.
 #[inline(never)]
 fn list_words<T: BitSetLike>(
     walk: BitIter<T>,
@@ -606,7 +627,8 @@ fn fold_word<R, F: Fn(R, Index) -> R>(start: Index, word: usize, init: R, step: 
     so_far
 }
 
-// The members in the words of layer 0 under the bits of a word of layer 1, whose first bit is at `start`, folded in order.
+// The members in the words of layer 0 under the bits of a word of layer 1, whose first bit is at `start`, folded in
+// order.
 #[inline]
 fn fold_under<T: BitSetLike, R, F: Fn(R, Index) -> R>(
     set: &T,
@@ -652,7 +674,8 @@ pub(crate) fn fold_walk<T: BitSetLike, R, F: Fn(R, Index) -> R>(
     so_far
 }
 
-// The members of a set, folded in order one by one. It is a call of its own and begins the walk, so that the loop has the registers to itself.
+// The members of a set, folded in order one by one. It is a call of its own and begins the walk, so that the loop has
+// the registers to itself.
 #[inline(never)]
 pub(crate) fn fold_members<T: BitSetLike, R, F: Fn(R, Index) -> R>(set: &T, init: R, step: &F) -> R
     requires { F.IsAlwaysCallable step.now }
@@ -708,7 +731,8 @@ fn write_word(list: &mut [Index], at: usize, start: Index, word: usize) -> usize
     write_bits(list, at, start, word)
 }
 
-// Writes the members in the words of layer 0 under the bits of a word of layer 1, whose first bit is at `start`, into a list, from a place on, and answers the place after them.
+// Writes the members in the words of layer 0 under the bits of a word of layer 1, whose first bit is at `start`, into a
+// list, from a place on, and answers the place after them.
 #[inline]
 fn write_under<T: BitSetLike>(
     set: &T,

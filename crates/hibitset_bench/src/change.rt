@@ -56,7 +56,8 @@ pub(crate) fn build(alloc: Global, ids: &[Index], times: usize) -> Result<u64, B
     Ok(sum)
 }
 
-// Adds a range, from the first of some indices on before the last of them, and takes it out again. There is room for it.
+// Adds a range, from the first of some indices on before the last of them, and takes it out again. There is room for
+// it.
 pub(crate) fn ranges(alloc: Global, ends: &[Index], times: usize) -> Result<u64, AllocError> {
     let mut set = BitSet::with_capacity(alloc, END)?;
     let start = first_of(ends);

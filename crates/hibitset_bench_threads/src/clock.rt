@@ -14,7 +14,8 @@ pub(crate) fn median(times: &mut Vec<u64>) -> anyhow::Result<u64> {
     Ok(times.get(times.len() / 2).copied().unwrap_or(0))
 }
 
-// What is told of a row: how long a call takes alone and how long in parts, and how many ten-thousandths the one in parts takes of the one beside it.
+// What is told of a row: how long a call takes alone and how long in parts, and how many ten-thousandths the one in
+// parts takes of the one beside it.
 #[derive(Drop)]
 pub(crate) struct Times {
     pub(crate) alone: u64,
@@ -22,7 +23,8 @@ pub(crate) struct Times {
     pub(crate) ratio: u64,
 }
 
-// The times of a row. Both calls take turns, and the ratio is that of each turn, so that a machine that changes its pace changes both.
+// The times of a row. Both calls take turns, and the ratio is that of each turn, so that a machine that changes its
+// pace changes both.
 #[derive(Drop)]
 pub(crate) struct Turns {
     alone: Vec<u64>,

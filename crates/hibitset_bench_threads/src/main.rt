@@ -1,6 +1,10 @@
-//! Times the calls of `hibitset` that start threads, beside the same work in one thread, and those of the shared set; and adds to shared sets from all processors for as long as asked. With no argument it prints nothing.
+//! Times the calls of `hibitset` that start threads, beside the same work in one thread, and those of the shared set;
+//! and adds to shared sets from all processors for as long as asked. With no argument it prints nothing.
 //!
-//! Its first argument says what it does, and its second how much of it: `parallel REPEATS`, `steps REPEATS` and `shared REPEATS` print a line a row, what was done, over what, and how many nanoseconds one call took, the median of so many, and of a walk in parts how many ten-thousandths it took of the one alone beside it; `stress SECONDS` prints how many rounds it made and how many adds, or the first difference.
+//! Its first argument says what it does, and its second how much of it: `parallel REPEATS`, `steps REPEATS` and
+//! `shared REPEATS` print a line a row, what was done, over what, and how many nanoseconds one call took, the median of
+//! so many, and of a walk in parts how many ten-thousandths it took of the one alone beside it; `stress SECONDS` prints
+//! how many rounds it made and how many adds, or the first difference.
 #![tactic(auto)]
 
 mod clock;

@@ -58,7 +58,8 @@ struct Hand {
     spare: Option<Seat>,
 }
 
-// What came of a thread's adds: how many answered false, an index that it knew and did not find, what its walks gave, and whether one of them went wrong.
+// What came of a thread's adds: how many answered false, an index that it knew and did not find, what its walks gave,
+// and whether one of them went wrong.
 #[derive(Drop)]
 struct Done {
     seat: Seat,
@@ -197,7 +198,8 @@ impl Walks {
     }
 }
 
-// The adds of one thread. After each it asks for that index and for an earlier one, and one in 64 times it divides its seat or joins it again; now and then it walks over the set.
+// The adds of one thread. After each it asks for that index and for an earlier one, and one in 64 times it divides its
+// seat or joins it again; now and then it walks over the set.
 fn add_all(
     set: &SharedBitSet,
     alloc: Global,
@@ -249,7 +251,8 @@ fn add_all(
     })
 }
 
-// The adds of so many threads, from the first on, each with a seat of its own. There are at most as many as shares of the seat.
+// The adds of so many threads, from the first on, each with a seat of its own. There are at most as many as shares of
+// the seat.
 fn on_threads<R: Threads + Sync>(
     rt: &R,
     set: &SharedBitSet,
@@ -307,7 +310,8 @@ fn add_plainly(model: &mut BitSet, plan: Plan, thread: u32) -> Result<u64, Alloc
     Ok(news)
 }
 
-// A set with one in eight of the indices of a sequence, or, in half of the rounds, with hardly any, so that the adds have to set summaries too.
+// A set with one in eight of the indices of a sequence, or, in half of the rounds, with hardly any, so that the adds
+// have to set summaries too.
 fn old_set(alloc: Global, plan: Plan, thread: u32) -> Result<AtomicBitSet, AllocError> {
     let mut set = AtomicBitSet::new(alloc)?;
     let mut state = plan.first(thread);

@@ -22,7 +22,8 @@ is_seated (Alone set) = false
 is_seated (Seated m) = true
 is_seated Nothing = false
 
--- The seat is the first one of its set: it has all shares, no reports, and knows nothing. The old indices are those members.
+-- The seat is the first one of its set: it has all shares, no reports, and knows nothing. The old indices are those
+-- members.
 pub record IsOpening (members : ℕ → Bool) (set : SharedBitSet) (seat : Seat) : Type 0 where
   pub old : (i : ℕ) → (members i ≡ true) ↔ IsOld set i
   pub weight : weight_of seat ≡ SHARES

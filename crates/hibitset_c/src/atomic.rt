@@ -184,7 +184,8 @@ pub extern "C" fn hibitset_atomic_last(set: &mut AtomicSet, index: &mut u32) -> 
     }
 }
 
-/// Writes the members from `start` on into the buffer, ascending, until it is full or there are no more. Returns how many.
+/// Writes the members from `start` on into the buffer, ascending, until it is full or there are no more. Returns how
+/// many.
 #[tactic(auto, using(crate::proofs::Emptiness::fills_none_at))]
 #[unsafe(no_mangle)]
 pub extern "C" fn hibitset_atomic_next_many(

@@ -13,7 +13,8 @@ use std::alloc::Global;
 
 /// An atomic set as C keeps it, once there is one. It is empty until then.
 ///
-/// C owes that the bytes are those that the last call with the set left, or those of `hibitset_atomic_new`, and that no other call has the set meanwhile.
+/// C owes that the bytes are those that the last call with the set left, or those of `hibitset_atomic_new`, and that no
+/// other call has the set meanwhile.
 #[repr(C)]
 #[derive(Drop)]
 pub struct AtomicSet {

@@ -12,7 +12,8 @@ use std::alloc::Global;
 
 /// A seat of a shared set as C keeps it, or none.
 ///
-/// C owes that the bytes are those that the last call with the seat left, or those of `hibitset_seat_new`, and that no other call has the seat meanwhile. Other seats of the set may be in calls at the same time.
+/// C owes that the bytes are those that the last call with the seat left, or those of `hibitset_seat_new`, and that no
+/// other call has the seat meanwhile. Other seats of the set may be in calls at the same time.
 #[repr(C)]
 #[derive(Drop)]
 pub struct HeldSeat {

@@ -1,10 +1,16 @@
-//! Hierarchical bit sets for C: a thin static library over `hibitset`, `hibitset_atomic` and `hibitset_roaring`, with an export for each call. `bindings/c/hibitset.h` declares them.
+//! Hierarchical bit sets for C:
+//! a thin static library over `hibitset`, `hibitset_atomic` and `hibitset_roaring`, with an export for each call.
+//! `bindings/c/hibitset.h` declares them.
 //!
-//! C keeps each set in a struct of its own. A call that changes a set takes it as a `Set`, by `&mut`; a call that reads one takes the same bytes as a `Seen`, by `&`. A `Seen` is slices alone and owns nothing, so any number of threads may read a set at once. The empty set takes no memory.
+//! C keeps each set in a struct of its own. A call that changes a set takes it as a `Set`, by `&mut`; a call that reads
+//! one takes the same bytes as a `Seen`, by `&`. A `Seen` is slices alone and owns nothing, so any number of threads
+//! may read a set at once. The empty set takes no memory.
 //!
-//! An atomic set, and a seat of a shared one, are one pointer each in a struct of C's. Each call takes it by `&mut`, and the seats of one set own the set together.
+//! An atomic set, and a seat of a shared one, are one pointer each in a struct of C's. Each call takes it by `&mut`,
+//! and the seats of one set own the set together.
 //!
-//! An index that is out of range, bytes that are no stream and a failed allocation are statuses. No export has a `requires`.
+//! An index that is out of range, bytes that are no stream and a failed allocation are statuses. No export has a
+//! `requires`.
 #![tactic(auto)]
 
 pub mod atomic;

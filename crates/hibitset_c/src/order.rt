@@ -67,7 +67,8 @@ pub extern "C" fn hibitset_last_before(set: &Seen<'_>, end: u32, index: &mut u32
     }
 }
 
-/// Writes the members before `end` into the buffer, descending, until it is full or there are no more. Returns how many.
+/// Writes the members before `end` into the buffer, descending, until it is full or there are no more. Returns how
+/// many.
 #[unsafe(no_mangle)]
 pub extern "C" fn hibitset_prev_many(set: &Seen<'_>, end: u32, buffer: &mut [u32]) -> usize
     ensures { Fills (reverse (members_below (min end MAX_EID) (other_has set.now))) buffer.old result buffer.new }

@@ -84,7 +84,8 @@ pub extern "C" fn hibitset_first_gap(set: &Seen<'_>, start: u32, index: &mut u32
     }
 }
 
-/// Writes the members from `start` on into the buffer, ascending, until it is full or there are no more. Returns how many.
+/// Writes the members from `start` on into the buffer, ascending, until it is full or there are no more. Returns how
+/// many.
 #[unsafe(no_mangle)]
 pub extern "C" fn hibitset_next_many(set: &Seen<'_>, start: u32, buffer: &mut [u32]) -> usize
     ensures { Fills (members (has set.now) start (MAX_EID - start)) buffer.old result buffer.new }

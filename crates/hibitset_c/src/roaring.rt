@@ -25,7 +25,8 @@ pub extern "C" fn hibitset_roaring_len(set: &Seen<'_>) -> usize
     len_of_words(set.layer0, set.layer1)
 }
 
-/// Writes the one stream without runs of a set's members into the first bytes of a buffer, and leaves in `taken` how many bytes that are. A buffer with fewer bytes is left as it was.
+/// Writes the one stream without runs of a set's members into the first bytes of a buffer, and leaves in `taken` how
+/// many bytes that are. A buffer with fewer bytes is left as it was.
 #[unsafe(no_mangle)]
 pub extern "C" fn hibitset_roaring_write(
     alloc: Global,
@@ -51,7 +52,9 @@ pub extern "C" fn hibitset_roaring_write(
     if len <= room { OK } else { SHORT_BUFFER }
 }
 
-/// Makes it the set whose members a stream has, if each key, the high 16 bits of a member, is below `end` and `KEYS`. The stream is all of the bytes. If these are no such stream, leaves the number of a fault in `fault` and its position in `at`.
+/// Makes it the set whose members a stream has, if each key, the high 16 bits of a member, is below `end` and `KEYS`.
+/// The stream is all of the bytes. If these are no such stream, leaves the number of a fault in `fault` and its
+/// position in `at`.
 #[unsafe(no_mangle)]
 pub extern "C" fn hibitset_roaring_read_below(
     alloc: Global,

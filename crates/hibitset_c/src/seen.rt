@@ -10,7 +10,8 @@ use hibitset::{BitSetLike, Index};
 
 /// The words of a set, in the bytes of its `hibitset_t`.
 ///
-/// C owes that the slices and the word of the top layer are those that the last call that changed the set left, or those of `hibitset_new`, and that no call changes the set meanwhile.
+/// C owes that the slices and the word of the top layer are those that the last call that changed the set left, or
+/// those of `hibitset_new`, and that no call changes the set meanwhile.
 #[repr(C)]
 #[derive(Clone, Copy)]
 pub struct Seen<'a> {

@@ -12,7 +12,8 @@ use std::alloc::Global;
 
 /// A set as C keeps it: where its words lie, and the set itself, once there is one. It is empty until then.
 ///
-/// C owes that the bytes are those that the last call that changed the set left, or those of `hibitset_new`, and that no other call has the set meanwhile.
+/// C owes that the bytes are those that the last call that changed the set left, or those of `hibitset_new`, and that
+/// no other call has the set meanwhile.
 #[repr(C)]
 #[derive(Drop)]
 pub struct Set {
@@ -46,7 +47,8 @@ impl Set {
         }
     }
 
-    // Makes an empty set where there is none. It is not inlined, so that an addition to a set keeps nothing for it on the stack.
+    // Makes an empty set where there is none. It is not inlined, so that an addition to a set keeps nothing for it on
+    // the stack.
     #[inline(never)]
     fn make_first(&mut self, alloc: Global) -> bool
         requires { self.old.made ≡ false }

@@ -1,6 +1,11 @@
--- The portable Roaring format for sets of numbers below 2 ^ 32, as the public specification has it (github.com/RoaringBitmap/RoaringFormatSpec): which bytes are a stream, and which numbers it holds. Numbers have their lowest byte first, and positions count bytes from the start.
+-- The portable Roaring format for sets of numbers below 2 ^ 32: which bytes are a stream, and which numbers it holds.
+-- Its public specification is github.com/RoaringBitmap/RoaringFormatSpec. Numbers have their lowest byte first, and
+-- positions count bytes from the start.
 --
--- A stream is a header and then its containers, one after the other. The header has the number of containers, and of each its key, the high 16 bits of its members, and its cardinality, the number of its members. A container has the low 16 bits of its members: as an array of numbers, if there are at most 4096; as 65536 bits, if there are more; or as runs of consecutive numbers, if a flag of the header says so.
+-- A stream is a header and then its containers, one after the other. The header has the number of containers, and of
+-- each its key, the high 16 bits of its members, and its cardinality, the number of its members. A container has the
+-- low 16 bits of its members: as an array of numbers, if there are at most 4096; as 65536 bits, if there are more; or
+-- as runs of consecutive numbers, if a flag of the header says so.
 use Rattle.std.specs.Prelude.{◌≡◌, ℕ, zero, suc, ◌+◌, ◌-◌, ◌*◌, ◌/◌, ◌%◌, ◌<◌, ◌≤◌, ◌⊎◌, Bool, true, false, ◌==◌, ◌&&◌, ◌||◌, not, if◌then◌else◌, nat_le, List, ◌++◌, get_or, length}
 use Rattle.std.specs.Int.{bit_at}
 use Rattle.hibitset_roaring.specs.Numbers.{u16_at, u32_at, u64_at, any_below, ones_in}

@@ -4,7 +4,8 @@ use Rattle.std.specs.Int.{bit_at}
 use Rattle.std.specs.Int.RustNames.{count_ones}
 use Rattle.hibitset.specs.Numbers.{stands_in}
 
--- The new words have the bits of the old ones, and those of the numbers with these high bits whose low bits pass the test.
+-- The new words have the bits of the old ones, and those of the numbers with these high bits whose low bits pass the
+-- test.
 pub record Adds (high : ℕ) (low : ℕ → Bool) (old new : List ℕ) : Type 0 where
   pub bits : (i : ℕ) → stands_in new i ≡ (stands_in old i || ((i / 65536 == high) && low (i % 65536)))
 

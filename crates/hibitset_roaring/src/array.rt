@@ -12,7 +12,8 @@ use crate::layout::CONTAINER_WORDS;
 use crate::number::put_u16;
 use crate::slots::{next_slot, rest_over, slot_after, take_lowest, word_of};
 
-// Writes the bits of a word, whose first bit has the number `first`, behind the `len` numbers of an array, and returns how many it has then.
+// Writes the bits of a word, whose first bit has the number `first`, behind the `len` numbers of an array, and returns
+// how many it has then.
 #[inline]
 fn write_word(out: &mut [u8], at: usize, len: usize, first: usize, word: usize) -> usize
     requires room { at + 2 * (len + count_ones word) ≤ length out.old }

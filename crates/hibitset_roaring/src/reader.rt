@@ -38,11 +38,13 @@ fn read_containers(bytes: &[u8], header: &Header, words: &mut Vec<usize>) -> Res
     Ok(())
 }
 
-/// The set whose members a stream in the portable Roaring format has, if each key is below `end`: a key is the high 16 bits of members. The stream is all of the bytes; it may have runs, and leave offsets out where the format does.
+/// The set whose members a stream in the portable Roaring format has, if each key is below `end`: a key is the high 16
+/// bits of members. The stream is all of the bytes; it may have runs, and leave offsets out where the format does.
 ///
 /// An error names a fault of the bytes and its position, or says that an allocation failed.
 ///
-/// The set takes at most 8,192 bytes for each key below `end`, and a sixty-third more, in one request for memory: if `end` is `KEYS`, 18 bytes can ask for 136 MB.
+/// The set takes at most 8,192 bytes for each key below `end`, and a sixty-third more, in one request for memory: if
+/// `end` is `KEYS`, 18 bytes can ask for 136 MB.
 pub fn read_below(alloc: Global, bytes: &[u8], end: usize) -> Result<BitSet, ReadError>
     requires { end ≤ KEYS }
     ensures stream { OnOk result (IsStream bytes.now) }
@@ -61,7 +63,8 @@ pub fn read_below(alloc: Global, bytes: &[u8], end: usize) -> Result<BitSet, Rea
     Ok(BitSet::from_vec(words)?)
 }
 
-/// The set whose members a stream has, as `read_below` reads it, if they are below `MAX_EID`. Bytes of a stranger are better read with a bound.
+/// The set whose members a stream has, as `read_below` reads it, if they are below `MAX_EID`. Bytes of a stranger are
+/// better read with a bound.
 pub fn read(alloc: Global, bytes: &[u8]) -> Result<BitSet, ReadError>
     ensures stream { OnOk result (IsStream bytes.now) }
     ensures below { OnOk result (HasKeysBelow bytes.now KEYS) }

@@ -76,7 +76,8 @@ pub(crate) fn rest_over(above: &[usize], key: usize, slot: usize) -> usize
     word_of(above, CONTAINER_BLOCKS * key + slot / 64) & !low_bits(slot % 64 + 1)
 }
 
-// The next slot behind one over which the bit of layer 1 is set, or 1,024. All words between are 0. `rest` has the bits of layer 1 that are left over the slot, and then over the one that is found.
+// The next slot behind one over which the bit of layer 1 is set, or 1,024. All words between are 0. `rest` has the bits
+// of layer 1 that are left over the slot, and then over the one that is found.
 #[inline]
 pub(crate) fn slot_after(above: &[usize], key: usize, slot: usize, rest: &mut usize) -> usize
     requires key { key < 65536 }

@@ -15,7 +15,8 @@ use Rattle.hibitset_run.specs.Store as store
 use Rattle.hibitset_run.specs.Text.{IsLine, Say, IsFirstBad, printed, reply_text}
 use Rattle.hibitset_run.specs.StoreText as store_text
 
--- The output that a script of these lines may have: each line says a command, the commands are run one after the other on empty sets, and the text of each answer is a line.
+-- The output that a script of these lines may have: each line says a command, the commands are run one after the other
+-- on empty sets, and the text of each answer is a line.
 pub record IsOutput (lines : List (List ℕ)) (output : List ℕ) : Type 0 where
   pub commands : List Command
   pub answers : List script.Answer

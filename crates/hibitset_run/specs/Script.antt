@@ -63,7 +63,8 @@ is_within p q = length (members_of (λ i. p i && not (q i))) == 0
 abbrev pub unsplit_size : Layers → ℕ
 unsplit_size layers = 64 ^ (LAYERS - layers_number layers)
 
--- The numbers of the aligned ranges of a size that hold one of the indices. Range q has the indices q * size to q * size + size - 1.
+-- The numbers of the aligned ranges of a size that hold one of the indices. Range q has the indices q * size to q *
+-- size + size - 1.
 abbrev pub ranges_of : ℕ → List ℕ → ℕ → Bool
 ranges_of size indices q = list_any (λ i. i / size == q) indices
 
@@ -126,7 +127,8 @@ has_members set = nat_lt 0 (length (members_of set))
 abbrev pub is_past_all_words : (ℕ → Bool) → ℕ → Bool
 is_past_all_words set id = list_all (λ i. nat_lt (i / 64) (id / 64)) (members_of set)
 
--- The command may be refused memory: an `Add` of an index that is in range and past the words of all members, a `List` of a set with members, an `Or` or a `Xor` with another set that has members.
+-- The command may be refused memory: an `Add` of an index that is in range and past the words of all members, a `List`
+-- of a set with members, an `Or` or a `Xor` with another set that has members.
 abbrev pub may_lack_memory : Command → Sets → Bool
 may_lack_memory (command.Add slot id) sets = nat_lt id MAX_EID && is_past_all_words (sets slot) id
 may_lack_memory (command.Remove slot id) sets = false

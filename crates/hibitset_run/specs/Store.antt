@@ -56,14 +56,16 @@ effect (command.Get side id) columns = columns
 effect (command.Take side id) columns = with_value columns side id None
 effect (command.Join side other) columns = columns
 
--- The command may be refused memory: a `Put` of an index in range that has no value, a `Join` of columns with an index in common.
+-- The command may be refused memory: a `Put` of an index in range that has no value, a `Join` of columns with an index
+-- in common.
 abbrev pub may_lack_memory : StoreCommand → Columns → Bool
 may_lack_memory (command.Put side id new) columns = nat_lt id MAX_EID && not (is_some (columns side id))
 may_lack_memory (command.Get side id) columns = false
 may_lack_memory (command.Take side id) columns = false
 may_lack_memory (command.Join side other) columns = nat_lt 0 (length (joined (columns side) (columns other)))
 
--- From the old columns the command gives this answer, and leaves the new columns. One that is refused memory changes nothing.
+-- From the old columns the command gives this answer, and leaves the new columns. One that is refused memory changes
+-- nothing.
 abbrev pub IsStep : StoreCommand → Columns → Answer → Columns → Type 0
 IsStep command old no_memory new = IsTrue (may_lack_memory command old) × (new ≡ old)
 IsStep command old given new = (given ≡ answer command old) × (new ≡ effect command old)

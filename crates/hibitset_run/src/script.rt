@@ -105,7 +105,10 @@ pub enum Reply {
 
 /// Runs commands on eight sets, one after the other, and gives one reply a command, in order.
 ///
-/// The room for the replies is made first, and where it is refused nothing has changed; a run of no commands needs none. A command that is refused memory replies `NoMemory` and changes no set, and the run goes on. Four can be: `Add` of an index past the words of all members, `List` of a set with members, and `Or` and `Xor` with another set that has members.
+/// The room for the replies is made first, and where it is refused nothing has changed; a run of no commands needs
+/// none. A command that is refused memory replies `NoMemory` and changes no set, and the run goes on. Four can be:
+/// `Add` of an index past the words of all members, `List` of a set with members, and `Or` and `Xor` with another set
+/// that has members.
 pub fn run(
     alloc: Global,
     sets: &mut [BitSet; 8],

@@ -8,7 +8,8 @@ use Rattle.hibitset_store.specs.Columns.{IsWith, value_of}
 use Rattle.hibitset_store.specs.Room.{KeepsRoom}
 
 module _ (V : RattleType) (column : MutBor (Column V.Denot)) where
-  -- the index ends with the last value behind r, and at `None` the column ends as the same map; the column keeps its room
+  -- the index ends with the last value behind r, and at `None` the column ends as the same map; the column keeps its
+  -- room
   abbrev pub LendsValue : ℕ → Option (MutBor V.Denot) → Fml
   LendsValue id r =
       LendsSo (the_row V) V column r

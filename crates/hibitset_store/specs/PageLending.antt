@@ -11,7 +11,8 @@ written_over (Some value) last = Some last
 written_over None last = None
 
 module _ (V : RattleType) (pages : MutBor (Pages V.Denot)) where
-  -- the value of the index ends as the last one behind r, and at `None` every index ends with the value that it had; there are the same pages
+  -- the value of the index ends as the last one behind r, and at `None` every index ends with the value that it had;
+  -- there are the same pages
   abbrev pub LendsPlace : ℕ → Option (MutBor V.Denot) → Fml
   LendsPlace id r =
       LendsSo (the_row V) V pages r

@@ -1,4 +1,5 @@
--- Values in pages. Page p has places for the indices from p * PAGE on, or none yet. The first places lie by the number of their index.
+-- Values in pages.
+-- Page p has places for the indices from p * PAGE on, or none yet. The first places lie by the number of their index.
 use Rattle.std.specs.Prelude.{◌≡◌, ℕ, ◌+◌, ◌*◌, ◌/◌, ◌%◌, ◌<◌, ◌≤◌, ◌==◌, ltb, Bool, true, not, if◌then◌else◌, List, length, drop, slice_index_or, Option, option_and_then, slice_get}
 use Rattle.std.specs.List.{filter}
 use Rattle.std.specs.Option.{is_some}
@@ -30,7 +31,8 @@ module _ {V : Type 0} where
   abbrev pub place_count : Pages V → ℕ
   place_count pages = length pages.places.items
 
-  -- the place of an index: its own number in the part that lies in order, and past all places, where its page is not made and lies behind that
+  -- the place of an index: its own number in the part that lies in order, and past all places, where its page is not
+  -- made and lies behind that
   abbrev pub place_of : Pages V → ℕ → ℕ
   place_of pages i = if ltb i pages.in_order then i else start_in pages.starts.items (i / PAGE) + i % PAGE
 
@@ -42,11 +44,14 @@ module _ {V : Type 0} where
   abbrev pub HasPlace : Pages V → ℕ → Type 0
   HasPlace pages i = place_of pages i < place_count pages
 
-  -- how many places a page has, as far as it is made; one that is not may lie in the part that lies in order all the same
+  -- how many places a page has, as far as it is made; one that is not may lie in the part that lies in order all the
+  -- same
   abbrev pub places_in : Pages V → ℕ → ℕ
   places_in pages p = if is_made (start_in pages.starts.items p) then PAGE else 0
 
-  -- Each page that is made has its places, no two indices have the same one, and no index of another page has a value. The part that lies in order has the places of whole pages, made or not; each page behind it that is made has its places there. All places are no more than `SPARSEST` times those of the pages made.
+  -- Each page that is made has its places, no two indices have the same one, and no index of another page has a value.
+  -- The part that lies in order has the places of whole pages, made or not; each page behind it that is made has its
+  -- places there. All places are no more than `SPARSEST` times those of the pages made.
   pub record AreLaidOut (pages : Pages V) : Type 0 where
     pub few : length pages.starts.items ≤ MAX_EID / PAGE
     pub whole : pages.in_order ≡ PAGE * (pages.in_order / PAGE)

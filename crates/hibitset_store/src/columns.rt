@@ -14,11 +14,20 @@ use std::alloc::Global;
 
 /// A finite map from indices below `MAX_EID` to values, with the set of its keys.
 ///
-/// Values lie in pages of 64 places, and the page of an index is made whole when one of its indices first gets a value. Each call on one index looks at one word of the keys, at one entry of the table of pages and at one place, at most.
+/// Values lie in pages of 64 places, and the page of an index is made whole when one of its indices first gets a value.
+/// Each call on one index looks at one word of the keys, at one entry of the table of pages and at one place, at most.
 ///
-/// A page takes 512 bytes for values of four bytes, and the table four bytes for each 64 indices up to the highest key, 67 MB at 2^30, beside the words of the set of keys, 136 MB there. All pages lie in one list, which doubles when it is full, so up to twice as much may be taken, as of the table. A column costs little where keys lie near each other, and most where they lie far apart: 100,000 values at random indices below 2^30 take some 250 MB, those of the indices 0 to 99,999 about 1 MB.
+/// A page takes 512 bytes for values of four bytes, and the table four bytes for each 64 indices up to the highest key,
+/// 67 MB at 2^30, beside the words of the set of keys, 136 MB there. All pages lie in one list, which doubles when it
+/// is full, so up to twice as much may be taken, as of the table. A column costs little where keys lie near each other,
+/// and most where they lie far apart: 100,000 values at random indices below 2^30 take some 250 MB, those of the
+/// indices 0 to 99,999 about 1 MB.
 ///
-/// Pages that are made one after the other from index 0 on lie in the list as a flat one would have them, and a call on an index there looks at its place at once. Others lie behind, in the order in which they were made; but where the list is full, a quarter of the table's pages lie behind and it goes over no more than 2^21 indices, it is laid out anew, with places for all pages of the table. There are at most four times as many places as those of the pages made, and room for up to twice as many.
+/// Pages that are made one after the other from index 0 on lie in the list as a flat one would have them, and a call on
+/// an index there looks at its place at once. Others lie behind, in the order in which they were made; but where the
+/// list is full, a quarter of the table's pages lie behind and it goes over no more than 2^21 indices, it is laid out
+/// anew, with places for all pages of the table. There are at most four times as many places as those of the pages
+/// made, and room for up to twice as many.
 #[derive(Drop)]
 pub struct Column<V: Drop> {
     mask: BitSet,
@@ -93,7 +102,8 @@ impl<V: Drop> Column<V> {
         self.pages.value(id)
     }
 
-    /// The value of an index, to be changed. Once the loan ends, the index has what was left there, and no other index has changed.
+    /// The value of an index, to be changed. Once the loan ends, the index has what was left there, and no other index
+    /// has changed.
     #[inline]
     pub fn get_mut(&mut self, id: Index) -> Option<&mut V>
         ensures* writes_back { sem 𝓛 (LendsValue V.row self.entry id result) }
@@ -102,9 +112,12 @@ impl<V: Drop> Column<V> {
         self.pages.get_mut(id)
     }
 
-    /// Gives an index below `MAX_EID` a value, and gives back the value that it had. Refused memory, it hands the value back, and no value has changed.
+    /// Gives an index below `MAX_EID` a value, and gives back the value that it had. Refused memory, it hands the value
+    /// back, and no value has changed.
     ///
-    /// It needs no memory where the index has room: where the page of the index is made and the mask has its word, as where it has a value or had one before `remove`. Else it makes that page, and the table of pages and the mask as long as the index needs and no longer.
+    /// It needs no memory where the index has room: where the page of the index is made and the mask has its word, as
+    /// where it has a value or had one before `remove`. Else it makes that page, and the table of pages and the mask as
+    /// long as the index needs and no longer.
     #[inline]
     pub fn insert(&mut self, id: Index, value: V) -> Result<Option<V>, V>
         requires { id < MAX_EID }
@@ -140,7 +153,8 @@ impl<V: Drop> Column<V> {
         self.pages.put(place, Some(value))
     }
 
-    // Gives an index below `MAX_EID` its first value. Refused memory, it hands the value back, and no value has changed.
+    // Gives an index below `MAX_EID` its first value. Refused memory, it hands the value back, and no value has
+    // changed.
     #[inline]
     fn insert_new(&mut self, id: Index, value: V) -> Result<(), V>
         requires below { id < MAX_EID }
@@ -181,7 +195,8 @@ impl<V: Drop> Column<V> {
         self.pages.put(place, None)
     }
 
-    /// Takes all values out. It takes no memory, and keeps that of the pages, the table and the mask for what is to come, but no contract says that it is enough.
+    /// Takes all values out. It takes no memory, and keeps that of the pages, the table and the mask for what is to
+    /// come, but no contract says that it is enough.
     pub fn clear(&mut self)
         ensures empty { (i : ℕ) → value_of self.new i ≡ None }
         ensures pages { (p : ℕ) → places self.new p ≡ 0 }

@@ -11,7 +11,8 @@ use crate::walks::{Iter, Join, JoinMasked};
 use hibitset::BitSetLike;
 use hibitset::laws::laws;
 
-/// Goes over the indices that both columns have, ascending, with both values. It takes no memory, and reads at most four words of each mask for every key of the smaller column, and the top.
+/// Goes over the indices that both columns have, ascending, with both values. It takes no memory, and reads at most
+/// four words of each mask for every key of the smaller column, and the top.
 pub fn join<'a, V: Drop, W: Drop>(a: &'a Column<V>, b: &'a Column<W>) -> Join<'a, V, W>
     ensures pairs { pairs_left result ≡ joined (value_of a.now) (value_of b.now) }
     ensures begun { reads_of result ≡ 1 }
@@ -27,7 +28,8 @@ pub fn join<'a, V: Drop, W: Drop>(a: &'a Column<V>, b: &'a Column<W>) -> Join<'a
     }
 }
 
-/// Goes over the indices that both columns have and the set holds too, as `join` does. The bound is that of `join`, on the words of each column's mask.
+/// Goes over the indices that both columns have and the set holds too, as `join` does. The bound is that of `join`, on
+/// the words of each column's mask.
 pub fn join_masked<'a, V: Drop, W: Drop, M: BitSetLike>(
     a: &'a Column<V>,
     b: &'a Column<W>,
@@ -48,7 +50,8 @@ pub fn join_masked<'a, V: Drop, W: Drop, M: BitSetLike>(
 }
 
 impl<V: Drop> Column<V> {
-    /// Goes over the keys, ascending, each with its value. It takes no memory, and reads at most four words of the mask for every key, and the top.
+    /// Goes over the keys, ascending, each with its value. It takes no memory, and reads at most four words of the mask
+    /// for every key, and the top.
     pub fn iter(&self) -> Iter<'_, V>
         ensures entries { entries_left result ≡ entries_of (value_of self.now) }
         ensures begun { iter_reads_of result ≡ 1 }

@@ -17,13 +17,15 @@ pub const PAGE: usize = 64;
 /// Where the places of a page begin that is not made: past all places.
 pub const NO_PAGE: u32 = u32::MAX;
 
-/// How many pages a table has at most that is laid out in order: those of 2^21 indices. With a table eight times as long, `insert` from empty took twice its time.
+/// How many pages a table has at most that is laid out in order: those of 2^21 indices. With a table eight times as
+/// long, `insert` from empty took twice its time.
 const MOST_IN_ORDER: usize = 32_768;
 
 /// How many times as many places there are at most as those of the pages that are made.
 pub const SPARSEST: usize = 4;
 
-// The values, in pages, with a place for each index of a page that is made. Each index below `in_order` has the place of its own number, whether its page is made or not; the other pages lie behind, in the order in which they were made.
+// The values, in pages, with a place for each index of a page that is made. Each index below `in_order` has the place
+// of its own number, whether its page is made or not; the other pages lie behind, in the order in which they were made.
 #[derive(Drop)]
 pub(crate) struct Pages<V: Drop> {
     starts: Vec<u32>,
@@ -87,7 +89,8 @@ impl<V: Drop> Pages<V> {
         self.starts[id / PAGE] as usize + id % PAGE
     }
 
-    // The value of an index that has one. It does not ask whether the page is made, nor whether the place lies in the list and has a value.
+    // The value of an index that has one. It does not ask whether the page is made, nor whether the place lies in the
+    // list and has a value.
     #[inline]
     pub(crate) fn value(&self, id: Index) -> &V
         requires laid_out { AreLaidOut self.now }
@@ -97,7 +100,8 @@ impl<V: Drop> Pages<V> {
         value_of_some(&self.places[self.place_of_some(id)])
     }
 
-    // The value of an index, to be changed. It ends in a `match` and not in `as_mut`, so that only a place with a value is lent.
+    // The value of an index, to be changed. It ends in a `match` and not in `as_mut`, so that only a place with a value
+    // is lent.
     #[inline]
     pub(crate) fn get_mut(&mut self, id: Index) -> Option<&mut V>
         requires { AreLaidOut self.old }
@@ -123,7 +127,8 @@ impl<V: Drop> Pages<V> {
         mem::replace(&mut self.places[place], value)
     }
 
-    // The place of an index, whose page is made if it has to be. It changes no value. Refused, it leaves each page as it was.
+    // The place of an index, whose page is made if it has to be. It changes no value. Refused, it leaves each page as
+    // it was.
     #[inline]
     pub(crate) fn make_place(&mut self, id: Index, keys: &BitSet) -> Result<usize, AllocError>
         requires laid_out { AreLaidOut self.old }
@@ -148,7 +153,8 @@ impl<V: Drop> Pages<V> {
         Ok(self.place(id))
     }
 
-    // Makes a page, and the table as long as it needs. Refused, it leaves each page as it was. It is a call of its own, so that its loops take no registers from those that insert.
+    // Makes a page, and the table as long as it needs. Refused, it leaves each page as it was. It is a call of its own,
+    // so that its loops take no registers from those that insert.
     #[inline(never)]
     fn make_page(&mut self, page: usize, keys: &BitSet) -> Result<(), AllocError>
         requires laid_out { AreLaidOut self.old }
@@ -207,7 +213,8 @@ impl<V: Drop> Pages<V> {
         self.append_page(page)
     }
 
-    // Makes a page behind the part that lies in order. Its places come after all others; where they have the numbers of its indices and all others lie in order, it does too. Refused, it changes nothing.
+    // Makes a page behind the part that lies in order. Its places come after all others; where they have the numbers of
+    // its indices and all others lie in order, it does too. Refused, it changes nothing.
     fn append_page(&mut self, page: usize) -> Result<(), AllocError>
         requires laid_out { AreLaidOut self.old }
         requires within { page < length self.old.starts.items }
@@ -229,7 +236,8 @@ impl<V: Drop> Pages<V> {
         Ok(())
     }
 
-    // Tells whether the pages are to be laid out in order: when there is no place for another one, where so much of the table lies behind that there will not be too many places, and it is not too long.
+    // Tells whether the pages are to be laid out in order: when there is no place for another one, where so much of the
+    // table lies behind that there will not be too many places, and it is not too long.
     fn is_worth_order(&self) -> bool
         requires { AreLaidOut self.now }
         ensures { result ≡ true → length self.now.starts.items * PAGE ≤ SPARSEST * (place_count self.now - self.now.in_order) }
@@ -242,7 +250,8 @@ impl<V: Drop> Pages<V> {
             && pages * PAGE <= SPARSEST * (len - self.in_order)
     }
 
-    // Lays the places of all pages of the table out in order, with as much room as when the list of places doubles. Refused, it changes nothing.
+    // Lays the places of all pages of the table out in order, with as much room as when the list of places doubles.
+    // Refused, it changes nothing.
     fn put_in_order(&mut self, keys: &BitSet) -> Result<(), AllocError>
         requires laid_out { AreLaidOut self.old }
         requires keys { Covers keys.now self.old }
@@ -289,7 +298,9 @@ impl<V: Drop> Pages<V> {
     }
 }
 
-// The value of a place that has one. An empty place would be answered by an item of an array that has none, which no program reads, so the compiler makes no test of the place. Of `unreachable!` it would make a trap, and a test before it.
+// The value of a place that has one. An empty place would be answered by an item of an array that has none, which no
+// program reads, so the compiler makes no test of the place. Of `unreachable!` it would make a trap, and a test before
+// it.
 #[inline]
 fn value_of_some<V>(place: &Option<V>) -> &V
     requires { is_some place.now ≡ true }
@@ -302,7 +313,8 @@ fn value_of_some<V>(place: &Option<V>) -> &V
     }
 }
 
-// So many places without a value. They are poured into the list of all places, which is faster than a loop that pushes each and asks how many there are.
+// So many places without a value. They are poured into the list of all places, which is faster than a loop that pushes
+// each and asks how many there are.
 #[derive(Drop)]
 struct EmptyPlaces<V: Drop> {
     left: usize,

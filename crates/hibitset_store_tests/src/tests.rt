@@ -78,7 +78,8 @@ fn a_column_is_a_map(rt: HostRuntime) -> Result<(), Fail> {
     Ok(())
 }
 
-// One value in each page from the last one down: they lie in order from the third on, and what comes after the last one lies behind.
+// One value in each page from the last one down: they lie in order from the third on, and what comes after the last one
+// lies behind.
 #[test]
 fn pages_in_order_keep_their_values(rt: HostRuntime) -> Result<(), Fail> {
     let alloc = rt.alloc();

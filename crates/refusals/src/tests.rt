@@ -1,4 +1,8 @@
-//! Each call that asks for memory is made between two requests of the test's own. Where a request of the call is refused it is seen what stands, and the call is made again. A test prints whether the first request, the call and the last request were refused; `allocation_failures.py` refuses the requests one after the other. The tests of `room` make calls that need no memory as things stand, and print nothing between the two requests.
+//! Each call that asks for memory is made between two requests of the test's own.
+//! Where a request of the call is refused it is seen what stands, and the call is made again. A test prints whether the
+//! first request, the call and the last request were refused; `allocation_failures.py` refuses the requests one after
+//! the other. The tests of `room` make calls that need no memory as things stand, and print nothing between the two
+//! requests.
 ghost use Rattle.std.specs.Prelude.{◌≡◌, [], IfOk};
 ghost use Rattle.hibitset_atomic.specs.Seats.{Came, weight_of, reports_of};
 ghost use Rattle.hibitset_atomic.specs.declared.shared.sizes.TheConstants.{SHARES};
@@ -111,7 +115,8 @@ fn way<T: BitSetLike>(set: &T, id: Index) -> [usize; 5] {
     ]
 }
 
-// The functions below compare for many tests: a comparison in a test makes the proof of all that follows there longer, and a call of one of these hardly does.
+// The functions below compare for many tests: a comparison in a test makes the proof of all that follows there longer,
+// and a call of one of these hardly does.
 
 // Sees that a set has exactly these members.
 fn assert_has<T: BitSetLike>(rt: &impl Abort, set: &T, ids: &[Index]) {

@@ -27,7 +27,8 @@ abbrev pub LiesApartIn : (ℕ → ℕ → Type 0) → List ℕ → BuildError �
 LiesApartIn apart list (OutOfRange place index) = Unit {0}
 LiesApartIn apart list (Memory place) = (k : ℕ) → k < place → apart (slice_index list k) (slice_index list place)
 
--- Of the indices from a start on, the one at the place is out of range, or it lies in range and there was no memory for it.
+-- Of the indices from a start on, the one at the place is out of range, or it lies in range and there was no memory for
+-- it.
 abbrev pub IsWhyFrom : ℕ → ℕ → BuildError → Type 0
 IsWhyFrom range start (OutOfRange place index) = (index ≡ start + place) × (range ≤ index)
 IsWhyFrom range start (Memory place) = start + place < range

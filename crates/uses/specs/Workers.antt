@@ -25,7 +25,8 @@ IsNumberOfNew old members n = (fresh : List ℕ) × (length fresh ≡ n) × IsDi
 abbrev pub IsShared : (ℕ → Type 0) → SharedBitSet → Seat → Type 0
 IsShared old set seat = Came set seat × ((i : ℕ) → old i ↔ IsOld set i)
 
--- Before the set is shared it is as it was. While workers are made, or are at work, it is shared and has a seat. Before it settles that seat is whole, and knows all indices of the lists.
+-- Before the set is shared it is as it was. While workers are made, or are at work, it is shared and has a seat. Before
+-- it settles that seat is whole, and knows all indices of the lists.
 abbrev pub IsLeft : (ℕ → Type 0) → (AtomicBitSet → Type 0) → List (Vec ℕ Global) → Refused → Type 0
 IsLeft old same lists (Sharing set) = same set
 IsLeft old same lists (Working set seat) = IsShared old set seat

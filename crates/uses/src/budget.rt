@@ -13,7 +13,9 @@ use hibitset::{BitIter, BitProducer, BitSet, BitSetAnd, BitSetLike, Index};
 /// What two sets have in common.
 pub type Both<'a> = BitSetAnd<&'a BitSet, &'a BitSet>;
 
-/// A walk over what both sets have. However far it goes, it reads at most four words of each for each member of the smaller one, and one. Where one of the two has no index from `end` on, no word ahead of the walk begins at `end` or after it.
+/// A walk over what both sets have. However far it goes, it reads at most four words of each for each member of the
+/// smaller one, and one. Where one of the two has no index from `end` on, no word ahead of the walk begins at `end` or
+/// after it.
 pub fn in_both<'a>(a: &'a BitSet, b: &'a BitSet) -> BitIter<Both<'a>>
     ensures items { items_left is_in_both result ≡ members_below MAX_EID (λ i. has a.now i && has b.now i) }
     ensures few { reads_in_all result ≤ budget a.now b.now }
@@ -23,7 +25,8 @@ pub fn in_both<'a>(a: &'a BitSet, b: &'a BitSet) -> BitIter<Both<'a>>
     (a & b).into_iter()
 }
 
-/// A walk over what both sets have, and one from an index on. The later one reads no more words in all, and those ahead of it are the ones of the whole walk that have only indices after `start`.
+/// A walk over what both sets have, and one from an index on. The later one reads no more words in all, and those ahead
+/// of it are the ones of the whole walk that have only indices after `start`.
 pub fn in_both_from<'a>(
     a: &'a BitSet,
     b: &'a BitSet,
@@ -38,7 +41,8 @@ pub fn in_both_from<'a>(
     ((a & b).iter(), (a & b).iter_from(start))
 }
 
-/// A walk over what both sets have in two parts, or in one where it can't be split. Together they read no more words than one walk may, and by now four at most were read.
+/// A walk over what both sets have in two parts, or in one where it can't be split. Together they read no more words
+/// than one walk may, and by now four at most were read.
 pub fn halves<'a>(
     both: &'a Both<'a>,
 ) -> (BitProducer<'a, Both<'a>>, Option<BitProducer<'a, Both<'a>>>)

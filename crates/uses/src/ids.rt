@@ -32,7 +32,9 @@ impl Ids {
         self.used.contains(id)
     }
 
-    /// Gives the lowest free identifier, which is in use from then on, or `None` where all are in use. Where memory is refused nothing changes. To find it, the words of all identifiers before it are read, since a complement has every summary bit; no contract says how many these are.
+    /// Gives the lowest free identifier, which is in use from then on, or `None` where all are in use. Where memory is
+    /// refused nothing changes. To find it, the words of all identifiers before it are read, since a complement has
+    /// every summary bit; no contract says how many these are.
     pub fn alloc(&mut self) -> Result<Option<Index>, AllocError>
         ensures lowest { IfOk result (λ given. MatchOption given (HasNone MAX_EID (is_free self.old)) (IsFirst MAX_EID (is_free self.old))) }
         ensures taken { IfOk result (λ given. MatchOption given
@@ -77,7 +79,9 @@ impl Ids {
         None
     }
 
-    /// Gives the first run of so many free identifiers, at least one, which are in use from then on, by where it begins, or `None` where there is none. Where memory is refused nothing changes. Runs in use, and free ones that are too short, are passed by whole words.
+    /// Gives the first run of so many free identifiers, at least one, which are in use from then on, by where it
+    /// begins, or `None` where there is none. Where memory is refused nothing changes. Runs in use, and free ones that
+    /// are too short, are passed by whole words.
     pub fn alloc_run(&mut self, count: Index) -> Result<Option<Index>, AllocError>
         requires { 0 < count }
         ensures first { IfOk result (λ given. MatchOption given (HasNoRun (in_use self.old) count) (IsFirstRun (in_use self.old) count)) }

@@ -42,7 +42,8 @@ impl Pages {
         self.dirty.add(page)
     }
 
-    /// Moves all dirty pages to the end of `out`, in ascending order. Room for them is made first, so that where memory is refused nothing changes.
+    /// Moves all dirty pages to the end of `out`, in ascending order. Room for them is made first, so that where memory
+    /// is refused nothing changes.
     pub fn flush(&mut self, out: &mut Vec<Index>) -> Result<(), AllocError>
         ensures flushed { OnOk result (out.new.items ≡ out.old.items ++ members_below MAX_EID (is_dirty self.old)) }
         ensures clean { OnOk result ((page : ℕ) → is_dirty self.new page ≡ false) }

@@ -31,7 +31,8 @@ impl Ready {
         })
     }
 
-    /// Makes a task ready, and tells whether it was. Below the limit it can't be refused memory, at any time; where it is refused nothing changes.
+    /// Makes a task ready, and tells whether it was. Below the limit it can't be refused memory, at any time; where it
+    /// is refused nothing changes.
     pub fn wake(&mut self, task: Index) -> Result<bool, AllocError>
         requires { task < MAX_EID }
         ensures was { IfOk result (λ was. was ≡ is_ready self.old task) }
@@ -65,7 +66,8 @@ impl Ready {
         self.tasks.first().unwrap_or(MAX_EID as Index)
     }
 
-    /// Takes the first ready task from `start` on, or none where none is ready there. A caller that goes on after the task that it was given, and from 0 where it was given none, gives each task its turn.
+    /// Takes the first ready task from `start` on, or none where none is ready there. A caller that goes on after the
+    /// task that it was given, and from 0 where it was given none, gives each task its turn.
     pub fn next_from(&mut self, start: Index) -> Option<Index>
         ensures first { MatchOption result (HasNone MAX_EID (is_ready_from start self.old)) (IsFirst MAX_EID (is_ready_from start self.old)) }
         ensures taken { MatchOption result

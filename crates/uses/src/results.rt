@@ -102,7 +102,8 @@ pub fn histogram(
     Ok(counts)
 }
 
-/// The rows from `start` on before `end` that two searches found, in ascending order. Neither what both found nor the range is made.
+/// The rows from `start` on before `end` that two searches found, in ascending order. Neither what both found nor the
+/// range is made.
 pub fn both_within(
     alloc: Global,
     a: &BitSet,

@@ -8,7 +8,8 @@ use hibitset::laws::atomic_laws;
 use hibitset::{AtomicBitSet, BitSet, Index};
 use std::alloc::{AllocError, Global};
 
-/// A copy with one index more, for which the set has a word: only the copy itself can be refused memory, and it has as many words.
+/// A copy with one index more, for which the set has a word: only the copy itself can be refused memory, and it has as
+/// many words.
 pub fn with_one_more(set: &BitSet, id: Index) -> Result<BitSet, AllocError>
     requires id { id < MAX_EID }
     requires room { id / 64 < slice_len set.now 0 }

@@ -6,7 +6,8 @@ ghost use Rattle.hibitset_atomic.specs.Seats.{IsOld, Came, Known, weight_of, rep
 use hibitset::{ATOMIC_MAX_EID, Index, Seat, SharedBitSet};
 use std::alloc::Global;
 
-/// The identifiers that a thread took, in the order in which it took them, with its seat, and whether it was refused memory for more.
+/// The identifiers that a thread took, in the order in which it took them, with its seat, and whether it was refused
+/// memory for more.
 #[derive(Drop)]
 pub struct Taken {
     pub seat: Seat,
@@ -14,9 +15,12 @@ pub struct Taken {
     pub refused: bool,
 }
 
-/// Takes a fresh identifier: the first from `start` on that the seat's own exchange puts in, of so many tries below `ATOMIC_MAX_EID`, or none where all of these were there.
+/// Takes a fresh identifier: the first from `start` on that the seat's own exchange puts in, of so many tries below
+/// `ATOMIC_MAX_EID`, or none where all of these were there.
 ///
-/// It was not there when the set was shared, nor did the seat know it, and it is the newest of the seat's reports from then on. No two seats that are joined have a report in common, as `join` says, so no other of them is given it, whatever the threads do.
+/// It was not there when the set was shared, nor did the seat know it, and it is the newest of the seat's reports from
+/// then on. No two seats that are joined have a report in common, as `join` says, so no other of them is given it,
+/// whatever the threads do.
 pub fn take_fresh(set: &SharedBitSet, seat: &mut Seat, start: Index, tries: u32) -> Option<Index>
     requires { Came set.now seat.old }
     ensures came { Came set.now seat.new × (weight_of seat.new ≡ weight_of seat.old) }
@@ -37,7 +41,8 @@ pub fn take_fresh(set: &SharedBitSet, seat: &mut Seat, start: Index, tries: u32)
     None
 }
 
-// Takes so many fresh identifiers into a list, or fewer where no more are found, or where memory is refused, which it tells.
+// Takes so many fresh identifiers into a list, or fewer where no more are found, or where memory is refused, which it
+// tells.
 fn take_into(set: &SharedBitSet, seat: &mut Seat, ids: &mut Vec<Index>, count: usize) -> bool
     requires came { Came set.now seat.old }
     requires none { (reports_of seat.old ≡ []) × (ids.old.items ≡ []) }
@@ -60,7 +65,9 @@ fn take_into(set: &SharedBitSet, seat: &mut Seat, ids: &mut Vec<Index>, count: u
     false
 }
 
-/// Takes so many fresh identifiers with a new seat. It takes fewer only where memory for the list is refused, as `refused` tells, and where each index below `ATOMIC_MAX_EID` is there, as the seat then knows. Room is made before one is taken, so that none is lost.
+/// Takes so many fresh identifiers with a new seat. It takes fewer only where memory for the list is refused, as
+/// `refused` tells, and where each index below `ATOMIC_MAX_EID` is there, as the seat then knows. Room is made before
+/// one is taken, so that none is lost.
 pub fn take_many(alloc: Global, set: &SharedBitSet, seat: Seat, count: usize) -> Taken
     requires { Came set.now seat × (reports_of seat ≡ []) }
     ensures came { Came set.now result.seat × (weight_of result.seat ≡ weight_of seat) }

@@ -7,7 +7,9 @@ ghost use Rattle.hibitset_atomic.specs.Seats.{IsOld, Came, Known, weight_of, rep
 use hibitset::{Index, Seat, SharedBitSet};
 use std::alloc::{AllocError, Global};
 
-/// The indices that a walk gives while others add, in ascending order: each that was there before `share`, each that the seat knew, and whatever else it met. The seat knows them all afterwards. It loads at most three words for each and four more, and writes none. Where memory is refused the seat still came from the set, and knows what it knew.
+/// The indices that a walk gives while others add, in ascending order: each that was there before `share`, each that
+/// the seat knew, and whatever else it met. The seat knows them all afterwards. It loads at most three words for each
+/// and four more, and writes none. Where memory is refused the seat still came from the set, and knows what it knew.
 pub fn indices(alloc: Global, set: &SharedBitSet, seat: &mut Seat) -> Result<Vec<Index>, AllocError>
     requires { Came set.now seat.old }
     ensures came { Came set.now seat.new }
@@ -26,7 +28,8 @@ pub fn indices(alloc: Global, set: &SharedBitSet, seat: &mut Seat) -> Result<Vec
     Ok(all)
 }
 
-/// The first index that a walk gives, which is dropped after it: no index from before `share`, and none that the seat knew, is less. The seat knows it afterwards, and what it knew. At most four words are loaded, and none is written.
+/// The first index that a walk gives, which is dropped after it: no index from before `share`, and none that the seat
+/// knew, is less. The seat knows it afterwards, and what it knew. At most four words are loaded, and none is written.
 pub fn first(set: &SharedBitSet, seat: &mut Seat) -> Option<Index>
     requires { Came set.now seat.old }
     ensures came { Came set.now seat.new }

@@ -138,9 +138,11 @@ fn together(set: &SharedBitSet, kept: Seat, works: Vec<Work>) -> Work
     Work { seat, new }
 }
 
-/// Puts all indices of some lists into a set, each list on a thread of its own, and tells how many of them were new. Indices from `ATOMIC_MAX_EID` on are left out.
+/// Puts all indices of some lists into a set, each list on a thread of its own, and tells how many of them were new.
+/// Indices from `ATOMIC_MAX_EID` on are left out.
 ///
-/// The set has exactly its old members and the indices of the lists, whatever the threads do. A seat stays here while they work, so that the set can be settled where some of them were refused memory.
+/// The set has exactly its old members and the indices of the lists, whatever the threads do. A seat stays here while
+/// they work, so that the set can be settled where some of them were refused memory.
 pub fn add_lists<R: Threads + Sync>(
     rt: &R,
     alloc: Global,

@@ -1,4 +1,6 @@
-//! Values from outside: walks and assignments over types of the tests' own, which count or list the words that are read, or have all bits in the layers above the lowest.
+//! Values from outside:
+//! walks and assignments over types of the tests' own, which count or list the words that are read, or have all bits in
+//! the layers above the lowest.
 mod clones;
 mod ends;
 mod parts;
@@ -46,7 +48,8 @@ fn list<T: BitSetLike>(alloc: Global, set: T) -> Result<Vec<Index>, AllocError> 
     set.iter().collect(alloc)
 }
 
-// The functions below compare for many tests: a comparison in a test makes the proof of all that follows there longer, and a call of one of these hardly does.
+// The functions below compare for many tests: a comparison in a test makes the proof of all that follows there longer,
+// and a call of one of these hardly does.
 
 // Sees that a walk over a set gives these indices.
 fn assert_members<T: BitSetLike>(

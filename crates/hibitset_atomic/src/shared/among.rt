@@ -20,7 +20,8 @@ fn share_of_one(weight: u32, seats: usize) -> u32
 impl SharedBitSet {
     // Two seats of one: the second has so many of its shares, and the first has the others, with the reports.
     //
-    // Each is a half, or a part of a half that is joined to the other half. So there are at most 15 joins, with a load each.
+    // Each is a half, or a part of a half that is joined to the other half. So there are at most 15 joins, with a load
+    // each.
     fn cut_off(&self, seat: Seat, shares: u32) -> (Seat, Seat)
         requires came { Came self.now seat }
         requires shares { (0 < shares) × (shares < weight_of seat) }
@@ -72,9 +73,12 @@ impl SharedBitSet {
         seats.push(rest).unwrap();
     }
 
-    /// Makes n seats of one, for as many threads: each has the weight of the one by their number, rounded down or up, and together they have all of it.
+    /// Makes n seats of one, for as many threads: each has the weight of the one by their number, rounded down or up,
+    /// and together they have all of it.
     ///
-    /// The first has the reports, and the others have none; all know what the seat knew. Joined again they are a seat of the same weight, whole where that was. Of the loads, each has those of the seat and 30 more at most; the exchanges stay with the first. It waits for nobody.
+    /// The first has the reports, and the others have none; all know what the seat knew. Joined again they are a seat
+    /// of the same weight, whole where that was. Of the loads, each has those of the seat and 30 more at most; the
+    /// exchanges stay with the first. It waits for nobody.
     ///
     /// It is refused for memory alone, for the vector, which it takes first: then the seat comes back unchanged.
     pub fn divide_among(&self, alloc: Global, seat: Seat, n: usize) -> Result<Vec<Seat>, Seat>

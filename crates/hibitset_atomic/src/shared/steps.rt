@@ -75,7 +75,8 @@ impl SharedBitSet {
             .fetch_or::<Marks>(pass, (mark / 64) as usize, 1 << (mark % 64));
     }
 
-    // Sees to it that the bit at a layer above 0 stands, after that of the layer below: reads it, and exchanges where it does not stand yet, so that threads whose indices lie under one word don't contend for it.
+    // Sees to it that the bit at a layer above 0 stands, after that of the layer below: reads it, and exchanges where
+    // it does not stand yet, so that threads whose indices lie under one word don't contend for it.
     #[inline]
     pub(crate) fn mark(&self, pass: &mut Pass, id: Index, layer: usize)
         requires came { pass.old.table_id ≡ self.now.table.shared.table_id }
@@ -116,7 +117,8 @@ impl SharedBitSet {
         (word >> (mark % 64)) & 1 != 0
     }
 
-    // The word of a layer at a position. Under a summary bit that the seat has seen it is not zero, and it has each bit over an old or known index.
+    // The word of a layer at a position. Under a summary bit that the seat has seen it is not zero, and it has each bit
+    // over an old or known index.
     pub(crate) fn word(&self, pass: &mut Pass, layer: usize, position: u32) -> u64
         requires came { pass.old.table_id ≡ self.now.table.shared.table_id }
         requires seat { 0 < length pass.old.me.0.shares }

@@ -1,4 +1,5 @@
-//! Calls made a second time, with seats of any weight, and over many indices: none of them is refused, and all answer as the first ones do.
+//! Calls made a second time, with seats of any weight, and over many indices:
+//! none of them is refused, and all answer as the first ones do.
 ghost use Rattle.std.specs.Prelude.{◌≡◌, ◌<◌, IfSome};
 ghost use Rattle.hibitset_atomic.specs.Seats.{Came};
 ghost use Rattle.hibitset_atomic.specs.declared.atomic.TheConstants.{ATOMIC_MAX_EID};
@@ -10,7 +11,8 @@ use hibitset_base::{BitSetLike, Index};
 use std::alloc::AllocError;
 use std::process::Abort;
 
-// A set that was shared, to which one index was added, and that is held alone again. None where memory was refused, or where the answer was not that the index is new.
+// A set that was shared, to which one index was added, and that is held alone again. None where memory was refused, or
+// where the answer was not that the index is new.
 fn shared_and_settled(set: AtomicBitSet, id: Index) -> Option<AtomicBitSet>
     requires { id < ATOMIC_MAX_EID }
 {

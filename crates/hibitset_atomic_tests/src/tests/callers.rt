@@ -98,7 +98,8 @@ fn on_two_threads<R: Threads + Wait + Sync>(
     )
 }
 
-/// Two threads add each index below a bound. No index is reported twice, and the set has exactly the old indices and the reported ones.
+/// Two threads add each index below a bound. No index is reported twice, and the set has exactly the old indices and
+/// the reported ones.
 pub fn add_from_two<R: Threads + Wait + Sync>(
     rt: &R,
     set: SharedBitSet,
@@ -145,7 +146,8 @@ pub fn settle_with(
     Ok(set)
 }
 
-/// Adds an index twice. The second time it is read and nothing else, so there are no more exchanges than one add may make.
+/// Adds an index twice. The second time it is read and nothing else, so there are no more exchanges than one add may
+/// make.
 pub fn add_again(set: &SharedBitSet, seat: &mut Seat, id: Index) -> bool
     requires came { Came set.now seat.old }
     requires id { id < ATOMIC_MAX_EID }

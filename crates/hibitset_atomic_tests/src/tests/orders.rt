@@ -1,6 +1,8 @@
-//! Every order in which the steps of two additions and the reads of a walk take turns, beside a model that keeps words of its own.
+//! Every order in which the steps of two additions and the reads of a walk take turns, beside a model that keeps words
+//! of its own.
 //!
-//! Both calls begin before all turns, and the walk opens right before its first read: these events touch no word, so where they stand changes no answer.
+//! Both calls begin before all turns, and the walk opens right before its first read: these events touch no word, so
+//! where they stand changes no answer.
 use hibitset_atomic::{AtomicBitSet, Event, Reply, StepError, World};
 use hibitset_base::{BitSetLike, Index};
 use std::alloc::{AllocError, Global};
@@ -199,7 +201,8 @@ fn answers(world: &mut World, event: Event, wanted: Result<Reply, StepError>) ->
     world.apply(event) == wanted
 }
 
-// Plays one order of turns, the walk opened right before its first, and answers the model after it, or in what the world differed from it.
+// Plays one order of turns, the walk opened right before its first, and answers the model after it, or in what the
+// world differed from it.
 fn play(
     alloc: Global,
     world: &mut World,
@@ -284,7 +287,8 @@ fn next_order(turns: &mut [Player]) -> bool {
     true
 }
 
-// Plays one order from a set that is empty and is so again afterwards. It answers the set, or in what the world differed from the model.
+// Plays one order from a set that is empty and is so again afterwards. It answers the set, or in what the world
+// differed from the model.
 fn play_from(
     set: AtomicBitSet,
     alloc: Global,
@@ -307,7 +311,8 @@ fn play_from(
     Ok(Ok(set))
 }
 
-// Plays the opening turns and then every order of the others, and answers how many orders there are, or the first in which the world differs from the model.
+// Plays the opening turns and then every order of the others, and answers how many orders there are, or the first in
+// which the world differs from the model.
 fn play_all(
     alloc: Global,
     ids: (Index, Index),
@@ -337,7 +342,8 @@ fn assert_played(rt: &impl Abort, played: Result<u32, Failing>, orders: u32) {
     assert_eq!(rt; played, Ok(orders));
 }
 
-// Every order of the four steps of each of two calls on two indices of one word and four reads of a walk: 12! / (4! 4! 4!).
+// Every order of the four steps of each of two calls on two indices of one word and four reads of a walk: 12! / (4! 4!
+// 4!).
 #[test]
 fn of_one_word(rt: HostRuntime) -> Result<(), AllocError> {
     let mut turns = [
@@ -349,7 +355,8 @@ fn of_one_word(rt: HostRuntime) -> Result<(), AllocError> {
     Ok(())
 }
 
-// The same for one index, where a step comes first, and is the first call's: of the orders left out, some only change the names of the calls, and in the others the walk reads an empty top word and has ended. 11! / (3! 4! 4!).
+// The same for one index, where a step comes first, and is the first call's: of the orders left out, some only change
+// the names of the calls, and in the others the walk reads an empty top word and has ended. 11! / (3! 4! 4!).
 #[test]
 fn of_the_same_index(rt: HostRuntime) -> Result<(), AllocError> {
     let mut turns = [
@@ -361,7 +368,8 @@ fn of_the_same_index(rt: HostRuntime) -> Result<(), AllocError> {
     Ok(())
 }
 
-// Two indices of different blocks, where a walk that finds both makes six reads. The first two steps of each come first: they set bits of words of their own, to which no walk comes before the third. 10! / (2! 2! 6!).
+// Two indices of different blocks, where a walk that finds both makes six reads. The first two steps of each come
+// first: they set bits of words of their own, to which no walk comes before the third. 10! / (2! 2! 6!).
 #[test]
 fn of_different_blocks(rt: HostRuntime) -> Result<(), AllocError> {
     let mut turns = [

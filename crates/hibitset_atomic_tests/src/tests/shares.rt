@@ -13,7 +13,8 @@ use hibitset_base::BitSetLike;
 use std::alloc::{AllocError, AllocGlobal, Global};
 use std::process::Abort;
 
-// Adds each index below a bound twice and then asks for it, and counts the first answers false, the second ones true, and the last ones true.
+// Adds each index below a bound twice and then asks for it, and counts the first answers false, the second ones true,
+// and the last ones true.
 fn add_twice(set: &SharedBitSet, seat: &mut Seat, count: u32) -> (u32, u32, u32)
     requires { Came set.now seat.old × (count < ATOMIC_MAX_EID) }
     ensures { Came set.now seat.new }

@@ -119,7 +119,8 @@ fn assert_refused(rt: &impl Abort, world: &mut World, event: Event, error: StepE
     assert_eq!(rt; world.apply(event), Err(error));
 }
 
-// Sees that no event of such a world happens that names the call and the walk that have ended, an index that is out of range, or a number that is not known.
+// Sees that no event of such a world happens that names the call and the walk that have ended, an index that is out of
+// range, or a number that is not known.
 fn assert_refusals(rt: &impl Abort, world: &mut World) {
     let id = ATOMIC_MAX_EID as Index;
     assert_refused(rt, world, Event::Step { call: 1 }, StepError::Ended);

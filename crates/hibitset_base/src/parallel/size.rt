@@ -1,6 +1,10 @@
 //! Which sets are large enough for threads.
 //!
-//! Nothing is promised of the choice, which is between two ways to the same answer. Threads are started anew at each call, and until they run a walk in one thread has gone over some hundred thousand members. What a closure does at a member nobody can know, so for `for_each` and `fold` the members alone decide. What `count` and `collect` do is known: where words are cheap it is told by the words of layer 0 that are looked at and the members that are listed, and elsewhere by the members. bench/README.md has the times on either side of these numbers.
+//! Nothing is promised of the choice, which is between two ways to the same answer. Threads are started anew at each
+//! call, and until they run a walk in one thread has gone over some hundred thousand members. What a closure does at a
+//! member nobody can know, so for `for_each` and `fold` the members alone decide. What `count` and `collect` do is
+//! known: where words are cheap it is told by the words of layer 0 that are looked at and the members that are listed,
+//! and elsewhere by the members. bench/README.md has the times on either side of these numbers.
 use crate::bits::take_bit;
 use crate::like::BitSetLike;
 use crate::util::{LAYERS, average_ones};
@@ -9,7 +13,8 @@ use rayon::current_num_threads;
 use std::cmp::min;
 use std::thread::Threads;
 
-/// About how many words of layer 0 with members a set has: those of which all bits stand, the others, the members of these, and what it takes to list them.
+/// About how many words of layer 0 with members a set has: those of which all bits stand, the others, the members of
+/// these, and what it takes to list them.
 #[derive(Clone, Copy)]
 pub(super) struct Size {
     full: usize,
@@ -43,7 +48,8 @@ const NOTHING: Size = Size {
 // How many members of a word count where it is listed. The others are written beside these.
 const FIRST: usize = 6;
 
-// What it takes to list the members of a word. Those of one with many are written nearly as fast as one thread could make their room in a list, so that several save nothing.
+// What it takes to list the members of a word. Those of one with many are written nearly as fast as one thread could
+// make their room in a list, so that several save nothing.
 fn listing(members: usize) -> usize {
     if members > MOST_BY_EIGHTS {
         return 0;
@@ -51,7 +57,9 @@ fn listing(members: usize) -> usize {
     2 + min(members, FIRST)
 }
 
-/// What a call has to do at each word of layer 0 of which all bits stand, and at each of the others, at each of their members, and for each unit of what it takes to list them; and from how much of it on threads save more than it takes to start them.
+/// What a call has to do at each word of layer 0 of which all bits stand, and at each of the others, at each of their
+/// members, and for each unit of what it takes to list them; and from how much of it on threads save more than it takes
+/// to start them.
 #[derive(Clone, Copy)]
 pub(super) struct Work {
     full: usize,
@@ -115,7 +123,8 @@ pub(super) fn collecting<T: BitSetLike>(set: &T) -> Work {
     }
 }
 
-// Tells whether a set of this size has about so many members and so much to do that several threads save time: never where there is one processor.
+// Tells whether a set of this size has about so many members and so much to do that several threads save time: never
+// where there is one processor.
 pub(super) fn pays<R: Threads>(rt: &R, size: Size, work: Work, least: usize) -> bool {
     is_enough(size, work, least) && current_num_threads(rt) > 1
 }
@@ -147,7 +156,8 @@ fn joined(size: Size, other: Size) -> Size {
     }
 }
 
-/// About how large the set is. It reads a few words under each bit of the layer below the top, until there is so much of this work, at about so many members, however much more there is.
+/// About how large the set is. It reads a few words under each bit of the layer below the top, until there is so much
+/// of this work, at about so many members, however much more there is.
 pub(super) fn estimate<T: BitSetLike>(set: &T, work: Work, least: usize) -> Size {
     let mut left = set.get_from_layer(LAYERS - 1, 0);
     let mut size = NOTHING;
@@ -170,7 +180,8 @@ fn size_below<T: BitSetLike>(set: &T, position: usize) -> Size {
     size
 }
 
-// About how large the part under a word of the layer below that is: as if there were as much under each of its bits as under the middle one.
+// About how large the part under a word of the layer below that is: as if there were as much under each of its bits as
+// under the middle one.
 fn size_under<T: BitSetLike>(set: &T, position: usize) -> Size {
     let mut middle = position;
     let mut words = 1usize;

@@ -1,6 +1,8 @@
 //! What a function answers at each part of a list, from several threads.
 //!
-//! There is a worker for each processor. Each takes the next part that none has taken, by a counter that they share, so that no processor is idle while parts are left. An answer keeps the number of its part, by which the answers are brought in order.
+//! There is a worker for each processor. Each takes the next part that none has taken, by a counter that they share, so
+//! that no processor is idle while parts are left. An answer keeps the number of its part, by which the answers are
+//! brought in order.
 ghost use Rattle.std.specs.Prelude.{◌≡◌, ◌⊎◌, ℕ, All, Contains, IfOk, IfSome, None};
 ghost use Rattle.std.specs.Borrow.{Bor};
 ghost use Rattle.std.specs.Thread.{IsSync, IsSend};
@@ -21,7 +23,8 @@ struct Answer<U> {
     value: U,
 }
 
-// The answers of one worker: it takes the next part that none has taken, until there is no more. Its list has room for all parts, so that what is allocated does not depend on which worker takes which.
+// The answers of one worker: it takes the next part that none has taken, until there is no more. Its list has room for
+// all parts, so that what is allocated does not depend on which worker takes which.
 fn work<P, U: Drop, F: Fn(&P) -> U>(
     alloc: Global,
     parts: &[P],

@@ -34,7 +34,8 @@ fn received(alloc: Global, bytes: &[u8]) -> Result<BitSet, ReadError>
     read_below(alloc, bytes, 64)
 }
 
-// A copy by way of a writer and a reader in memory: it has the same members, and fails only if one of the two or an allocation does.
+// A copy by way of a writer and a reader in memory: it has the same members, and fails only if one of the two or an
+// allocation does.
 fn sent(alloc: Global, set: &BitSet) -> Result<BitSet, ReadFromError>
     ensures members { IfOk result (λ copy. (i : ℕ) → has copy i ≡ has set.now i) }
     ensures reason { IfErr result IsOutside }

@@ -1,4 +1,5 @@
-//! Streams of another library, bytes with one fault, and changed streams, judged by a reader of the format's specification.
+//! Streams of another library, bytes with one fault, and changed streams, judged by a reader of the format's
+//! specification.
 use super::*;
 
 // The value of a digit of a text in base 16.

@@ -91,7 +91,8 @@ fn put_bytes<W: Write>(writer: &mut W, bytes: &[u8]) -> bool
     false
 }
 
-// Writes as many of the bytes as the writer takes at once, and none if a signal interrupts it. Returns `None` if it failed, or takes no more.
+// Writes as many of the bytes as the writer takes at once, and none if a signal interrupts it. Returns `None` if it
+// failed, or takes no more.
 fn put_some<W: Write>(writer: &mut W, bytes: &[u8]) -> Option<usize>
     ensures within { IfSome result (λ count. count ≤ length bytes.now) }
     ensures written { MatchOption result (Keeps (W.contents writer.old) (W.contents writer.new)) (λ count. Appends (W.contents writer.old) (W.contents writer.new) (take count bytes.now)) }

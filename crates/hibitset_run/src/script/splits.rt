@@ -16,7 +16,8 @@ pub(super) fn split(sets: &[BitSet; 8], slot: Slot, layers: Layers) -> Reply
     Reply::Count(count_parts(BitProducer(set.iter(), layers.number())))
 }
 
-// Splits a part until nothing of it splits further, and counts what there is then. Each split halves the bits of a word, so it goes at most 6 calls deep for each layer that is looked at.
+// Splits a part until nothing of it splits further, and counts what there is then. Each split halves the bits of a
+// word, so it goes at most 6 calls deep for each layer that is looked at.
 fn count_parts(part: BitProducer<BitSet>) -> usize
     requires { MaySplit part }
     ensures { result ≡ parts_of part.entry }

@@ -290,7 +290,8 @@ fn splits_to_the_end(rt: HostRuntime) -> Result<(), Fail> {
     Ok(())
 }
 
-// What became of adding an index, listing the set and asking for it: each of the two that take memory may have been refused.
+// What became of adding an index, listing the set and asking for it: each of the two that take memory may have been
+// refused.
 fn is_run(replies: &[Reply]) -> bool {
     match replies {
         [Reply::Bool(false), Reply::List(list), Reply::Bool(true)] => {
@@ -302,7 +303,9 @@ fn is_run(replies: &[Reply]) -> bool {
     }
 }
 
-// The run is made between two requests of the test's own; `allocation_failures.py` refuses the requests one after the other. Where the room for the replies is refused no set has changed, and where a command is refused the run goes on. Then the run is made again.
+// The run is made between two requests of the test's own; `allocation_failures.py` refuses the requests one after the
+// other. Where the room for the replies is refused no set has changed, and where a command is refused the run goes on.
+// Then the run is made again.
 #[test]
 fn refused_and_again(rt: HostRuntime) -> Result<(), Fail> {
     let alloc = rt.alloc();

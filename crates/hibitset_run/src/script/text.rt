@@ -25,7 +25,8 @@ pub enum Ended {
     Done,
     /// This line, counted from 1, is the first that is no command. Nothing was run.
     BadLine(usize),
-    /// Memory was refused, but not to a command, which replies that by itself. Commands may have been run, and a part of the replies may be written.
+    /// Memory was refused, but not to a command, which replies that by itself. Commands may have been run, and a part
+    /// of the replies may be written.
     NoMemory,
     /// A read failed. Nothing was run.
     InputFailed,
@@ -62,7 +63,8 @@ impl fmt::Display for Ended {
     }
 }
 
-/// Reads a script to its end, runs its commands on eight empty sets, and writes one line a reply. Where the first line is `store`, the others are commands on two empty columns.
+/// Reads a script to its end, runs its commands on eight empty sets, and writes one line a reply. Where the first line
+/// is `store`, the others are commands on two empty columns.
 ///
 /// The first fault met ends it. Where a line is bad, nothing is run or written.
 pub fn run_text<R: Read, W: Write>(alloc: Global, reader: &mut R, writer: &mut W) -> Ended
@@ -131,7 +133,8 @@ fn no_sets(alloc: Global) -> [BitSet; 8]
 
 // All bytes of a reader. A read that a signal interrupts is made again.
 //
-// The error of `read_to_end` would not tell a reader's want of memory, which is a failed read, from the want of room for what it gave.
+// The error of `read_to_end` would not tell a reader's want of memory, which is a failed read, from the want of room
+// for what it gave.
 fn read_all<R: Read>(alloc: Global, reader: &mut R) -> Result<Vec<u8>, Ended>
     ensures ok { IfOk result (λ input. IfSome (R.remaining reader.old) (λ bytes. input.items ≡ bytes)) }
     ensures err { IfErr result IsReadFault }

@@ -113,7 +113,9 @@ fn is_run(replies: &[StoreReply]) -> bool {
         && *fifth == StoreReply::Value(if q { Some(2) } else { None })
 }
 
-// The run is made between two requests of the test's own; `allocation_failures.py` refuses the requests one after the other. Where the room for the replies is refused no column has changed, and where a command is refused the run goes on. Then the run is made again.
+// The run is made between two requests of the test's own; `allocation_failures.py` refuses the requests one after the
+// other. Where the room for the replies is refused no column has changed, and where a command is refused the run goes
+// on. Then the run is made again.
 #[test]
 fn refused_and_again(rt: HostRuntime) -> Result<(), Fail> {
     let alloc = rt.alloc();

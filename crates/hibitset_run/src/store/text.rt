@@ -50,7 +50,8 @@ fn no_columns(alloc: Global) -> [Column<u32>; 2]
     [Column::new(alloc), Column::new(alloc)]
 }
 
-// The commands, one a line. The first line that is none ends them, as `BadLine`, whose number counts the line before all of these too.
+// The commands, one a line. The first line that is none ends them, as `BadLine`, whose number counts the line before
+// all of these too.
 fn commands_of(alloc: Global, lines: &[u8]) -> Result<Vec<StoreCommand>, Ended>
     ensures ok { IfOk result (λ commands. Say IsLine commands.items (lines_of lines.now)) }
     ensures err { IfErr result (IsLineFault IsLine (lines_of lines.now) 1) }

@@ -119,7 +119,8 @@ fn on_two_threads<R: Threads + Wait + Sync>(
     )
 }
 
-// What came of two threads: whether both found, how many adds of 5 answered false, whether the seats joined are whole, and the set afterwards.
+// What came of two threads: whether both found, how many adds of 5 answered false, whether the seats joined are whole,
+// and the set afterwards.
 #[derive(Drop)]
 struct Met {
     found: bool,

@@ -28,7 +28,8 @@ const MANY_WORDS: usize = 2_097_152;
 // How many items meet through `rayon` alone.
 const ITEMS: usize = 4_096;
 
-// Two places where a thread shows itself and looks for the other: how often one came to each, and how often it found the other. The first times that it comes, as many as `alone`, it looks for none.
+// Two places where a thread shows itself and looks for the other: how often one came to each, and how often it found
+// the other. The first times that it comes, as many as `alone`, it looks for none.
 #[derive(Drop)]
 struct Places {
     alone: u32,
@@ -168,7 +169,8 @@ impl BitSetLike for Meeting {
     }
 }
 
-// Tells whether the first and the last of `ITEMS` items meet through `rayon` alone. Where they don't, or there is one processor, no walk can show it.
+// Tells whether the first and the last of `ITEMS` items meet through `rayon` alone. Where they don't, or there is one
+// processor, no walk can show it.
 fn threads_meet(rt: &(impl Threads + Sync)) -> bool {
     if rayon::current_num_threads(rt) == 1 {
         return false;
@@ -204,7 +206,8 @@ fn sum_of<T: BitSetLike + Send + Sync>(
     )
 }
 
-// Counts a walk over a run, lists it, adds it up and visits it, and sees that its first and last words met each time, where it is cut in so many layers. A list is counted first.
+// Counts a walk over a run, lists it, adds it up and visits it, and sees that its first and last words met each time,
+// where it is cut in so many layers. A list is counted first.
 fn assert_meets(
     rt: &(impl Abort + Threads + Sync),
     alloc: Global,

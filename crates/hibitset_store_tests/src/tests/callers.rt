@@ -133,7 +133,8 @@ fn put_new<V: Drop>(column: &mut Column<V>, id: Index, value: V) -> Result<bool,
     Ok(column.insert(id, value)?.is_none())
 }
 
-// Puts two values, the first of which is taken out again. The second can't be refused: the first made the room, and `remove` keeps it.
+// Puts two values, the first of which is taken out again. The second can't be refused: the first made the room, and
+// `remove` keeps it.
 fn put_again<V: Drop>(
     column: &mut Column<V>,
     id: Index,
@@ -192,7 +193,8 @@ fn fill(column: &mut Column<u32>, value: u32) -> bool
     true
 }
 
-// The column of these indices, each with itself as its value, as far as there is memory. However they lie, it has at most four times as many places as those of its pages.
+// The column of these indices, each with itself as its value, as far as there is memory. However they lie, it has at
+// most four times as many places as those of its pages.
 fn spread(alloc: Global, ids: &[Index]) -> Column<u32>
     ensures { list_len result ≤ SPARSEST * (PAGE * made_pages result) }
 {

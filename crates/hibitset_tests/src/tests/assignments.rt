@@ -144,7 +144,8 @@ fn room_for_one_word(rt: HostRuntime) -> Result<(), AllocError> {
     Ok(())
 }
 
-// Tells whether these indices are left where a set loses those of another, once and once more, under this word of layer 3 and over as many words as before.
+// Tells whether these indices are left where a set loses those of another, once and once more, under this word of layer
+// 3 and over as many words as before.
 fn leaves_of_first(
     alloc: Global,
     ours: &[Index],

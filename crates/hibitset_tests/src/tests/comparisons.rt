@@ -5,7 +5,8 @@ use crate::tests::{assert_members, set_of};
 use hibitset::{BitSet, Index};
 use std::alloc::{AllocError, Global};
 
-// Tells whether the first set contains the second, as it is said, and whether they contain each other and are equal, either way, as it is said.
+// Tells whether the first set contains the second, as it is said, and whether they contain each other and are equal,
+// either way, as it is said.
 fn compare_as(
     alloc: Global,
     ours: &[Index],

@@ -3,7 +3,8 @@ use hibitset_base::laws::virtual_laws;
 use hibitset_base::util::{Index, LAYERS, Row, SHIFT0, SHIFT1, SHIFT2, SHIFT3, SHIFT4, offsets};
 use hibitset_base::virt::BitSetAll;
 
-// What an index is made of: the index, the positions of its words in layers 0 to 3, and the numbers of its bits in layers 0 to 4.
+// What an index is made of: the index, the positions of its words in layers 0 to 3, and the numbers of its bits in
+// layers 0 to 4.
 type Vector = (Index, (usize, usize, usize, usize), [usize; LAYERS]);
 
 // Tells whether an index is made of these.

@@ -201,7 +201,8 @@ fn each_of_many(rt: HostRuntime) -> Result<(), AllocError> {
     assert_visits(&rt, rt.alloc(), walk, 524_288, 137_438_691_328)
 }
 
-// A set of so many words of layer 0 with eight members each, but for every fourth, collected. By the others it seems large enough for threads.
+// A set of so many words of layer 0 with eight members each, but for every fourth, collected. By the others it seems
+// large enough for threads.
 fn assert_collected(
     rt: &(impl Abort + Threads + Sync),
     alloc: Global,
@@ -280,7 +281,8 @@ fn visits_of_border_indices(rt: HostRuntime) -> Result<(), AllocError> {
     Ok(())
 }
 
-// A run of 150,000 members in each of four regions of 2^24 indices, the last one up to the last index: enough for threads.
+// A run of 150,000 members in each of four regions of 2^24 indices, the last one up to the last index: enough for
+// threads.
 fn four_runs(alloc: Global) -> Result<BitSet, AllocError> {
     let mut set = BitSet::with_capacity(alloc, MAX_EID as Index)?;
     for start in [0u32, 16_777_216, 520_093_696, 1_073_591_824] {

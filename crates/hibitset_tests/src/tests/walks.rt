@@ -167,7 +167,8 @@ fn added_up(set: BitSet) -> u32 {
     total
 }
 
-// A walk over an intersection, whose words all lie over members of the first set, and are at most four for each: in each layer at most as many as the smaller set has members.
+// A walk over an intersection, whose words all lie over members of the first set, and are at most four for each: in
+// each layer at most as many as the smaller set has members.
 fn walk_both<'a>(a: &'a BitSet, b: &'a BitSet) -> BitIter<BitSetAnd<&'a BitSet, &'a BitSet>>
     ensures read { words_read result ≡ 1 }
     ensures bound { IsBoundBy LAYERS (has a.now) (words_ahead (λ both. intersected both.0.now both.1.now) result) }

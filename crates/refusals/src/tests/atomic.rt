@@ -49,7 +49,8 @@ fn add(rt: HostRuntime) -> Result<(), Fail> {
 // Indices of four blocks. The first of each of two blocks may find no memory, and one that is alone in the fourth.
 const SPREAD: [Index; 9] = [6, 7, 8, 9, 5_000_000, 10, 9_000_000, 13_000_000, 11];
 
-// Tells whether an error is want of memory for an item of `SPREAD` that can need some, and the next item that was left is the one after it.
+// Tells whether an error is want of memory for an item of `SPREAD` that can need some, and the next item that was left
+// is the one after it.
 fn is_refused_there(error: BuildError, next: Option<Index>, places: &[usize]) -> bool {
     match error {
         BuildError::Memory { place } => {
@@ -59,7 +60,8 @@ fn is_refused_there(error: BuildError, next: Option<Index>, places: &[usize]) ->
     }
 }
 
-// Tells whether building was refused memory: for the empty set, and then all of `SPREAD` is left, or for an item that can need some, and then all after it.
+// Tells whether building was refused memory: for the empty set, and then all of `SPREAD` is left, or for an item that
+// can need some, and then all after it.
 fn is_building_refused(error: BuildError, next: Option<Index>) -> bool {
     let for_no_item = error == (BuildError::Memory { place: 0 }) && next == Some(SPREAD[0]);
     for_no_item || is_refused_there(error, next, &[0, 4, 7])
@@ -133,7 +135,8 @@ fn from_index_refs(rt: HostRuntime) -> Result<(), Fail> {
 
 const ONE_FITS: [Index; 3] = [7, 16_777_216, 8];
 
-// Sees what is left of `ONE_FITS`: where memory was refused all, or all after the first item, and else all after the one out of range.
+// Sees what is left of `ONE_FITS`: where memory was refused all, or all after the first item, and else all after the
+// one out of range.
 fn assert_left_of_one(rt: &impl Abort, refused: bool, next: Option<Index>) {
     let after_out_of_range = next == Some(8);
     assert!(rt; refused != after_out_of_range && next.is_some());
@@ -173,7 +176,8 @@ fn from_index_refs_of_which_one_fits(rt: HostRuntime) -> Result<(), Fail> {
 
 const NONE_FITS: [Index; 2] = [16_777_216, 8];
 
-// Sees that no item of `NONE_FITS` was drawn where memory was refused, and else that the first is out of range and no other was drawn.
+// Sees that no item of `NONE_FITS` was drawn where memory was refused, and else that the first is out of range and no
+// other was drawn.
 fn assert_none_fits(rt: &impl Abort, built: Result<AtomicBitSet, BuildError>, next: Option<Index>) {
     let Some(error) = built.err() else {
         panic!(rt; "an index out of range was taken")

@@ -5,7 +5,8 @@ use hibitset_store::{Column, join};
 use std::alloc::{AllocError, Global};
 use std::test::Fail;
 
-// Each growth of `insert`: of the table of pages, of the places and of the mask. Refused, the value comes back and the column is as it was.
+// Each growth of `insert`: of the table of pages, of the places and of the mask. Refused, the value comes back and the
+// column is as it was.
 #[test]
 fn insert(rt: HostRuntime) -> Result<(), Fail> {
     let mut column = column_of(rt.alloc(), &[(5, 77), (70, 7)])?;
@@ -24,7 +25,8 @@ fn insert(rt: HostRuntime) -> Result<(), Fail> {
     Ok(())
 }
 
-// The third of eight pages finds the list of places full and enough of the table made, and all are laid out in order, for one request. Refused, the value comes back and the column is as it was.
+// The third of eight pages finds the list of places full and enough of the table made, and all are laid out in order,
+// for one request. Refused, the value comes back and the column is as it was.
 #[test]
 fn insert_in_order(rt: HostRuntime) -> Result<(), Fail> {
     let mut column = column_of(rt.alloc(), &[(450, 77), (400, 7)])?;

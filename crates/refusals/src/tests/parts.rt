@@ -8,7 +8,8 @@ use std::test::Fail;
 
 const MEMBERS: u32 = 524_288;
 
-// So many words are enough to be counted in several threads. They lie in three ranges of 16,777,216 indices, so three parts have one each.
+// So many words are enough to be counted in several threads. They lie in three ranges of 16,777,216 indices, so three
+// parts have one each.
 const MANY_WORDS: usize = 786_432;
 
 // The indices below `MEMBERS`.
@@ -29,7 +30,8 @@ fn in_many_words(alloc: Global) -> Result<BitSet, AllocError> {
 // How many words of layer 0 a range of 16,777,216 indices has.
 const RANGE: usize = 262_144;
 
-// So many words of each of two such ranges, with every eighth bit, are enough to be collected or folded in several threads. Two parts have one range each.
+// So many words of each of two such ranges, with every eighth bit, are enough to be collected or folded in several
+// threads. Two parts have one range each.
 const WORDS: usize = 32_768;
 
 const EIGHTHS: usize = 0x0101_0101_0101_0101;

@@ -100,7 +100,8 @@ fn add(rt: HostRuntime) -> Result<(), Fail> {
     Ok(())
 }
 
-// `allocation_failures.py` refuses one request at a time, and sees that the two calls make one alone: so where that is refused, every request of theirs is.
+// `allocation_failures.py` refuses one request at a time, and sees that the two calls make one alone: so where that is
+// refused, every request of theirs is.
 #[test]
 fn room_made_before(rt: HostRuntime) -> Result<(), Fail> {
     let mut set = BitSet::with_capacity(rt.alloc(), 1000)?;
@@ -414,7 +415,8 @@ fn extended_by_a_row(set: &mut BitSet) -> Result<(), BuildError> {
     set.extend_indices(0..4096)
 }
 
-// Tells whether an error is want of memory for the first index past 0, 4, 8, 16 or 32 words, and the set has the indices before it.
+// Tells whether an error is want of memory for the first index past 0, 4, 8, 16 or 32 words, and the set has the
+// indices before it.
 fn is_refused_in_the_row(error: BuildError, set: &BitSet) -> bool {
     match error {
         BuildError::Memory { place } => {

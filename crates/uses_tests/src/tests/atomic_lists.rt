@@ -9,7 +9,9 @@ use hibitset::{AtomicBitSet, BitSetLike, BuildError, Index};
 use std::alloc::Global;
 use std::test::Fail;
 
-// The set of the indices of a list. Where one is refused, it is the first out of range, or one for which there was no memory, and then it lies in other 4,096 indices than each before it. Want of memory at place 0 may also tell of the empty set.
+// The set of the indices of a list. Where one is refused, it is the first out of range, or one for which there was no
+// memory, and then it lies in other 4,096 indices than each before it. Want of memory at place 0 may also tell of the
+// empty set.
 fn set_of(alloc: Global, list: &[Index]) -> Result<AtomicBitSet, BuildError>
     requires { 0 < length list.now }
     ensures members { IfOk result (λ set. (i : ℕ) → (has set i ≡ true) ↔ Contains list.now i) }
@@ -21,7 +23,8 @@ fn set_of(alloc: Global, list: &[Index]) -> Result<AtomicBitSet, BuildError>
     AtomicBitSet::from_index_refs(alloc, list)
 }
 
-// Adds the indices of a list to a set. Where one is refused, those before it are added, and where there was no memory for it, its block is not made.
+// Adds the indices of a list to a set. Where one is refused, those before it are added, and where there was no memory
+// for it, its block is not made.
 fn add_all(set: &mut AtomicBitSet, list: &[Index]) -> Result<(), BuildError>
     ensures added { OnOk result ((i : ℕ) → (has set.new i ≡ true) ↔ ((has set.old i ≡ true) ⊎ Contains list.now i)) }
     ensures some { IfErr result (λ error. (i : ℕ) → (has set.new i ≡ true) ↔ ((has set.old i ≡ true) ⊎ Contains (take (place_of error) list.now) i)) }

@@ -11,7 +11,8 @@ use hibitset::laws::world_laws;
 use hibitset::{ATOMIC_MAX_EID, AtomicBitSet, Event, Index, Reply, StepError, World};
 use std::alloc::Global;
 
-/// Adds an index by a call of its own, which passes all its layers, and tells whether the index was there. A world at rest is so again.
+/// Adds an index by a call of its own, which passes all its layers, and tells whether the index was there. A world at
+/// rest is so again.
 pub fn add(world: &mut World, call: u32, id: Index) -> Result<bool, StepError>
     ensures there { IfOk result (λ there. there ≡ is_in world.old id) }
     ensures added { OnOk result ((i : ℕ) → is_in world.new i ≡ (is_in world.old i || i == id)) }
@@ -33,7 +34,8 @@ pub fn add(world: &mut World, call: u32, id: Index) -> Result<bool, StepError>
     Ok(there)
 }
 
-/// Adds all indices of a list to a set, each by a call of its own, and takes the set out of the world, which is at rest by then.
+/// Adds all indices of a list to a set, each by a call of its own, and takes the set out of the world, which is at rest
+/// by then.
 pub fn add_all(alloc: Global, set: AtomicBitSet, ids: &[Index]) -> Result<AtomicBitSet, StepError>
     ensures { IfOk result (λ all. (i : ℕ) → (has all i ≡ true) ↔ ((has set i ≡ true) ⊎ Contains ids.now i)) }
 {
@@ -46,7 +48,8 @@ pub fn add_all(alloc: Global, set: AtomicBitSet, ids: &[Index]) -> Result<Atomic
     Ok(world.settle())
 }
 
-/// Opens a walk over a world at rest and reads its first word: its bits tell in which ranges of 262,144 indices the set has one.
+/// Opens a walk over a world at rest and reads its first word: its bits tell in which ranges of 262,144 indices the set
+/// has one.
 pub fn ranges(world: &mut World, walk: u32) -> Result<usize, StepError>
     requires { IsResting world.old }
     ensures { IfOk result (λ word. (range : ℕ) → range < 64 → (bit_at word range ≡ 1) ↔ HasIn world.old range) }
@@ -59,7 +62,8 @@ pub fn ranges(world: &mut World, walk: u32) -> Result<usize, StepError>
     Ok(word)
 }
 
-/// Reads the next word of a walk. After the first none is 0, and the word has the bit of each index that the walk gives by it.
+/// Reads the next word of a walk. After the first none is 0, and the word has the bit of each index that the walk gives
+/// by it.
 pub fn read_next(world: &mut World, walk: u32) -> Result<usize, StepError>
     ensures some { IfOk result (λ word. 0 < reads_of world.old walk → 0 < word) }
     ensures holds { IfOk result (λ word. (i : ℕ) → Contains (given world.new walk) i → Contains (given world.old walk) i ⊎ (bit_at word (i % 64) ≡ 1)) }
@@ -82,7 +86,8 @@ pub fn read_leaf(world: &mut World, walk: u32) -> Result<(), StepError>
     Ok(())
 }
 
-/// Opens a walk and reads it to its end. It gives indices of the set, ascending, among them each that was there at first, and each whose call had ended. It reads at most three words for each, and one.
+/// Opens a walk and reads it to its end. It gives indices of the set, ascending, among them each that was there at
+/// first, and each whose call had ended. It reads at most three words for each, and one.
 pub fn read_all(world: &mut World, walk: u32) -> Result<(), StepError>
     ensures ascending { OnOk result (IsStrictlyIncreasing (given world.new walk)) }
     ensures there { OnOk result ((i : ℕ) → Contains (given world.new walk) i → is_in world.new i ≡ true) }

@@ -1,4 +1,5 @@
-//! Which words are read for the last member, the last before an index, the members before one, a walk down, the first gap, and a look for a common member.
+//! Which words are read for the last member, the last before an index, the members before one, a walk down, the first
+//! gap, and a look for a common member.
 use crate::tests::words::Logging;
 use crate::tests::{assert_count, assert_index};
 use hibitset::{BitSetAnd, BitSetLike, Index, Ranked};

@@ -6,7 +6,8 @@ use std::process::Abort;
 use std::sync::atomic::{AtomicUsize, Ordering};
 use std::thread::Threads;
 
-// A set that counts the words that are read of each layer, and at last the calls of `contains`, and that threads can share.
+// A set that counts the words that are read of each layer, and at last the calls of `contains`, and that threads can
+// share.
 #[derive(Drop)]
 struct Tally {
     set: BitSet,
@@ -119,7 +120,8 @@ fn sum_of<T: BitSetLike + Send + Sync>(
     )
 }
 
-// The choice of threads reads three words under each bit of layer 3, here all; then `collect` goes over the words twice below the top, and the others go once.
+// The choice of threads reads three words under each bit of layer 3, here all; then `collect` goes over the words twice
+// below the top, and the others go once.
 #[test]
 fn small_sets(rt: HostRuntime) -> Result<(), AllocError> {
     let tally = Tally::over(set_of(rt.alloc(), &[64, 300_000])?);
@@ -164,7 +166,8 @@ fn a_choice_that_reads_few_words(rt: HostRuntime) -> Result<(), AllocError> {
     Ok(())
 }
 
-// Of a large set too `collect` reads a word of layer 0 once to count and once to list; one look at its size, here sixteen words of layer 0 and the top, tells of both.
+// Of a large set too `collect` reads a word of layer 0 once to count and once to list; one look at its size, here
+// sixteen words of layer 0 and the top, tells of both.
 #[test]
 fn a_large_set_that_is_listed(rt: HostRuntime) -> Result<(), AllocError> {
     let tally = Tally::over(every_eighth(rt.alloc())?);

@@ -279,7 +279,8 @@ fn words_with_one_bit(rt: HostRuntime) -> Result<(), AllocError> {
     Ok(())
 }
 
-// A walk over an intersection from an index on: its words lie over members of the first set, and are at most four for each.
+// A walk over an intersection from an index on: its words lie over members of the first set, and are at most four for
+// each.
 fn walk_both_from<'a>(
     a: &'a BitSet,
     b: &'a BitSet,

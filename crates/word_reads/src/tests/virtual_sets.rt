@@ -1,4 +1,5 @@
-//! Which words of their operands virtual sets read: none when they are made, each once by a walk, and none by `contains`.
+//! Which words of their operands virtual sets read:
+//! none when they are made, each once by a walk, and none by `contains`.
 use crate::tests::words::{ASKED, Logging, OVER_64_AND_300000};
 use crate::tests::{assert_count, assert_index};
 use hibitset::{
@@ -28,7 +29,8 @@ fn items_of<T: BitSetLike>(walk: BitIter<T>) -> usize {
     items
 }
 
-// Sees that a walk that was just made gives so many items, and reads these words, each once, of both sets: the top when it is made, and the others as it goes.
+// Sees that a walk that was just made gives so many items, and reads these words, each once, of both sets: the top when
+// it is made, and the others as it goes.
 fn assert_reads_each_once<T: BitSetLike>(
     rt: &(impl Abort + AllocGlobal),
     walk: BitIter<T>,
@@ -76,7 +78,8 @@ fn walks_over_an_exclusive_or(rt: HostRuntime) -> Result<(), AllocError> {
     assert_reads_each_once(&rt, walk, &sets, 1, &OVER_64_AND_300000)
 }
 
-// Sees that a walk over what is not in {0} has read nothing when it was just made, and reads one word for its first item, 1.
+// Sees that a walk over what is not in {0} has read nothing when it was just made, and reads one word for its first
+// item, 1.
 fn assert_reads_for_one<T: BitSetLike>(
     rt: &(impl Abort + AllocGlobal),
     walk: BitIter<T>,
@@ -201,7 +204,8 @@ fn atomic_sets_that_are_put_with_another(rt: HostRuntime) -> Result<(), AllocErr
     other.assert_read(&rt, &[])
 }
 
-// Sees whether a set has an index, and that it asks the first operand for it, and the second only where that is to be asked.
+// Sees whether a set has an index, and that it asks the first operand for it, and the second only where that is to be
+// asked.
 fn assert_asks<T: BitSetLike>(
     rt: &(impl Abort + AllocGlobal),
     set: T,

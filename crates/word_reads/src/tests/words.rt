@@ -10,7 +10,8 @@ use std::process::Abort;
 // In the place of a layer: the set was asked whether it has the index that stands in the place of the position.
 pub(super) const ASKED: usize = 8;
 
-// A set that keeps a list of the words that are read, each by its layer and its position, and of the indices that it was asked for.
+// A set that keeps a list of the words that are read, each by its layer and its position, and of the indices that it
+// was asked for.
 #[derive(Drop)]
 pub(super) struct Logging {
     set: BitSet,

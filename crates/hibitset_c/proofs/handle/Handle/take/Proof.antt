@@ -64,7 +64,8 @@ take_spec 𝓤 𝓛 𝓜 𝓡 wired =
     alloc_all ! (λ l. pass_all ! refl ((tt, tt), (fits, tt)) $
     move ! (1 ∷ []) $ fsplit3 ! $ move ! (1 ∷ 2 ∷ 4 ∷ []) $ opens ! tt R own.0 own.1 (λ us.
     move ! (1 ∷ []) $ peeks ! R _ (shows 𝓛 R) h us (λ is. fsplit ! $ move ! (1 ∷ []) $
-    -- [the set with its block; the fields; the cell of the handle; the open borrow in three entries; the rest of the reference; the allocator]
+    -- [the set with its block; the fields; the cell of the handle; the open borrow in three entries; the rest of the
+    -- reference; the allocator]
     let word = lowers.val_is h us is in let Cell = λ (ws : List Val). ‵ (cell_at full_share R.mir ws own.0 own.1) in
     rewrite ! 2 Cell word refl $
     sets ! (of_opd ! (load ! (through ! refl (fld ! refl (stop !))) (look_in ! 2 (sub ! 0 refl (whole !))))) refl (ptr_fits h.at) $
