@@ -149,6 +149,15 @@ fn divided_among_some(rt: HostRuntime) {
 }
 
 #[test]
+fn divided_among_the_most(rt: HostRuntime) {
+    let weights = weights_among(rt.alloc(), 65_536);
+    assert!(rt;
+        weights.is_some_and(|weights| weights.len() == 65_536
+            && weights.iter().all(|weight| *weight == 1))
+    );
+}
+
+#[test]
 fn divided_among_as_many_as_it_has_shares(rt: HostRuntime) -> Result<(), AllocError> {
     let (set, seat) = shared(&rt, AtomicBitSet::new(rt.alloc())?);
     let mut eight = seat;

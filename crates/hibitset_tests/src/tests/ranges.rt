@@ -209,3 +209,17 @@ fn words_out_and_in(rt: HostRuntime) -> Result<(), AllocError> {
     again.remove(0);
     assert_members(&rt, &again, &[5_000, 300_000, 300_001])
 }
+
+// As many words as layer 0 may have, of which the last alone is nonzero.
+#[test]
+fn words_of_all_indices(rt: HostRuntime) -> Result<(), AllocError> {
+    let last = MAX_EID as Index - 1;
+    let far = set_of(rt.alloc(), &[last])?;
+    assert_count(&rt, far.layer0_as_slice().len(), 16_777_216);
+    let copy = BitSet::from_words(rt.alloc(), far.layer0_as_slice())?;
+    assert_members(&rt, &copy, &[last])?;
+    let mut words = BitSet::vec_with_room(rt.alloc(), 16_777_216)?;
+    words.extend_from_slice(copy.layer0_as_slice())?;
+    let kept = BitSet::from_vec(words)?;
+    assert_members(&rt, &kept, &[last])
+}
