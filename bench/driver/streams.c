@@ -119,17 +119,20 @@ static double median(double *times) {
     return times[repeats / 2];
 }
 
-// One kind of work, by each contender in turn: ours, CRoaring's, and the measure that the aim names where containers are no bitsets.
-static void print_row(const char *name, work_t *work, turn_t *ours, turn_t *theirs, turn_t *measure, bool by_theirs, double aim) {
+// One kind of work, by each contender in turn: ours, CRoaring's, and the measure of the aim, if that is not CRoaring.
+static void print_row(const char *name, work_t *work, turn_t *ours, turn_t *theirs, turn_t *measure, double aim) {
     static double time[3][MOST_REPEATS], ratio[MOST_REPEATS];
     turn_t *turns[3] = {ours, theirs, measure};
+    int contenders = measure ? 3 : 2;
     need(ours(work) == theirs(work), name);
     for (int round = 0; round < repeats; round++) {
-        for (int who = 0; who < 3; who++) time[who][round] = timed(turns[who], work);
-        ratio[round] = time[0][round] / time[by_theirs ? 1 : 2][round];
+        for (int who = 0; who < contenders; who++) time[who][round] = timed(turns[who], work);
+        ratio[round] = time[0][round] / time[contenders - 1][round];
     }
     double of = median(ratio);
-    printf("| %s | %.4g | %.4g | %.4g | %.2f%s | %.2f |\n", name, 1e3 * median(time[0]), 1e3 * median(time[1]), 1e3 * median(time[2]), of, of > aim ? " *" : "", aim);
+    printf("| %s |", name);
+    for (int who = 0; who < contenders; who++) printf(" %.4g |", 1e3 * median(time[who]));
+    printf("%s %.2f%s | %.2f |\n", measure ? "" : " - |", of, of > aim ? " *" : "", aim);
     fflush(stdout);
 }
 
@@ -162,24 +165,30 @@ static void *room_for(size_t len) {
     return room;
 }
 
+// The stream of a set, which CRoaring makes shorter by runs if so asked; and room for what the turns write.
+static work_t work_of(const hibitset_t *set, bool runs, bool lists) {
+    work_t work = {.ours = *set, .stream_len = hibitset_roaring_len(set), .members = hibitset_len(set)};
+    work.stream = room_for(work.stream_len);
+    work.room = room_for(work.stream_len);
+    need(hibitset_roaring_write(set, work.stream, work.stream_len, &work.stream_len) == HIBITSET_OK, "a set was not written");
+    work.theirs = roaring_bitmap_portable_deserialize_safe((const char *)work.stream, work.stream_len);
+    need(work.theirs, "CRoaring did not read a stream");
+    if (runs && roaring_bitmap_run_optimize(work.theirs)) {
+        work.stream_len = roaring_bitmap_portable_serialize(work.theirs, (char *)work.stream);
+    }
+    if (lists) work.list = room_for(work.members * sizeof *work.list);
+    return work;
+}
+
 static void measure(const char *name, const char *end, hibitset_t *set, bool bitsets, bool runs) {
-    char row[99];
-    work_t work = {.ours = *set, .members = hibitset_len(set)};
+    char row[60], title[80];
     snprintf(row, sizeof row, "%s, below %s", name, end);
     if (strstr(row, wanted)) {
-        work.list = room_for(work.members * sizeof *work.list);
-        list(&work);
-        work.theirs = roaring_bitmap_of_ptr(work.members, work.list);
-        if (runs) roaring_bitmap_run_optimize(work.theirs);
-        work.stream_len = roaring_bitmap_portable_size_in_bytes(work.theirs);
-        work.stream = room_for(work.stream_len);
-        work.room = room_for(work.stream_len);
-        roaring_bitmap_portable_serialize(work.theirs, (char *)work.stream);
-        char title[120];
+        work_t work = work_of(set, runs, !bitsets && !runs);
         snprintf(title, sizeof title, "read, %s", row);
-        print_row(title, &work, read_ours, read_theirs, read_words, bitsets, bitsets ? 1.5 : 1.3);
+        print_row(title, &work, read_ours, read_theirs, bitsets ? NULL : read_words, bitsets ? 1.5 : 1.3);
         snprintf(title, sizeof title, "write, %s", row);
-        if (!runs) print_row(title, &work, write_ours, write_theirs, list, bitsets, bitsets ? 1.5 : 2.0);
+        if (!runs) print_row(title, &work, write_ours, write_theirs, bitsets ? NULL : list, bitsets ? 1.5 : 2.0);
         roaring_bitmap_free(work.theirs);
         free(work.stream);
         free(work.room);
