@@ -48,11 +48,13 @@ both() { # proofs, and beside it mutants tests, whose output comes when both hav
     local status=0
     # A process group of its own, which the trap can end whole.
     set -m
-    part 3 mutants tests --gate </dev/null >"$log" 2>&1 &
+    # The lowest crates are proved one after the other, which leaves processors to these.
+    TOGETHER=$(($(nproc) > 3 ? 3 : 1)) part 3 mutants tests --gate </dev/null >"$log" 2>&1 &
     beside=$!
     set +m
     echo "test.sh: part 3 of $parts, mutants tests, runs beside part 2"
-    part 2 proofs || return
+    # A check a processor: rt reckons with 9 GB for hibitset_base, which takes 2, and would leave a processor idle.
+    RT_JOBS=${RT_JOBS:-$(nproc)} part 2 proofs || return
     wait "$beside" || status=$?
     beside=
     cat "$log"
