@@ -9,6 +9,7 @@ use uses::walks::{first, indices};
 
 mod atomic_lists;
 mod held;
+mod ids;
 mod rows;
 mod shared;
 mod turns;
