@@ -419,7 +419,7 @@ class Test:
         self.bytes = 0
 
     def judge(self, number, said, errors):
-        if not said and errors.startswith("error: AllocError\n"):
+        if not said and errors.startswith(("error: AllocError\n", "error: AllocFailed ")):
             return  # before the first
         wanted = 2 if self.has_room else 3
         if errors or len(said) != wanted or not set(said) <= {"passed", "refused"} or said.count("refused") > 1:
