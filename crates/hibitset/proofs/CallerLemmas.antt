@@ -2,16 +2,16 @@
 -- where the members of a set lie and how many they are, a step of a walk, the answer of a fold in parts, exclusive or;
 -- and that a walk's state made by hand is well formed where a test says so, which computes on literals, so that `refl`
 -- proves it.
-pub use Rattle.hibitset.proofs.Within.{has_within, none_past, none_past_slice}
-pub use Rattle.hibitset.proofs.Sizes.{members-with, members-there, members-without, members-within, members-fewer, members-apart}
-pub use Rattle.hibitset.proofs.Stepping.{StepsTo, step_from, ended_from, some_member, first_or_rest}
-pub use Rattle.hibitset.proofs.Folding.{answer_of_parts}
-pub use Rattle.hibitset.proofs.Differing.{differ-comm, differ-twice, differ-back}
+pub use Rattle.hibitset.proofs.WithinLemmas.{has_within, none_past, none_past_slice}
+pub use Rattle.hibitset.proofs.MemberCountLemmas.{members-with, members-there, members-without, members-within, members-fewer, members-apart}
+pub use Rattle.hibitset.proofs.WalkStepLemmas.{StepsTo, step_from, ended_from, some_member, first_or_rest}
+pub use Rattle.hibitset.proofs.FoldLemmas.{answer_of_parts}
+pub use Rattle.hibitset.proofs.ExclusiveOrLemmas.{differ-comm, differ-twice, differ-back}
 use Rattle.std.proofs.Common.{◌≡◌, ℕ, ◌+◌, ◌-◌, ◌*◌, ◌/◌, ◌%◌, ◌^◌, ◌<◌, Bool, true, ◌==◌, ◌&&◌, ◌||◌, not, nat_lt, List, get_or, length, arith}
 use Rattle.std.specs.Int.{bit_at}
 use Rattle.std.proofs.lemmas.Bool.Decides.{nat_tests}
 use Rattle.hibitset_base.specs.Places.{IsWellFormed}
-use Rattle.hibitset_base.proofs.Testing.{holds_below, below_holds, both}
+use Rattle.hibitset_base.proofs.TestLemmas.{holds_below, below_holds, both}
 
 -- whole words within the set
 abbrev is_aligned : ℕ → ℕ → ℕ → ℕ → Bool

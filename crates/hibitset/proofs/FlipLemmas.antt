@@ -6,7 +6,7 @@ use Rattle.std.proofs.lemmas.Bool.Decides.{nat_tests}
 use Rattle.hibitset_base.specs.Connectives.{is_member}
 use Rattle.hibitset_base.specs.Ranges.{in_range, range_word, run_order}
 use Rattle.hibitset_base.specs.declared.util.TheConstants.{MAX_EID}
-use Rattle.hibitset.specs.Merging.{NoWordsFrom}
+use Rattle.hibitset.specs.Merge.{NoWordsFrom}
 
 -- a range within all numbers has them as its members
 pub range_members : (start end i : ℕ) → end ≤ MAX_EID → is_member (in_range start end) i ≡ in_range start end i

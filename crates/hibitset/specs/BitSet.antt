@@ -4,7 +4,7 @@ use Rattle.hibitset_base.specs.Members.{members_below}
 use Rattle.hibitset_base.specs.declared.util.TheConstants.{LAYERS, MAX_EID}
 use Rattle.hibitset_base.specs.Words.{word_at, holds_at}
 use Rattle.hibitset_base.specs.Sets.{IsLawful}
-use Rattle.hibitset_base.specs.Stored.{summed_lawful}
+use Rattle.hibitset_base.specs.StoredWords.{summed_lawful}
 use Rattle.hibitset.specs.Layers.{lists}
 use Rattle.hibitset.specs.declared.set.BitSet.{BitSet}
 

@@ -13,5 +13,5 @@ abbrev pub ContainsSet : BitSet → BitSet → Type 0
 ContainsSet a b = (i : ℕ) → i < MAX_EID → has b i ≡ true → has a i ≡ true
 
 -- the words of `BitSetAnd` over both
-abbrev pub intersected : BitSet → BitSet → ℕ → ℕ → ℕ
-intersected a b l p = bit_and (word_of a l p) (word_of b l p)
+abbrev pub intersection_word : BitSet → BitSet → ℕ → ℕ → ℕ
+intersection_word a b l p = bit_and (word_of a l p) (word_of b l p)

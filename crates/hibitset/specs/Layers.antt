@@ -2,7 +2,7 @@
 use Rattle.std.specs.Prelude.{◌≡◌, ℕ, ◌+◌, ◌-◌, ◌/◌, ◌<◌, List, [], ◌∷◌, get_or, length}
 use Rattle.hibitset_base.specs.Words.{word_at}
 use Rattle.hibitset_base.specs.declared.util.TheConstants.{LAYERS}
-use Rattle.hibitset.specs.Laying.{start, parts, room_of, count_of}
+use Rattle.hibitset.specs.Layout.{layer_start, all_layers, room_of, count_of}
 use Rattle.hibitset.specs.declared.layers.Layers.{Layers}
 
 -- how many words of layer 0 there is room for
@@ -11,11 +11,11 @@ room_in layers = room_of layers.starts
 
 -- how many words lie below the top, where so many are in layer 0
 unfoldable pub room_for : ℕ → ℕ
-room_for len = start (LAYERS - 1) len
+room_for len = layer_start (LAYERS - 1) len
 
 -- the words of the layers, from the lowest up
 unfoldable pub lists : Layers → List (List ℕ)
-lists layers = parts layers.words.items (room_of layers.starts) (count_of layers.lens) layers.top 0 (LAYERS - 1)
+lists layers = all_layers layers.words.items (room_of layers.starts) (count_of layers.lens) layers.top 0 (LAYERS - 1)
 
 -- the word of a layer at a position, which is 0 past the layer's end
 abbrev pub word_in : Layers → ℕ → ℕ → ℕ

@@ -1,9 +1,9 @@
-pub mod Laying
+pub mod Layout
 pub mod Layers
 pub mod BitSet
-pub mod Merging
+pub mod Merge
 pub mod Operators
-pub mod Numbers
-pub mod Comparing
+pub mod WordBits
+pub mod Comparison
 pub mod Laws
-pub mod Building
+pub mod Extension

@@ -5,14 +5,14 @@ ghost use Rattle.std.specs.Prelude.{◌≡◌, ◌≢◌, ℕ, ◌+◌, ◌-◌,
 ghost use Rattle.std.specs.Int.{bit_at};
 ghost use Rattle.hibitset_base.specs.Sets.{bit_of};
 ghost use Rattle.hibitset.specs.BitSet.{has, word_of, slice_len};
-ghost use Rattle.hibitset.specs.Merging.{counted, AreWords, MergedUnder, MergedAt, Summarizes, Covers, NoWordsFrom};
-ghost use Rattle.hibitset_base.specs.Connectives.{is_member, IsIntersection, IsUnion, IsExclusive, IsDifference};
+ghost use Rattle.hibitset.specs.Merge.{prefix_word, AreWords, MergedUnder, MergedAt, Summarizes, Covers, NoWordsFrom};
+ghost use Rattle.hibitset_base.specs.Connectives.{is_member, IsIntersection, IsUnion, IsSymmetricDifference, IsDifference};
 ghost use Rattle.hibitset.specs.Operators.{none_lawful};
 ghost use Rattle.hibitset_base.specs.declared.util.TheConstants.{LAYERS, MAX_EID};
 
 use crate::growth::Assignment;
-use crate::operator::{And, Difference, Operator, Or, Xor};
 use crate::set::BitSet;
+use crate::word_op::{And, Difference, Operator, Or, Xor};
 use hibitset_base::bits::{last_bit, take_bit, take_last_bit, with_bit};
 use hibitset_base::like::BitSetLike;
 use hibitset_base::util::{Index, LAYERS, MAX_EID};
@@ -61,7 +61,7 @@ impl BitSetLike for Empty {
     }
 }
 
-// Merges one of the first `len` words, and tells whether it is not 0 then.
+// Merges one of the first `len` words, and returns whether it is not 0 then.
 #[inline]
 fn merge_word<O: Operator, B: BitSetLike>(
     words: &mut [usize],
@@ -72,8 +72,9 @@ fn merge_word<O: Operator, B: BitSetLike>(
     requires room { len ≤ length words.old }
     requires fits { len ≤ place → O.merged 0 (B.word other.now 0 place) ≡ 0 }
     ensures length { length words.new ≡ length words.old }
-    ensures words { MergedUnder O.merged (B.word other.now 0) (counted len words.old) (counted len words.new) 1 place }
-    ensures some { (bit_of result ≡ 1) ↔ (0 < counted len words.new place) }
+    ensures words { MergedUnder O.merged (B.word other.now 0) (prefix_word len words.old)
+        (prefix_word len words.new) 1 place }
+    ensures some { (bit_of result ≡ 1) ↔ (0 < prefix_word len words.new place) }
     ensures others { (p : ℕ) → len ≤ p → get_or words.new p 0 ≡ get_or words.old p 0 }
     ensures bounded { AreWords (λ p. get_or words.old p 0) → AreWords (λ p. get_or words.new p 0) }
 {
@@ -85,7 +86,7 @@ fn merge_word<O: Operator, B: BitSetLike>(
     word != 0
 }
 
-// Merges those of the first `len` words below word `place` of layer 1 whose bits stand in `bits`, and answers the
+// Merges those of the first `len` words below word `place` of layer 1 whose bits are set in `bits`, and returns the
 // summary of all 64, which was `summary`.
 #[inline]
 pub(crate) fn merge_words<O: Operator, B: BitSetLike>(
@@ -98,13 +99,16 @@ pub(crate) fn merge_words<O: Operator, B: BitSetLike>(
 ) -> usize
     requires room { len ≤ length words.old.items }
     requires range { place < 64 ^ (LAYERS - 2) }
-    requires exact { Summarizes (counted len words.old.items) place summary }
-    requires fits { (p : ℕ) → p < 64 ^ (LAYERS - 1) → len ≤ p → O.merged 0 (B.word other.now 0 p) ≡ 0 }
+    requires exact { Summarizes (prefix_word len words.old.items) place summary }
+    requires fits { (p : ℕ) → p < 64 ^ (LAYERS - 1) → len ≤ p
+        → O.merged 0 (B.word other.now 0 p) ≡ 0 }
     ensures length { length words.new.items ≡ length words.old.items }
-    ensures words { MergedAt O.merged (B.word other.now 0) (counted len words.old.items) (counted len words.new.items) 1 place bits }
-    ensures exact { Summarizes (counted len words.new.items) place result }
+    ensures words { MergedAt O.merged (B.word other.now 0) (prefix_word len words.old.items)
+        (prefix_word len words.new.items) 1 place bits }
+    ensures exact { Summarizes (prefix_word len words.new.items) place result }
     ensures others { (p : ℕ) → len ≤ p → get_or words.new.items p 0 ≡ get_or words.old.items p 0 }
-    ensures bounded { AreWords (λ p. get_or words.old.items p 0) → AreWords (λ p. get_or words.new.items p 0) }
+    ensures bounded { AreWords (λ p. get_or words.old.items p 0)
+        → AreWords (λ p. get_or words.new.items p 0) }
 {
     let slice = words.as_mut_slice();
     let mut above = summary;
@@ -140,14 +144,16 @@ fn lower_word<B: BitSetLike>(
     }
 }
 
-// A place of the layer below `layer` from which on the other has no words, where it has none in `layer` from `end` on.
+// One step of `end_of`: `other` has only zero words in `layer` from `end` on; returns such a bound for the layer below.
 #[inline]
 fn lower_end<B: BitSetLike>(other: &B, layer: usize, end: usize) -> usize
     requires layer { (0 < layer) × (layer < LAYERS) }
     requires within { end ≤ 64 ^ (LAYERS - 1 - layer) }
-    requires end { (p : ℕ) → p < 64 ^ (LAYERS - 1 - layer) → end ≤ p → B.word other.now layer p ≡ 0 }
+    requires end { (p : ℕ) → p < 64 ^ (LAYERS - 1 - layer) → end ≤ p
+        → B.word other.now layer p ≡ 0 }
     ensures within { result ≤ 64 ^ (LAYERS - layer) }
-    ensures end { (p : ℕ) → p < 64 ^ (LAYERS - layer) → result ≤ p → B.word other.now (layer - 1) p ≡ 0 }
+    ensures end { (p : ℕ) → p < 64 ^ (LAYERS - layer) → result ≤ p
+        → B.word other.now (layer - 1) p ≡ 0 }
 {
     if end == 0 {
         return 0;
@@ -162,7 +168,7 @@ fn lower_end<B: BitSetLike>(other: &B, layer: usize, end: usize) -> usize
 }
 
 // A place of layer 0 from which on the other has no words, found by the last bit of each layer. Past the last word lie
-// places of summary bits over words that are 0.
+// places of summary bits over zero words.
 fn end_of<B: BitSetLike>(other: &B) -> usize
     ensures within { result ≤ 64 ^ (LAYERS - 1) }
     ensures end { NoWordsFrom (B.word other.now) result }
@@ -178,11 +184,12 @@ fn end_of<B: BitSetLike>(other: &B) -> usize
 
 // The place after the last word of layer 0 that the other has under word `place` of a layer, and 0 where it has none
 // there. Words under summary bits are read from the last one down, until one is not 0.
-fn end_under<B: BitSetLike>(other: &B, layer: usize, place: usize) -> usize
+fn end_of_subtree<B: BitSetLike>(other: &B, layer: usize, place: usize) -> usize
     requires layer { layer < LAYERS }
     requires place { place < 64 ^ (LAYERS - 1 - layer) }
     ensures end { (p : ℕ) → p / 64 ^ layer ≡ place → result ≤ p → B.word other.now 0 p ≡ 0 }
-    ensures last { 0 < result → (0 < B.word other.now 0 (result - 1)) × ((result - 1) / 64 ^ layer ≡ place) }
+    ensures last { 0 < result → (0 < B.word other.now 0 (result - 1))
+        × ((result - 1) / 64 ^ layer ≡ place) }
 {
     let mut left = other.get_from_layer(layer, place);
     if layer == 0 {
@@ -190,7 +197,7 @@ fn end_under<B: BitSetLike>(other: &B, layer: usize, place: usize) -> usize
     }
     while left != 0 {
         let bit = take_last_bit(&mut left);
-        let end = end_under(other, layer - 1, 64 * place + bit);
+        let end = end_of_subtree(other, layer - 1, 64 * place + bit);
         if end > 0 {
             return end;
         }
@@ -200,14 +207,17 @@ fn end_under<B: BitSetLike>(other: &B, layer: usize, place: usize) -> usize
 
 impl BitSet {
     // Merges the words below word `place` of layer 1, where the other has the word `theirs`, and sets the summaries
-    // over them right, as far up as one turns. It is apart, so that its loops have the registers to themselves.
+    // over them right, as far up as a word becomes zero or nonzero. It is apart, so that its loops have the registers
+    // to themselves.
     #[inline(never)]
     fn merge_block<O: Operator, B: BitSetLike>(&mut self, other: &B, place: usize, theirs: usize)
         requires range { place < 64 ^ (LAYERS - 2) }
         requires theirs { Covers (B.word other.now 0) place theirs }
-        requires fits { (p : ℕ) → p < 64 ^ (LAYERS - 1) → slice_len self.old 0 ≤ p → O.merged 0 (B.word other.now 0 p) ≡ 0 }
+        requires fits { (p : ℕ) → p < 64 ^ (LAYERS - 1) → slice_len self.old 0 ≤ p
+            → O.merged 0 (B.word other.now 0 p) ≡ 0 }
         ensures length { slice_len self.new 0 ≡ slice_len self.old 0 }
-        ensures words { MergedUnder O.merged (B.word other.now 0) (word_of self.old 0) (word_of self.new 0) 64 place }
+        ensures words { MergedUnder O.merged (B.word other.now 0) (word_of self.old 0)
+            (word_of self.new 0) 64 place }
     {
         if self.layers.slice(1).len() <= place {
             return;
@@ -220,15 +230,15 @@ impl BitSet {
         let word = self
             .layers
             .merge::<O, B>(other, place, visited & theirs, kept);
-        self.layers.put(1, place, word);
-        if self.layers.link(1, place, word != 0) {
-            self.layers.sum_up(2, place / 64, word != 0);
+        self.layers.store_word(1, place, word);
+        if self.layers.update_parent_bit(1, place, word != 0) {
+            self.layers.update_summaries(2, place / 64, word != 0);
         }
     }
 
     // Merges what lies under word `place` of a layer above 1, where the other has the word `theirs`. The blocks below
     // layer 2 are merged from its loop, without a call of this for each.
-    fn merge_under<O: Operator, B: BitSetLike>(
+    fn merge_subtree<O: Operator, B: BitSetLike>(
         &mut self,
         other: &B,
         layer: usize,
@@ -238,9 +248,11 @@ impl BitSet {
         requires layer { (1 < layer) × (layer < LAYERS) }
         requires place { place < 64 ^ (LAYERS - 1 - layer) }
         requires theirs { Covers (B.word other.now (layer - 1)) place theirs }
-        requires fits { (p : ℕ) → p < 64 ^ (LAYERS - 1) → slice_len self.old 0 ≤ p → O.merged 0 (B.word other.now 0 p) ≡ 0 }
+        requires fits { (p : ℕ) → p < 64 ^ (LAYERS - 1) → slice_len self.old 0 ≤ p
+            → O.merged 0 (B.word other.now 0 p) ≡ 0 }
         ensures length { slice_len self.new 0 ≡ slice_len self.old 0 }
-        ensures words { MergedUnder O.merged (B.word other.now 0) (word_of self.old 0) (word_of self.new 0) (64 ^ layer) place }
+        ensures words { MergedUnder O.merged (B.word other.now 0) (word_of self.old 0)
+            (word_of self.new 0) (64 ^ layer) place }
     {
         let ours = self.get_from_layer(layer, place);
         let visited = O::visit(ours, theirs);
@@ -251,83 +263,95 @@ impl BitSet {
             if layer == 2 {
                 self.merge_block::<O, B>(other, 64 * place + bit, lower);
             } else {
-                self.merge_under::<O, B>(other, layer - 1, 64 * place + bit, lower);
+                self.merge_subtree::<O, B>(other, layer - 1, 64 * place + bit, lower);
             }
         }
     }
 
     // Merges the other in, where what the set has no room for comes to nothing.
     fn merge_with<O: Operator, B: BitSetLike>(&mut self, other: &B)
-        requires fits { (p : ℕ) → p < 64 ^ (LAYERS - 1) → slice_len self.old 0 ≤ p → O.merged 0 (B.word other.now 0 p) ≡ 0 }
-        ensures members { (i : ℕ) → i < MAX_EID → has self.new i ≡ O.test (has self.old i) (B.holds other.now i) }
+        requires fits { (p : ℕ) → p < 64 ^ (LAYERS - 1) → slice_len self.old 0 ≤ p
+            → O.merged 0 (B.word other.now 0 p) ≡ 0 }
+        ensures members { (i : ℕ) → i < MAX_EID
+            → has self.new i ≡ O.test (has self.old i) (B.holds other.now i) }
         ensures length { slice_len self.new 0 ≡ slice_len self.old 0 }
     {
         let theirs = other.get_from_layer(LAYERS - 1, 0);
-        self.merge_under::<O, B>(other, LAYERS - 1, 0, theirs);
+        self.merge_subtree::<O, B>(other, LAYERS - 1, 0, theirs);
     }
 
     // Makes room for all words of the other that are not 0, and no more. The exact end is looked for where summary bits
     // lie past the room.
-    fn make_room<B: BitSetLike>(&mut self, other: &B) -> Result<(), AllocError>
+    fn reserve_for<B: BitSetLike>(&mut self, other: &B) -> Result<(), AllocError>
         ensures same { (l p : ℕ) → word_of self.new l p ≡ word_of self.old l p }
-        ensures keeps { slice_len self.old 0 ≤ slice_len self.new 0 }
+        ensures len_min { slice_len self.old 0 ≤ slice_len self.new 0 }
         ensures fits { OnOk result (NoWordsFrom (B.word other.now) (slice_len self.new 0)) }
-        ensures room { NoWordsFrom (B.word other.now) (slice_len self.old 0) → IsOk result }
-        ensures most { (end : ℕ) → slice_len self.old 0 ≤ end → NoWordsFrom (B.word other.now) end → slice_len self.new 0 ≤ end }
-        ensures stays { OnErr result (slice_len self.new 0 ≡ slice_len self.old 0) }
+        ensures succeeds { NoWordsFrom (B.word other.now) (slice_len self.old 0) → IsOk result }
+        ensures len_max { (end : ℕ) → slice_len self.old 0 ≤ end
+            → NoWordsFrom (B.word other.now) end
+            → slice_len self.new 0 ≤ end }
+        ensures err_len { OnErr result (slice_len self.new 0 ≡ slice_len self.old 0) }
     {
         if end_of(other) <= self.layers.len() {
             return Ok(());
         }
-        let end = end_under(other, LAYERS - 1, 0);
+        let end = end_of_subtree(other, LAYERS - 1, 0);
         if end <= self.layers.len() {
             return Ok(());
         }
-        self.grow::<Assignment>((64 * (end - 1)) as Index)
+        self.ensure_word::<Assignment>((64 * (end - 1)) as Index)
     }
 
-    /// Adds the members of any other set. Where memory is refused the members stay.
+    /// Adds the members of any other set. If an allocation fails, the members stay.
     ///
     /// All room is made first, in each layer up to the word over the last one of the other that is not 0 and no
-    /// further: it needs no memory where `layer0_as_slice` is that long, and refused, it leaves its length. Words that
-    /// the other has not are neither read nor changed; where it has summary bits over words that are 0, past the room
-    /// of this set, those may be read twice, and take no room.
+    /// further: it does not allocate where `layer0_as_slice` is that long, and refused, it leaves its length. Words
+    /// that the other has not are neither read nor changed; where it has summary bits over zero words, past the room of
+    /// this set, those may be read twice, and take no room.
     pub fn bitor_assign<B: BitSetLike>(&mut self, other: &B) -> Result<(), AllocError>
-        ensures members { OnOk result (IsUnion (has self.old) (is_member (B.holds other.now)) (has self.new)) }
-        ensures refused { OnErr result ((i : ℕ) → has self.new i ≡ has self.old i) }
-        ensures keeps { slice_len self.old 0 ≤ slice_len self.new 0 }
-        ensures room { NoWordsFrom (B.word other.now) (slice_len self.old 0) → IsOk result }
-        ensures most { (end : ℕ) → slice_len self.old 0 ≤ end → NoWordsFrom (B.word other.now) end → slice_len self.new 0 ≤ end }
-        ensures above { (l end : ℕ) → l < LAYERS - 1 → slice_len self.old l ≤ end → NoWordsFrom (B.word other.now) (64 ^ l * end) → slice_len self.new l ≤ end }
-        ensures stays { OnErr result (slice_len self.new 0 ≡ slice_len self.old 0) }
+        ensures members { OnOk result (IsUnion (has self.old) (is_member (B.holds other.now))
+            (has self.new)) }
+        ensures err { OnErr result ((i : ℕ) → has self.new i ≡ has self.old i) }
+        ensures len_min { slice_len self.old 0 ≤ slice_len self.new 0 }
+        ensures succeeds { NoWordsFrom (B.word other.now) (slice_len self.old 0) → IsOk result }
+        ensures len_max { (end : ℕ) → slice_len self.old 0 ≤ end
+            → NoWordsFrom (B.word other.now) end
+            → slice_len self.new 0 ≤ end }
+        ensures upper_len_max { (l end : ℕ) → l < LAYERS - 1 → slice_len self.old l ≤ end
+            → NoWordsFrom (B.word other.now) (64 ^ l * end) → slice_len self.new l ≤ end }
+        ensures err_len { OnErr result (slice_len self.new 0 ≡ slice_len self.old 0) }
     {
-        self.make_room(other)?;
+        self.reserve_for(other)?;
         self.merge_with::<Or, B>(other);
         Ok(())
     }
 
-    /// Adds the members of any other set that were not there, and takes out those that were. Where memory is refused
+    /// Adds the members of any other set that were not there, and takes out those that were. If an allocation fails,
     /// the members stay.
     ///
     /// All room is made first, in each layer up to the word over the last one of the other that is not 0 and no
-    /// further: it needs no memory where `layer0_as_slice` is that long, and refused, it leaves its length. Words that
-    /// the other has not are neither read nor changed; where it has summary bits over words that are 0, past the room
-    /// of this set, those may be read twice, and take no room.
+    /// further: it does not allocate where `layer0_as_slice` is that long, and refused, it leaves its length. Words
+    /// that the other has not are neither read nor changed; where it has summary bits over zero words, past the room of
+    /// this set, those may be read twice, and take no room.
     pub fn bitxor_assign<B: BitSetLike>(&mut self, other: &B) -> Result<(), AllocError>
-        ensures members { OnOk result (IsExclusive (has self.old) (is_member (B.holds other.now)) (has self.new)) }
-        ensures refused { OnErr result ((i : ℕ) → has self.new i ≡ has self.old i) }
-        ensures keeps { slice_len self.old 0 ≤ slice_len self.new 0 }
-        ensures room { NoWordsFrom (B.word other.now) (slice_len self.old 0) → IsOk result }
-        ensures most { (end : ℕ) → slice_len self.old 0 ≤ end → NoWordsFrom (B.word other.now) end → slice_len self.new 0 ≤ end }
-        ensures above { (l end : ℕ) → l < LAYERS - 1 → slice_len self.old l ≤ end → NoWordsFrom (B.word other.now) (64 ^ l * end) → slice_len self.new l ≤ end }
-        ensures stays { OnErr result (slice_len self.new 0 ≡ slice_len self.old 0) }
+        ensures members { OnOk result (IsSymmetricDifference (has self.old)
+            (is_member (B.holds other.now)) (has self.new)) }
+        ensures err { OnErr result ((i : ℕ) → has self.new i ≡ has self.old i) }
+        ensures len_min { slice_len self.old 0 ≤ slice_len self.new 0 }
+        ensures succeeds { NoWordsFrom (B.word other.now) (slice_len self.old 0) → IsOk result }
+        ensures len_max { (end : ℕ) → slice_len self.old 0 ≤ end
+            → NoWordsFrom (B.word other.now) end
+            → slice_len self.new 0 ≤ end }
+        ensures upper_len_max { (l end : ℕ) → l < LAYERS - 1 → slice_len self.old l ≤ end
+            → NoWordsFrom (B.word other.now) (64 ^ l * end) → slice_len self.new l ≤ end }
+        ensures err_len { OnErr result (slice_len self.new 0 ≡ slice_len self.old 0) }
     {
-        self.make_room(other)?;
+        self.reserve_for(other)?;
         self.merge_with::<Xor, B>(other);
         Ok(())
     }
 
-    /// Takes out the members that are in the other set. It takes no memory.
+    /// Takes out the members that are in the other set. It does not allocate.
     pub fn subtract_assign<B: BitSetLike>(&mut self, other: &B)
         ensures members { IsDifference (has self.old) (B.holds other.now) (has self.new) }
         ensures length { slice_len self.new 0 ≡ slice_len self.old 0 }
@@ -336,18 +360,20 @@ impl BitSet {
     }
 }
 
-/// Takes out the members that are not in the other set. It takes no memory.
+/// Takes out the members that are not in the other set. It does not allocate.
 impl<B: BitSetLike> BitAndAssign<&B> for BitSet {
-    ghost bitand_assign_gives = { λ old other new. IsIntersection (has old) (B.holds other.now) (has new) × (slice_len new 0 ≡ slice_len old 0) };
+    ghost bitand_assign_gives = { λ old other new. IsIntersection (has old) (B.holds other.now)
+        (has new) × (slice_len new 0 ≡ slice_len old 0) };
 
     fn bitand_assign(&mut self, other: &B) {
         self.merge_with::<And, B>(other);
     }
 }
 
-/// Takes out the members that are in the other set, as `subtract_assign` does. It takes no memory.
+/// Takes out the members that are in the other set, as `subtract_assign` does. It does not allocate.
 impl<B: BitSetLike> SubAssign<&B> for BitSet {
-    ghost sub_assign_gives = { λ old other new. IsDifference (has old) (B.holds other.now) (has new) × (slice_len new 0 ≡ slice_len old 0) };
+    ghost sub_assign_gives = { λ old other new. IsDifference (has old) (B.holds other.now) (has new)
+        × (slice_len new 0 ≡ slice_len old 0) };
 
     fn sub_assign(&mut self, other: &B) {
         self.subtract_assign(other);

@@ -3,26 +3,26 @@
 
 ghost use Rattle.std.specs.Prelude.{◌≡◌, ℕ, ◌-◌, ◌*◌, ◌/◌, ◌^◌, ◌<◌, ◌≤◌, ◌||◌, Bool, false, [], get_or, length, slice_index_or, vec_capacity, OnOk, OnErr, IfOk, IfErr, IsOk};
 ghost use Rattle.std.specs.Iterator.{IsFiniteIterable};
-ghost use Rattle.hibitset_base.specs.Words.{IsSummed, word_at};
+ghost use Rattle.hibitset_base.specs.Words.{SummariesExactEverywhere, word_at};
 ghost use Rattle.hibitset_base.specs.declared.util.TheConstants.{LAYERS, MAX_EID};
 ghost use Rattle.hibitset.specs.BitSet.{has, word_of, slice_len};
-ghost use Rattle.hibitset.specs.Building.{MembersEndBy, Refuses, TakesAll, StopsAtRefused, member_apart};
+ghost use Rattle.hibitset.specs.Extension.{MembersEndBy, Refuses, TakesAll, StopsAtRefused, member_apart};
 ghost use Rattle.hibitset.specs.Layers.{piled, room_for, IsFitted};
-ghost use Rattle.hibitset.specs.Numbers.{stands_in};
+ghost use Rattle.hibitset.specs.WordBits.{stands_in};
 
 use crate::layers::Layers;
 use crate::set::BitSet;
 pub use hibitset_base::build::BuildError;
-use hibitset_base::build::{self, Extendable};
+use hibitset_base::build::{self, FallibleInsert};
 use hibitset_base::util::{Index, LAYERS, MAX_EID};
 use std::alloc::{AllocError, Global};
 
-impl Extendable for BitSet {
+impl FallibleInsert for BitSet {
     ghost RANGE = { MAX_EID };
 
-    ghost lacks_room = { λ set i. slice_len set 0 ≤ i / 64 };
+    ghost needs_allocation = { λ set i. slice_len set 0 ≤ i / 64 };
 
-    ghost lie_apart = { λ i j. i / 64 < j / 64 };
+    ghost need_separate_room = { λ i j. i / 64 < j / 64 };
 
     ghost apart = { member_apart };
 
@@ -37,19 +37,24 @@ impl Extendable for BitSet {
 impl BitSet {
     /// Adds the items of an iterator, each of which is to be below `MAX_EID`.
     ///
-    /// It stops at the first item that is not, and where memory is refused: then the set has its old members and the
-    /// items before that one, and no later item is drawn. Memory is refused only for an item whose word lies past
+    /// It stops at the first item that is not, and if an allocation fails: then the set has its old members and the
+    /// items before that one, and no later item is drawn. An allocation can fail only for an item whose word lies past
     /// `layer0_as_slice`, and no slice grows longer than the members need.
     pub fn extend_indices<U: IntoIterator<Item = Index>>(
         &mut self,
         iter: U,
     ) -> Result<(), BuildError>
-        requires { IsFiniteIterable U.into_iter_gives U.IntoIter.can_next U.IntoIter.remaining iter }
-        ensures all { OnOk result (TakesAll U.into_iter_gives U.IntoIter.next_gives (λ i. i) iter (has self.old) (has self.new)) }
-        ensures stops { IfErr result (StopsAtRefused U.into_iter_gives U.IntoIter.next_gives (λ i. i) iter (has self.old) (has self.new) (slice_len self.new 0)) }
-        ensures keeps { slice_len self.old 0 ≤ slice_len self.new 0 }
-        ensures most { (end : ℕ) → slice_len self.old 0 ≤ end → MembersEndBy (has self.new) end → slice_len self.new 0 ≤ end }
-        ensures above { (l end : ℕ) → l < LAYERS - 1 → slice_len self.old l ≤ end → MembersEndBy (has self.new) (64 ^ l * end) → slice_len self.new l ≤ end }
+        requires { IsFiniteIterable U.into_iter_gives U.IntoIter.can_next U.IntoIter.remaining
+            iter }
+        ensures all { OnOk result (TakesAll U.into_iter_gives U.IntoIter.next_gives (λ i. i) iter
+            (has self.old) (has self.new)) }
+        ensures stops { IfErr result (StopsAtRefused U.into_iter_gives U.IntoIter.next_gives
+            (λ i. i) iter (has self.old) (has self.new) (slice_len self.new 0)) }
+        ensures len_min { slice_len self.old 0 ≤ slice_len self.new 0 }
+        ensures len_max { (end : ℕ) → slice_len self.old 0 ≤ end → MembersEndBy (has self.new) end
+            → slice_len self.new 0 ≤ end }
+        ensures upper_len_max { (l end : ℕ) → l < LAYERS - 1 → slice_len self.old l ≤ end
+            → MembersEndBy (has self.new) (64 ^ l * end) → slice_len self.new l ≤ end }
     {
         build::extend_indices(self, iter)
     }
@@ -59,29 +64,39 @@ impl BitSet {
         &mut self,
         iter: U,
     ) -> Result<(), BuildError>
-        requires { IsFiniteIterable U.into_iter_gives U.IntoIter.can_next U.IntoIter.remaining iter }
-        ensures all { OnOk result (TakesAll U.into_iter_gives U.IntoIter.next_gives (λ i. i.now) iter (has self.old) (has self.new)) }
-        ensures stops { IfErr result (StopsAtRefused U.into_iter_gives U.IntoIter.next_gives (λ i. i.now) iter (has self.old) (has self.new) (slice_len self.new 0)) }
-        ensures keeps { slice_len self.old 0 ≤ slice_len self.new 0 }
-        ensures most { (end : ℕ) → slice_len self.old 0 ≤ end → MembersEndBy (has self.new) end → slice_len self.new 0 ≤ end }
-        ensures above { (l end : ℕ) → l < LAYERS - 1 → slice_len self.old l ≤ end → MembersEndBy (has self.new) (64 ^ l * end) → slice_len self.new l ≤ end }
+        requires { IsFiniteIterable U.into_iter_gives U.IntoIter.can_next U.IntoIter.remaining
+            iter }
+        ensures all { OnOk result (TakesAll U.into_iter_gives U.IntoIter.next_gives (λ i. i.now)
+            iter (has self.old) (has self.new)) }
+        ensures stops { IfErr result (StopsAtRefused U.into_iter_gives U.IntoIter.next_gives
+            (λ i. i.now) iter (has self.old) (has self.new) (slice_len self.new 0)) }
+        ensures len_min { slice_len self.old 0 ≤ slice_len self.new 0 }
+        ensures len_max { (end : ℕ) → slice_len self.old 0 ≤ end → MembersEndBy (has self.new) end
+            → slice_len self.new 0 ≤ end }
+        ensures upper_len_max { (l end : ℕ) → l < LAYERS - 1 → slice_len self.old l ≤ end
+            → MembersEndBy (has self.new) (64 ^ l * end) → slice_len self.new l ≤ end }
     {
         build::extend_index_refs(self, iter)
     }
 
     /// A set of the items of an iterator, each of which is to be below `MAX_EID`.
     ///
-    /// It stops at the first item that is not, and where memory is refused: then no later item is drawn. Memory is
-    /// refused only for an item whose word lies past those of all items before it.
+    /// It stops at the first item that is not, and if an allocation fails: then no later item is drawn. An allocation
+    /// can fail only for an item whose word lies past those of all items before it.
     pub fn from_indices<U: IntoIterator<Item = Index>>(
         alloc: Global,
         iter: U,
     ) -> Result<BitSet, BuildError>
-        requires { IsFiniteIterable U.into_iter_gives U.IntoIter.can_next U.IntoIter.remaining iter }
-        ensures all { IfOk result (λ set. TakesAll U.into_iter_gives U.IntoIter.next_gives (λ i. i) iter (λ _. false) (has set)) }
-        ensures most { IfOk result (λ set. (end : ℕ) → MembersEndBy (has set) end → slice_len set 0 ≤ end) }
-        ensures above { IfOk result (λ set. (l end : ℕ) → l < LAYERS - 1 → MembersEndBy (has set) (64 ^ l * end) → slice_len set l ≤ end) }
-        ensures stops { IfErr result (Refuses U.into_iter_gives U.IntoIter.next_gives (λ i. i) iter) }
+        requires { IsFiniteIterable U.into_iter_gives U.IntoIter.can_next U.IntoIter.remaining
+            iter }
+        ensures all { IfOk result (λ set. TakesAll U.into_iter_gives U.IntoIter.next_gives (λ i. i)
+            iter (λ _. false) (has set)) }
+        ensures len_max { IfOk result (λ set. (end : ℕ) → MembersEndBy (has set) end
+            → slice_len set 0 ≤ end) }
+        ensures upper_len_max { IfOk result (λ set. (l end : ℕ) → l < LAYERS - 1
+            → MembersEndBy (has set) (64 ^ l * end) → slice_len set l ≤ end) }
+        ensures stops { IfErr result (Refuses U.into_iter_gives U.IntoIter.next_gives (λ i. i)
+            iter) }
     {
         build::from_indices(BitSet::new(alloc), iter)
     }
@@ -91,11 +106,16 @@ impl BitSet {
         alloc: Global,
         iter: U,
     ) -> Result<BitSet, BuildError>
-        requires { IsFiniteIterable U.into_iter_gives U.IntoIter.can_next U.IntoIter.remaining iter }
-        ensures all { IfOk result (λ set. TakesAll U.into_iter_gives U.IntoIter.next_gives (λ i. i.now) iter (λ _. false) (has set)) }
-        ensures most { IfOk result (λ set. (end : ℕ) → MembersEndBy (has set) end → slice_len set 0 ≤ end) }
-        ensures above { IfOk result (λ set. (l end : ℕ) → l < LAYERS - 1 → MembersEndBy (has set) (64 ^ l * end) → slice_len set l ≤ end) }
-        ensures stops { IfErr result (Refuses U.into_iter_gives U.IntoIter.next_gives (λ i. i.now) iter) }
+        requires { IsFiniteIterable U.into_iter_gives U.IntoIter.can_next U.IntoIter.remaining
+            iter }
+        ensures all { IfOk result (λ set. TakesAll U.into_iter_gives U.IntoIter.next_gives
+            (λ i. i.now) iter (λ _. false) (has set)) }
+        ensures len_max { IfOk result (λ set. (end : ℕ) → MembersEndBy (has set) end
+            → slice_len set 0 ≤ end) }
+        ensures upper_len_max { IfOk result (λ set. (l end : ℕ) → l < LAYERS - 1
+            → MembersEndBy (has set) (64 ^ l * end) → slice_len set l ≤ end) }
+        ensures stops { IfErr result (Refuses U.into_iter_gives U.IntoIter.next_gives (λ i. i.now)
+            iter) }
     {
         build::from_index_refs(BitSet::new(alloc), iter)
     }
@@ -106,9 +126,11 @@ impl BitSet {
     pub fn from_words(alloc: Global, words: &[usize]) -> Result<BitSet, AllocError>
         requires { length words.now ≤ 64 ^ (LAYERS - 1) }
         ensures members { IfOk result (λ set. (i : ℕ) → has set i ≡ stands_in words.now i) }
-        ensures words { IfOk result (λ set. (p : ℕ) → word_of set 0 p ≡ slice_index_or words.now p 0) }
+        ensures words { IfOk result (λ set. (p : ℕ)
+            → word_of set 0 p ≡ slice_index_or words.now p 0) }
         ensures length { IfOk result (λ set. slice_len set 0 ≡ length words.now) }
-        ensures above { IfOk result (λ set. (l end : ℕ) → l < LAYERS - 1 → length words.now ≤ 64 ^ l * end → slice_len set l ≤ end) }
+        ensures upper_len_max { IfOk result (λ set. (l end : ℕ) → l < LAYERS - 1
+            → length words.now ≤ 64 ^ l * end → slice_len set l ≤ end) }
     {
         let layers = Layers::of_words(alloc, words)?;
         Ok(BitSet { layers })
@@ -132,10 +154,12 @@ impl BitSet {
     pub fn from_vec(words: Vec<usize>) -> Result<BitSet, AllocError>
         requires { length words.items ≤ 64 ^ (LAYERS - 1) }
         ensures members { IfOk result (λ set. (i : ℕ) → has set i ≡ stands_in words.items i) }
-        ensures words { IfOk result (λ set. (p : ℕ) → word_of set 0 p ≡ slice_index_or words.items p 0) }
+        ensures words { IfOk result (λ set. (p : ℕ)
+            → word_of set 0 p ≡ slice_index_or words.items p 0) }
         ensures length { IfOk result (λ set. slice_len set 0 ≡ length words.items) }
-        ensures above { IfOk result (λ set. (l end : ℕ) → l < LAYERS - 1 → length words.items ≤ 64 ^ l * end → slice_len set l ≤ end) }
-        ensures room { room_for (length words.items) ≤ vec_capacity words → IsOk result }
+        ensures upper_len_max { IfOk result (λ set. (l end : ℕ) → l < LAYERS - 1
+            → length words.items ≤ 64 ^ l * end → slice_len set l ≤ end) }
+        ensures succeeds { room_for (length words.items) ≤ vec_capacity words → IsOk result }
     {
         let layers = Layers::of_vec(words)?;
         Ok(BitSet { layers })
@@ -157,10 +181,15 @@ impl BitSet {
     ) -> Result<BitSet, AllocError>
         requires short { length layer0.now ≤ 64 ^ (LAYERS - 1) }
         requires fitted { IsFitted LAYERS (piled layer0.now layer1.now layer2.now layer3.now top) }
-        requires summed { IsSummed LAYERS (word_at (piled layer0.now layer1.now layer2.now layer3.now top)) }
+        requires summed { SummariesExactEverywhere LAYERS
+            (word_at (piled layer0.now layer1.now layer2.now layer3.now top)) }
         ensures members { IfOk result (λ set. (i : ℕ) → has set i ≡ stands_in layer0.now i) }
-        ensures words { IfOk result (λ set. (l p : ℕ) → l < LAYERS → word_of set l p ≡ word_at (piled layer0.now layer1.now layer2.now layer3.now top) l p) }
-        ensures lengths { IfOk result (λ set. (l : ℕ) → l < LAYERS - 1 → slice_len set l ≡ length (get_or (piled layer0.now layer1.now layer2.now layer3.now top) l [])) }
+        ensures words { IfOk result (λ set. (l p : ℕ) → l < LAYERS
+            → word_of set l p ≡ word_at (piled layer0.now layer1.now layer2.now layer3.now top) l
+            p) }
+        ensures lengths { IfOk result (λ set. (l : ℕ) → l < LAYERS - 1
+            → slice_len set l ≡ length (get_or
+            (piled layer0.now layer1.now layer2.now layer3.now top) l [])) }
     {
         let layers = Layers::of_layers(alloc, layer0, layer1, layer2, layer3, top)?;
         Ok(BitSet { layers })

@@ -8,7 +8,7 @@ ghost use Rattle.std.specs.Cmp.{partial_equiv_from_equiv};
 ghost use Rattle.std.specs.Cmp.Lexicographic.{pointwise, on_texts_equal};
 ghost use Rattle.hibitset_base.specs.declared.util.TheConstants.{LAYERS, MAX_EID};
 ghost use Rattle.hibitset.specs.BitSet.{has, members_of, word_of, slice_len};
-ghost use Rattle.hibitset.specs.Comparing.{BitsPass, includes, includes_rises, includes_alone, agree, agree_rises, agree_alone};
+ghost use Rattle.hibitset.specs.Comparison.{BitsPass, includes, includes_rises, includes_alone, agree, agree_rises, agree_alone};
 
 use crate::set::BitSet;
 use hibitset_base::bits::take_bit;
@@ -16,14 +16,14 @@ use hibitset_base::like::BitSetLike;
 use hibitset_base::util::{LAYERS, MAX_EID};
 
 // How many words of a block are not 0 where it goes faster as a whole than word by word.
-const MANY: u32 = 8;
+const MIN_NONZERO_WORDS: u32 = 8;
 
 // What may be in two sets beside each other.
 pub(crate) trait Comparison {
     // Whether an index may be in ours or not, and in theirs or not.
     ghost allowed: { Bool → Bool → Bool };
 
-    // A word that is 0 exactly where all bits of the two words pass.
+    // Zero exactly where all bits of the two words pass.
     fn misses(ours: usize, theirs: usize) -> usize
         ensures { (result ≡ 0) ↔ BitsPass allowed ours theirs };
 
@@ -31,10 +31,13 @@ pub(crate) trait Comparison {
     ghost none: { allowed false false ≡ true };
 
     // Where the bits of two words pass, so do the bits over them.
-    ghost rises: { (x y : ℕ) → x < 2 ^ 64 → y < 2 ^ 64 → BitsPass allowed x y → allowed (not (x == 0)) (not (y == 0)) ≡ true };
+    ghost rises: { (x y : ℕ) → x < 2 ^ 64 → y < 2 ^ 64 → BitsPass allowed x y
+        → allowed (not (x == 0)) (not (y == 0)) ≡ true };
 
-    // Under a bit that theirs lacks, each word of ours passes beside none of theirs.
-    ghost alone: { (a : Bool) (x b : ℕ) → allowed a false ≡ true → (0 < x → a ≡ true) → allowed (bit_at x b == 1) false ≡ true };
+    // Where the comparison passed at a summary bit that theirs lacks, it passes for every word below it. So such
+    // subtrees are skipped.
+    ghost alone: { (a : Bool) (x b : ℕ) → allowed a false ≡ true → (0 < x → a ≡ true)
+        → allowed (bit_at x b == 1) false ≡ true };
 }
 
 // Ours has each index that theirs has.
@@ -78,8 +81,10 @@ impl Comparison for Equality {
 fn compare_block<C: Comparison>(ours: &BitSet, theirs: &BitSet, place: usize) -> bool
     requires ours { 64 * place + 64 ≤ slice_len ours.now 0 }
     requires theirs { 64 * place + 64 ≤ slice_len theirs.now 0 }
-    ensures yes { result ≡ true → (p : ℕ) → p / 64 ≡ place → BitsPass C.allowed (word_of ours.now 0 p) (word_of theirs.now 0 p) }
-    ensures no { result ≡ false → ((p : ℕ) → BitsPass C.allowed (word_of ours.now 0 p) (word_of theirs.now 0 p)) → ⊥ }
+    ensures yes { result ≡ true → (p : ℕ) → p / 64 ≡ place
+        → BitsPass C.allowed (word_of ours.now 0 p) (word_of theirs.now 0 p) }
+    ensures no { result ≡ false → ((p : ℕ)
+        → BitsPass C.allowed (word_of ours.now 0 p) (word_of theirs.now 0 p)) → ⊥ }
 {
     let ours = ours.layers.slice(0);
     let theirs = theirs.layers.slice(0);
@@ -92,7 +97,7 @@ fn compare_block<C: Comparison>(ours: &BitSet, theirs: &BitSet, place: usize) ->
     missed == 0
 }
 
-// Tells whether a set has all 64 words below word `place` of layer 1.
+// Returns whether a set has all 64 words below word `place` of layer 1.
 #[inline]
 fn has_block(set: &BitSet, place: usize) -> bool
     requires { place < 64 ^ (LAYERS - 2) }
@@ -101,12 +106,14 @@ fn has_block(set: &BitSet, place: usize) -> bool
     64 * place + 64 <= set.layers.len()
 }
 
-// Compares the words below word `place` of layer 1 whose bits stand in `bits`.
+// Compares the words below word `place` of layer 1 whose bits are set in `bits`.
 #[inline]
 fn compare_words<C: Comparison>(ours: &BitSet, theirs: &BitSet, place: usize, bits: usize) -> bool
     requires { place < 64 ^ (LAYERS - 2) }
-    ensures yes { result ≡ true → (p : ℕ) → p / 64 ≡ place → bit_at bits (p % 64) ≡ 1 → BitsPass C.allowed (word_of ours.now 0 p) (word_of theirs.now 0 p) }
-    ensures no { result ≡ false → ((p : ℕ) → BitsPass C.allowed (word_of ours.now 0 p) (word_of theirs.now 0 p)) → ⊥ }
+    ensures yes { result ≡ true → (p : ℕ) → p / 64 ≡ place → bit_at bits (p % 64) ≡ 1
+        → BitsPass C.allowed (word_of ours.now 0 p) (word_of theirs.now 0 p) }
+    ensures no { result ≡ false → ((p : ℕ)
+        → BitsPass C.allowed (word_of ours.now 0 p) (word_of theirs.now 0 p)) → ⊥ }
 {
     let mut left = bits;
     while left != 0 {
@@ -123,10 +130,15 @@ fn compare_words<C: Comparison>(ours: &BitSet, theirs: &BitSet, place: usize, bi
 #[inline]
 fn compare_lowest<C: Comparison>(ours: &BitSet, theirs: &BitSet, place: usize, word: usize) -> bool
     requires { place < 64 ^ (LAYERS - 2) }
-    ensures yes { result ≡ true → (p : ℕ) → p / 64 ≡ place → bit_at word (p % 64) ≡ 1 → BitsPass C.allowed (word_of ours.now 0 p) (word_of theirs.now 0 p) }
-    ensures no { result ≡ false → ((p : ℕ) → BitsPass C.allowed (word_of ours.now 0 p) (word_of theirs.now 0 p)) → ⊥ }
+    ensures yes { result ≡ true → (p : ℕ) → p / 64 ≡ place → bit_at word (p % 64) ≡ 1
+        → BitsPass C.allowed (word_of ours.now 0 p) (word_of theirs.now 0 p) }
+    ensures no { result ≡ false → ((p : ℕ)
+        → BitsPass C.allowed (word_of ours.now 0 p) (word_of theirs.now 0 p)) → ⊥ }
 {
-    if word.count_ones() >= MANY && has_block(ours, place) && has_block(theirs, place) {
+    if word.count_ones() >= MIN_NONZERO_WORDS
+        && has_block(ours, place)
+        && has_block(theirs, place)
+    {
         compare_block::<C>(ours, theirs, place)
     } else {
         compare_words::<C>(ours, theirs, place, word)
@@ -134,11 +146,18 @@ fn compare_lowest<C: Comparison>(ours: &BitSet, theirs: &BitSet, place: usize, w
 }
 
 // Compares word `place` of a layer above layer 0, and then what lies under it.
-fn compare_under<C: Comparison>(ours: &BitSet, theirs: &BitSet, layer: usize, place: usize) -> bool
+fn compare_subtree<C: Comparison>(
+    ours: &BitSet,
+    theirs: &BitSet,
+    layer: usize,
+    place: usize,
+) -> bool
     requires layer { (0 < layer) × (layer < LAYERS) }
     requires place { place < 64 ^ (LAYERS - 1 - layer) }
-    ensures yes { result ≡ true → (p : ℕ) → p / 64 ^ layer ≡ place → BitsPass C.allowed (word_of ours.now 0 p) (word_of theirs.now 0 p) }
-    ensures no { result ≡ false → ((p : ℕ) → BitsPass C.allowed (word_of ours.now 0 p) (word_of theirs.now 0 p)) → ⊥ }
+    ensures yes { result ≡ true → (p : ℕ) → p / 64 ^ layer ≡ place
+        → BitsPass C.allowed (word_of ours.now 0 p) (word_of theirs.now 0 p) }
+    ensures no { result ≡ false → ((p : ℕ)
+        → BitsPass C.allowed (word_of ours.now 0 p) (word_of theirs.now 0 p)) → ⊥ }
 {
     let word = theirs.get_from_layer(layer, place);
     if C::misses(ours.get_from_layer(layer, place), word) != 0 {
@@ -150,7 +169,7 @@ fn compare_under<C: Comparison>(ours: &BitSet, theirs: &BitSet, layer: usize, pl
     let mut left = word;
     while left != 0 {
         let bit = take_bit(&mut left);
-        if !compare_under::<C>(ours, theirs, layer - 1, 64 * place + bit) {
+        if !compare_subtree::<C>(ours, theirs, layer - 1, 64 * place + bit) {
             return false;
         }
     }
@@ -159,23 +178,25 @@ fn compare_under<C: Comparison>(ours: &BitSet, theirs: &BitSet, layer: usize, pl
 
 // Compares two sets, from the top down to the first words that do not pass.
 pub(crate) fn compare<C: Comparison>(ours: &BitSet, theirs: &BitSet) -> bool
-    ensures { IsTrue result ↔ ((i : ℕ) → i < MAX_EID → C.allowed (has ours.now i) (has theirs.now i) ≡ true) }
+    ensures { IsTrue result ↔ ((i : ℕ) → i < MAX_EID
+        → C.allowed (has ours.now i) (has theirs.now i) ≡ true) }
 {
-    compare_under::<C>(ours, theirs, LAYERS - 1, 0)
+    compare_subtree::<C>(ours, theirs, LAYERS - 1, 0)
 }
 
 impl BitSet {
-    /// Tells whether each member of the other set is one of this set. It takes no memory.
+    /// Returns whether each member of the other set is one of this set. It does not allocate.
     ///
     /// Regions where the other set has no member are skipped.
     pub fn contains_set(&self, other: &BitSet) -> bool
-        ensures { IsTrue result ↔ ((i : ℕ) → i < MAX_EID → has other.now i ≡ true → has self.now i ≡ true) }
+        ensures { IsTrue result ↔ ((i : ℕ) → i < MAX_EID → has other.now i ≡ true
+            → has self.now i ≡ true) }
     {
         compare::<Superset>(self, other)
     }
 }
 
-/// Sets are equal where they have the same members. It takes no memory.
+/// Sets are equal where they have the same members. It does not allocate.
 impl PartialEq for BitSet {
     ghost eq = { on members_of (pointwise ◌==◌) };
 

@@ -4,9 +4,9 @@ ghost use Rattle.hibitset_base.specs.declared.util.TheConstants.{LAYERS};
 
 // An assignment makes room for one in so many words more than there was room for. All that the other set has is known
 // by then, and room that is not needed is written all the same.
-const SPARE_PART: usize = 8;
+const SPARE_FRACTION: usize = 8;
 
-/// What a set makes room for. It is a type, so that `grow` is compiled for each and has no argument for it.
+/// How much capacity to allocate. A type parameter, so that `ensure_word` is compiled once for each policy.
 pub(crate) trait Growth {
     /// How many words of layer 0 to make room for, where there is room for `room` and `len` are to count.
     fn room(room: usize, len: usize) -> usize
@@ -37,6 +37,6 @@ pub(crate) struct Assignment;
 impl Growth for Assignment {
     #[inline]
     fn room(room: usize, _len: usize) -> usize {
-        room + room / SPARE_PART
+        room + room / SPARE_FRACTION
     }
 }

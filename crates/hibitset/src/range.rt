@@ -6,10 +6,10 @@ ghost use Rattle.std.specs.Int.{bit_at};
 ghost use Rattle.hibitset_base.specs.Sets.{bit_of};
 ghost use Rattle.hibitset_base.specs.declared.util.TheConstants.{LAYERS, MAX_EID};
 ghost use Rattle.hibitset_base.specs.Virtual.{differ};
-ghost use Rattle.hibitset_base.specs.Words.{IsSummed};
+ghost use Rattle.hibitset_base.specs.Words.{SummariesExactEverywhere};
 ghost use Rattle.hibitset.specs.BitSet.{has, word_of, slice_len};
 ghost use Rattle.hibitset.specs.Layers.{word_in, len_in};
-ghost use Rattle.hibitset.specs.Numbers.{in_range, PutsRange};
+ghost use Rattle.hibitset.specs.WordBits.{in_range, PutsRange};
 
 use crate::layers::Layers;
 use crate::set::BitSet;
@@ -44,14 +44,15 @@ fn bits_within(place: usize, start: usize, end: usize) -> usize
 // The word with some of its bits set or cleared.
 #[inline]
 fn with_bits(word: usize, bits: usize, stands: bool) -> usize
-    ensures bits { (b : ℕ) → b < 64 → bit_at result b ≡ (if bit_at bits b == 1 then bit_of stands else bit_at word b) }
+    ensures bits { (b : ℕ) → b < 64 → bit_at result b
+        ≡ (if bit_at bits b == 1 then bit_of stands else bit_at word b) }
     ensures more { stands ≡ true → word ≤ result }
     ensures less { stands ≡ false → result ≤ word }
 {
     if stands { word | bits } else { word & !bits }
 }
 
-// The word whose bits all stand, or none.
+// The word with all bits set, or the word with none.
 #[inline]
 fn whole_word(stands: bool) -> usize
     ensures { result ≡ (if stands then 2 ^ 64 - 1 else 0) }
@@ -65,14 +66,16 @@ impl Layers {
     fn put_bits(&mut self, layer: usize, place: usize, bits: usize, stands: bool)
         requires layer { layer < LAYERS - 1 }
         requires place { place < len_in self.old layer }
-        ensures here { (b : ℕ) → b < 64 → bit_at (word_in self.new layer place) b ≡ (if bit_at bits b == 1 then bit_of stands else bit_at (word_in self.old layer place) b) }
+        ensures here { (b : ℕ) → b < 64 → bit_at (word_in self.new layer place) b
+            ≡ (if bit_at bits b == 1 then bit_of stands else bit_at (word_in self.old layer place)
+            b) }
         ensures others { (p : ℕ) → p ≢ place → word_in self.new layer p ≡ word_in self.old layer p }
         ensures layers { (l p : ℕ) → l ≢ layer → word_in self.new l p ≡ word_in self.old l p }
         ensures lengths { (l : ℕ) → len_in self.new l ≡ len_in self.old l }
     {
         let before = self.slice(layer)[place];
         let word = with_bits(before, bits, stands);
-        self.put(layer, place, word);
+        self.store_word(layer, place, word);
     }
 
     // Puts one word in the place of several, below the top.
@@ -82,13 +85,14 @@ impl Layers {
         requires order { from ≤ to }
         requires within { to ≤ len_in self.old layer }
         ensures inside { (p : ℕ) → from ≤ p → p < to → word_in self.new layer p ≡ word }
-        ensures outside { (p : ℕ) → (p < from) ⊎ (to ≤ p) → word_in self.new layer p ≡ word_in self.old layer p }
+        ensures outside { (p : ℕ) → (p < from) ⊎ (to ≤ p)
+            → word_in self.new layer p ≡ word_in self.old layer p }
         ensures layers { (l p : ℕ) → l ≢ layer → word_in self.new l p ≡ word_in self.old l p }
         ensures lengths { (l : ℕ) → len_in self.new l ≡ len_in self.old l }
     {
         let mut place = from;
         while place < to {
-            self.put(layer, place, word);
+            self.store_word(layer, place, word);
             place += 1;
         }
     }
@@ -115,13 +119,13 @@ impl Layers {
 
     // Sets the bits of a range of indices for which there are words, and in each layer above those over the words that
     // it touches.
-    fn fill(&mut self, start: usize, end: usize)
+    fn set_range(&mut self, start: usize, end: usize)
         requires order { start < end }
         requires room { end ≤ 64 * len_in self.old 0 }
         requires within { end ≤ MAX_EID }
-        requires summed { IsSummed LAYERS (word_in self.old) }
+        requires summed { SummariesExactEverywhere LAYERS (word_in self.old) }
         ensures filled { PutsRange true start end (word_in self.old 0) (word_in self.new 0) }
-        ensures summed { IsSummed LAYERS (word_in self.new) }
+        ensures summed { SummariesExactEverywhere LAYERS (word_in self.new) }
         ensures length { len_in self.new 0 ≡ len_in self.old 0 }
     {
         let mut from = start;
@@ -133,15 +137,15 @@ impl Layers {
             to = (to - 1) / 64 + 1;
             layer += 1;
         }
-        self.put_top(with_bits(self.top(), bits_within(0, from, to), true));
+        self.store_top(with_bits(self.top(), bits_within(0, from, to), true));
     }
 
-    // Where the words begin that are 0 since bits of theirs were cleared, from one position on: at the first word, or
-    // after it.
+    // The first word that clearing from bit `from` on has left zero: the one that holds `from`, or the next.
     #[inline]
-    fn first_blank(&self, layer: usize, from: usize) -> usize
+    fn first_zero_word(&self, layer: usize, from: usize) -> usize
         requires { layer < LAYERS - 1 }
-        ensures { result ≡ (if word_in self.now layer (from / 64) == 0 then from / 64 else from / 64 + 1) }
+        ensures { result ≡ (if word_in self.now layer (from / 64) == 0 then from / 64 else from / 64
+            + 1) }
     {
         let first = from / 64;
         if self.word(layer, first) == 0 {
@@ -153,10 +157,11 @@ impl Layers {
 
     // Where they end, which were cleared before a position: after the last word, or at it.
     #[inline]
-    fn last_blank(&self, layer: usize, to: usize) -> usize
+    fn last_zero_word(&self, layer: usize, to: usize) -> usize
         requires layer { layer < LAYERS - 1 }
         requires some { 0 < to }
-        ensures { result ≡ (if word_in self.now layer ((to - 1) / 64) == 0 then (to - 1) / 64 + 1 else (to - 1) / 64) }
+        ensures { result ≡ (if word_in self.now layer ((to - 1) / 64) == 0 then (to - 1) / 64
+            + 1 else (to - 1) / 64) }
     {
         let last = (to - 1) / 64;
         if self.word(layer, last) == 0 {
@@ -166,15 +171,15 @@ impl Layers {
         }
     }
 
-    // Clears the bits of a range of indices for which there are words, and in each layer above those over words that
-    // are 0 then.
-    fn blank(&mut self, start: usize, end: usize)
+    // Clears the bits of a range of indices for which there are words, and in each layer above those over words
+    // that have become zero.
+    fn clear_range(&mut self, start: usize, end: usize)
         requires order { start < end }
         requires room { end ≤ 64 * len_in self.old 0 }
         requires within { end ≤ MAX_EID }
-        requires summed { IsSummed LAYERS (word_in self.old) }
+        requires summed { SummariesExactEverywhere LAYERS (word_in self.old) }
         ensures blanked { PutsRange false start end (word_in self.old 0) (word_in self.new 0) }
-        ensures summed { IsSummed LAYERS (word_in self.new) }
+        ensures summed { SummariesExactEverywhere LAYERS (word_in self.new) }
         ensures length { len_in self.new 0 ≡ len_in self.old 0 }
     {
         let mut from = start;
@@ -182,70 +187,75 @@ impl Layers {
         let mut layer = 0;
         while layer < LAYERS - 1 && from < to {
             self.put_range(layer, from, to, false);
-            from = self.first_blank(layer, from);
-            to = self.last_blank(layer, to);
+            from = self.first_zero_word(layer, from);
+            to = self.last_zero_word(layer, to);
             layer += 1;
         }
         if from < to {
-            self.put_top(with_bits(self.top(), bits_within(0, from, to), false));
+            self.store_top(with_bits(self.top(), bits_within(0, from, to), false));
         }
     }
 }
 
 impl BitSet {
     /// Adds the indices from `start` on before `end`, which is at most `MAX_EID`, by whole words. Where `end` is not
-    /// above `start` there is nothing to add. Where memory is refused the members stay. The original has no such call.
+    /// above `start` there is nothing to add. If an allocation fails, the members stay. The original has no such call.
     ///
     /// It makes one request for memory at most, and none where the word of `end - 1` lies in `layer0_as_slice`. Else it
     /// makes the slices as long as `add` of `end - 1` does; refused, it leaves the length of layer 0.
     pub fn add_range(&mut self, start: Index, end: Index) -> Result<(), AllocError>
         requires { end ≤ MAX_EID }
-        ensures added { OnOk result ((i : ℕ) → has self.new i ≡ (has self.old i || in_range start end i)) }
-        ensures refused { OnErr result ((i : ℕ) → has self.new i ≡ has self.old i) }
-        ensures room { end ≤ 64 * slice_len self.old 0 → IsOk result }
+        ensures added { OnOk result ((i : ℕ)
+            → has self.new i ≡ (has self.old i || in_range start end i)) }
+        ensures err { OnErr result ((i : ℕ) → has self.new i ≡ has self.old i) }
+        ensures succeeds { end ≤ 64 * slice_len self.old 0 → IsOk result }
         ensures none { end ≤ start → IsOk result }
-        ensures keeps { slice_len self.old 0 ≤ slice_len self.new 0 }
-        ensures most { slice_len self.new 0 ≤ max (slice_len self.old 0) ((end - 1) / 64 + 1) }
-        ensures above { (l : ℕ) → l < LAYERS - 1 → slice_len self.new l ≤ max (slice_len self.old l) ((end - 1) / 64 ^ (l + 1) + 1) }
+        ensures len_min { slice_len self.old 0 ≤ slice_len self.new 0 }
+        ensures len_max { slice_len self.new 0 ≤ max (slice_len self.old 0) ((end - 1) / 64 + 1) }
+        ensures upper_len_max { (l : ℕ) → l < LAYERS - 1
+            → slice_len self.new l ≤ max (slice_len self.old l) ((end - 1) / 64 ^ (l + 1) + 1) }
         ensures same { end ≤ start → slice_len self.new 0 ≡ slice_len self.old 0 }
-        ensures stays { OnErr result (slice_len self.new 0 ≡ slice_len self.old 0) }
+        ensures err_len { OnErr result (slice_len self.new 0 ≡ slice_len self.old 0) }
     {
         if start >= end {
             return Ok(());
         }
-        self.extend(end - 1)?;
-        self.layers.fill(start as usize, end as usize);
+        self.grow_to(end - 1)?;
+        self.layers.set_range(start as usize, end as usize);
         Ok(())
     }
 
-    /// Takes the indices from `start` on before `end` out, by whole words, for any two numbers. It takes no memory, and
-    /// keeps the slice of layer 0 as long as it is. The original has no such call.
+    /// Takes the indices from `start` on before `end` out, by whole words, for any two numbers. It does not allocate,
+    /// and keeps the slice of layer 0 as long as it is. The original has no such call.
     pub fn remove_range(&mut self, start: Index, end: Index)
-        ensures removed { (i : ℕ) → has self.new i ≡ (has self.old i && not (in_range start end i)) }
+        ensures removed { (i : ℕ) → has self.new i
+            ≡ (has self.old i && not (in_range start end i)) }
         ensures length { slice_len self.new 0 ≡ slice_len self.old 0 }
     {
         let end = (end as usize).min(64 * self.layers.len());
         if (start as usize) < end {
-            self.layers.blank(start as usize, end);
+            self.layers.clear_range(start as usize, end);
         }
     }
 
     /// Flips the indices from `start` on before `end`, which is at most `MAX_EID`: those in the set are taken out, and
-    /// the others are added. If `end` is not above `start` nothing changes. If memory is refused the members stay.
+    /// the others are added. If `end` is not above `start` nothing changes. If an allocation fails, the members stay.
     ///
     /// It makes one request for memory at most, and none where the word of `end - 1` lies in `layer0_as_slice`. Else it
     /// makes the slices as long as `add` of `end - 1` does; refused, it leaves the length of layer 0.
     pub fn flip_range(&mut self, start: Index, end: Index) -> Result<(), AllocError>
         requires { end ≤ MAX_EID }
-        ensures flipped { OnOk result ((i : ℕ) → has self.new i ≡ differ (has self.old i) (in_range start end i)) }
-        ensures refused { OnErr result ((i : ℕ) → has self.new i ≡ has self.old i) }
-        ensures room { end ≤ 64 * slice_len self.old 0 → IsOk result }
+        ensures flipped { OnOk result ((i : ℕ)
+            → has self.new i ≡ differ (has self.old i) (in_range start end i)) }
+        ensures err { OnErr result ((i : ℕ) → has self.new i ≡ has self.old i) }
+        ensures succeeds { end ≤ 64 * slice_len self.old 0 → IsOk result }
         ensures none { end ≤ start → IsOk result }
-        ensures keeps { slice_len self.old 0 ≤ slice_len self.new 0 }
-        ensures most { slice_len self.new 0 ≤ max (slice_len self.old 0) ((end - 1) / 64 + 1) }
-        ensures above { (l : ℕ) → l < LAYERS - 1 → slice_len self.new l ≤ max (slice_len self.old l) ((end - 1) / 64 ^ (l + 1) + 1) }
+        ensures len_min { slice_len self.old 0 ≤ slice_len self.new 0 }
+        ensures len_max { slice_len self.new 0 ≤ max (slice_len self.old 0) ((end - 1) / 64 + 1) }
+        ensures upper_len_max { (l : ℕ) → l < LAYERS - 1
+            → slice_len self.new l ≤ max (slice_len self.old l) ((end - 1) / 64 ^ (l + 1) + 1) }
         ensures same { end ≤ start → slice_len self.new 0 ≡ slice_len self.old 0 }
-        ensures stays { OnErr result (slice_len self.new 0 ≡ slice_len self.old 0) }
+        ensures err_len { OnErr result (slice_len self.new 0 ≡ slice_len self.old 0) }
     {
         self.bitxor_assign(&BitSetRange { start, end })
     }

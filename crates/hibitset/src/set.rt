@@ -3,13 +3,14 @@
 
 ghost use Rattle.std.specs.Prelude.{◌≡◌, ◌≢◌, ℕ, ◌+◌, ◌-◌, ◌*◌, ◌/◌, ◌%◌, ◌^◌, ◌<◌, ◌≤◌, ◌==◌, ◌||◌, ◌&&◌, not, if◌then◌else◌, ◌↔◌, Bool, true, false, List, [], ◌∷◌, get_or, length, slice_index_or, OnOk, OnErr, IfOk, IsOk, max, refl};
 ghost use Rattle.std.specs.Int.{bit_at};
-ghost use Rattle.hibitset_base.specs.Words.{IsSummed, holds_at};
-ghost use Rattle.hibitset.specs.Numbers.{stands_in};
+ghost use Rattle.hibitset_base.specs.Words.{SummariesExactEverywhere, holds_at};
+ghost use Rattle.hibitset.specs.WordBits.{stands_in};
 ghost use Rattle.hibitset.specs.Layers.{word_in};
 ghost use Rattle.hibitset_base.specs.declared.util.TheConstants.{LAYERS, MAX_EID};
 
 use crate::growth::{Adds, Growth};
-use crate::layers::{Layers, turns};
+use crate::layers::Layers;
+use crate::layout::became_zero_or_nonzero;
 use hibitset_base::bits::with_bit;
 use hibitset_base::like::{BitSetLike, DrainableBitSet};
 use hibitset_base::util::{Index, LAYERS, MAX_EID};
@@ -18,7 +19,7 @@ use std::fmt::{self, Debug, Formatter};
 
 /// A set of indices below `MAX_EID`, kept as words in five layers.
 ///
-/// A bit of a layer above the lowest stands exactly over a word that is not 0, at all times.
+/// A bit of a layer above the lowest is set exactly over a nonzero word, at all times.
 ///
 /// A set is 96 bytes, and its words lie in one block of memory beside it: none for an empty set, 56 bytes for {5} or
 /// the first 20 indices, 152 for the first 1,000, added one by one. With a vector for each layer it was 104 bytes, and
@@ -33,7 +34,7 @@ use std::fmt::{self, Debug, Formatter};
 #[derive(Drop)]
 pub struct BitSet {
     pub(crate) layers: Layers,
-    ghost summed: { IsSummed LAYERS (word_in layers) },
+    ghost summed: { SummariesExactEverywhere LAYERS (word_in layers) },
 }
 
 impl BitSet {
@@ -51,7 +52,7 @@ impl BitSet {
     /// Number of indices that a bit of layer 3 stands for.
     pub const LAYER3_GRANULARITY: usize = 262_144;
 
-    /// The empty set, which takes no memory until the first `add`.
+    /// The empty set, which does not allocate until the first `add`.
     pub fn new(alloc: Global) -> BitSet
         ensures empty { (i : ℕ) → has result i ≡ false }
         ensures lengths { (l : ℕ) → l < LAYERS - 1 → slice_len result l ≡ 0 }
@@ -69,52 +70,56 @@ impl BitSet {
         ensures empty { IfOk result (λ set. (i : ℕ) → has set i ≡ false) }
         ensures room { IfOk result (λ set. (i : ℕ) → i < max → i / 64 < slice_len set 0) }
         ensures length { IfOk result (λ set. slice_len set 0 ≡ (max + 63) / 64) }
-        ensures above { IfOk result (λ set. (l end : ℕ) → l < LAYERS - 1 → max ≤ 64 ^ (l + 1) * end → slice_len set l ≤ end) }
+        ensures upper_len_max { IfOk result
+            (λ set. (l end : ℕ) → l < LAYERS - 1 → max ≤ 64 ^ (l + 1) * end
+            → slice_len set l ≤ end) }
     {
         let layers = Layers::zeros(alloc, (max as usize + 63) / 64)?;
         Ok(BitSet { layers })
     }
 
-    // Makes room for the words over `id`, and changes no word. It is apart from `extend`, so that a call of `add` that
+    // Makes room for the words over `id`, and changes no word. It is apart from `grow_to`, so that a call of `add` that
     // needs no room tests one length alone.
     #[inline(never)]
-    pub(crate) fn grow<G: Growth>(&mut self, id: Index) -> Result<(), AllocError>
+    pub(crate) fn ensure_word<G: Growth>(&mut self, id: Index) -> Result<(), AllocError>
         requires range { id < MAX_EID }
         requires more { slice_len self.old 0 ≤ id / 64 }
         ensures same { (l p : ℕ) → word_of self.new l p ≡ word_of self.old l p }
-        ensures keeps { slice_len self.old 0 ≤ slice_len self.new 0 }
-        ensures most { slice_len self.new 0 ≤ max (slice_len self.old 0) (id / 64 + 1) }
-        ensures above { (l : ℕ) → l < LAYERS - 1 → slice_len self.new l ≤ max (slice_len self.old l) (id / 64 ^ (l + 1) + 1) }
-        ensures stays { OnErr result (slice_len self.new 0 ≡ slice_len self.old 0) }
+        ensures len_min { slice_len self.old 0 ≤ slice_len self.new 0 }
+        ensures len_max { slice_len self.new 0 ≤ max (slice_len self.old 0) (id / 64 + 1) }
+        ensures upper_len_max { (l : ℕ) → l < LAYERS - 1
+            → slice_len self.new l ≤ max (slice_len self.old l) (id / 64 ^ (l + 1) + 1) }
+        ensures err_len { OnErr result (slice_len self.new 0 ≡ slice_len self.old 0) }
         ensures covers { OnOk result (id / 64 < slice_len self.new 0) }
     {
         let len = id as usize / 64 + 1;
         let room = G::room(self.layers.room(), len);
-        self.layers.lengthen(len, room)
+        self.layers.set_len(len, room)
     }
 
     // Makes room for the words over `id`, and changes no word.
     #[inline]
-    pub(crate) fn extend(&mut self, id: Index) -> Result<(), AllocError>
+    pub(crate) fn grow_to(&mut self, id: Index) -> Result<(), AllocError>
         requires { id < MAX_EID }
         ensures same { (l p : ℕ) → word_of self.new l p ≡ word_of self.old l p }
-        ensures keeps { slice_len self.old 0 ≤ slice_len self.new 0 }
-        ensures most { slice_len self.new 0 ≤ max (slice_len self.old 0) (id / 64 + 1) }
-        ensures above { (l : ℕ) → l < LAYERS - 1 → slice_len self.new l ≤ max (slice_len self.old l) (id / 64 ^ (l + 1) + 1) }
-        ensures stays { OnErr result (slice_len self.new 0 ≡ slice_len self.old 0) }
+        ensures len_min { slice_len self.old 0 ≤ slice_len self.new 0 }
+        ensures len_max { slice_len self.new 0 ≤ max (slice_len self.old 0) (id / 64 + 1) }
+        ensures upper_len_max { (l : ℕ) → l < LAYERS - 1
+            → slice_len self.new l ≤ max (slice_len self.old l) (id / 64 ^ (l + 1) + 1) }
+        ensures err_len { OnErr result (slice_len self.new 0 ≡ slice_len self.old 0) }
         ensures covers { OnOk result (id / 64 < slice_len self.new 0) }
-        ensures room { id / 64 < slice_len self.old 0 → IsOk result }
+        ensures succeeds { id / 64 < slice_len self.old 0 → IsOk result }
     {
         if (id as usize) / 64 < self.layers.len() {
             return Ok(());
         }
-        self.grow::<Adds>(id)
+        self.ensure_word::<Adds>(id)
     }
 
     // Puts a word into layer 0 in the place of the word `before`, of which one bit was set or cleared, and sets the
-    // summaries over it right, as far up as one turns from 0 or to 0.
+    // summaries over it right, as far up as one becomes zero or nonzero.
     #[inline]
-    pub(crate) fn put_word(&mut self, place: usize, before: usize, word: usize, stands: bool)
+    pub(crate) fn store_word(&mut self, place: usize, before: usize, word: usize, stands: bool)
         requires place { place < slice_len self.old 0 }
         requires before { before ≡ word_of self.old 0 place }
         requires set { stands ≡ true → 0 < word }
@@ -123,15 +128,17 @@ impl BitSet {
         ensures others { (p : ℕ) → p ≢ place → word_of self.new 0 p ≡ word_of self.old 0 p }
         ensures length { slice_len self.new 0 ≡ slice_len self.old 0 }
     {
-        self.layers.put(0, place, word);
-        if turns(before, word, stands) && self.layers.link(0, place, stands) {
-            self.layers.sum_up(1, place / 64, stands);
+        self.layers.store_word(0, place, word);
+        if became_zero_or_nonzero(before, word, stands)
+            && self.layers.update_parent_bit(0, place, stands)
+        {
+            self.layers.update_summaries(1, place / 64, stands);
         }
     }
 
-    // Puts an index in or takes it out, where there is room for it, and tells whether it was there.
+    // Puts an index in or takes it out, where there is room for it, and returns whether it was there.
     #[inline]
-    fn put(&mut self, id: Index, stands: bool) -> bool
+    fn set_bit(&mut self, id: Index, stands: bool) -> bool
         requires { id / 64 < slice_len self.old 0 }
         ensures was { result ≡ has self.old id }
         ensures put { (i : ℕ) → has self.new i ≡ (if i == id then stands else has self.old i) }
@@ -143,13 +150,13 @@ impl BitSet {
         if word == before {
             return stands;
         }
-        self.put_word(place, before, word, stands);
+        self.store_word(place, before, word, stands);
         !stands
     }
 
-    /// Adds an index below `MAX_EID`, and tells whether it was there. Where memory is refused the members stay.
+    /// Adds an index below `MAX_EID`, and returns whether it was there. If an allocation fails, the members stay.
     ///
-    /// It needs no memory where the word at position `id / 64` lies in `layer0_as_slice`, so for no index that is
+    /// It does not allocate where the word at position `id / 64` lies in `layer0_as_slice`, so for no index that is
     /// there. Else it makes that slice as long as this word needs and no longer, and those of the layers above no
     /// longer than the words over it need; refused, it leaves the length of layer 0. So one index far up takes the
     /// words below it too: 136,348,160 bytes for the last one, 1,073,741,823.
@@ -158,18 +165,19 @@ impl BitSet {
         requires { id < MAX_EID }
         ensures was { IfOk result (λ was. was ≡ has self.old id) }
         ensures added { OnOk result ((i : ℕ) → has self.new i ≡ (has self.old i || i == id)) }
-        ensures refused { OnErr result ((i : ℕ) → has self.new i ≡ has self.old i) }
-        ensures room { id / 64 < slice_len self.old 0 → IsOk result }
-        ensures keeps { slice_len self.old 0 ≤ slice_len self.new 0 }
-        ensures most { slice_len self.new 0 ≤ max (slice_len self.old 0) (id / 64 + 1) }
-        ensures above { (l : ℕ) → l < LAYERS - 1 → slice_len self.new l ≤ max (slice_len self.old l) (id / 64 ^ (l + 1) + 1) }
-        ensures stays { OnErr result (slice_len self.new 0 ≡ slice_len self.old 0) }
+        ensures err { OnErr result ((i : ℕ) → has self.new i ≡ has self.old i) }
+        ensures succeeds { id / 64 < slice_len self.old 0 → IsOk result }
+        ensures len_min { slice_len self.old 0 ≤ slice_len self.new 0 }
+        ensures len_max { slice_len self.new 0 ≤ max (slice_len self.old 0) (id / 64 + 1) }
+        ensures upper_len_max { (l : ℕ) → l < LAYERS - 1
+            → slice_len self.new l ≤ max (slice_len self.old l) (id / 64 ^ (l + 1) + 1) }
+        ensures err_len { OnErr result (slice_len self.new 0 ≡ slice_len self.old 0) }
     {
-        self.extend(id)?;
-        Ok(self.put(id, true))
+        self.grow_to(id)?;
+        Ok(self.set_bit(id, true))
     }
 
-    /// Takes an index out, and tells whether it was there.
+    /// Takes an index out, and returns whether it was there.
     #[inline]
     pub fn remove(&mut self, id: Index) -> bool
         ensures was { result ≡ has self.old id }
@@ -179,11 +187,11 @@ impl BitSet {
         if (id as usize) / 64 >= self.layers.len() {
             return false;
         }
-        self.put(id, false)
+        self.set_bit(id, false)
     }
 
     /// Takes all members out, and gives up the words: the four slices have length 0 then. The memory is kept for words
-    /// to come, but no contract says that it is enough, so an addition may be refused memory again.
+    /// to come, but no contract says that it is enough, so an addition may fail to allocate again.
     pub fn clear(&mut self)
         ensures empty { (i : ℕ) → has self.new i ≡ false }
         ensures lengths { (l : ℕ) → l < LAYERS - 1 → slice_len self.new l ≡ 0 }
@@ -233,7 +241,7 @@ impl BitSet {
         self.layers.slice(3)
     }
 
-    /// Tells whether an index is there.
+    /// Returns whether an index is there.
     #[inline]
     pub fn contains(&self, id: Index) -> bool
         ensures { result ≡ has self.now id }

@@ -1,7 +1,7 @@
 -- What a contract sees of an `AtomicBitSet`.
 use Rattle.std.specs.Prelude.{◌≡◌, ◌≢◌, ℕ, ◌-◌, ◌/◌, ◌%◌, ◌*◌, ◌+◌, Bool, true, List, get_or}
 use Rattle.std.proofs.Common.{arith}
-use Rattle.hibitset_base.specs.Deciding.{no_bit}
+use Rattle.hibitset_base.specs.Decisions.{no_bit}
 use Rattle.hibitset_base.specs.Sets.{IsLawful}
 use Rattle.hibitset_atomic.specs.Blocks.{block_word, IsUnmade, HasRoom}
 use Rattle.hibitset_base.specs.Members.{members_below}
@@ -10,8 +10,8 @@ use Rattle.hibitset_atomic.specs.declared.atomic.TheConstants.{ATOMIC_MAX_EID}
 use Rattle.hibitset_atomic.specs.declared.layers.TheConstants.{ATOMIC_LAYERS}
 use Rattle.hibitset_base.specs.Words.{holds_at}
 use Rattle.hibitset_atomic.specs.Layers.{layer_word, single_word}
-use Rattle.hibitset_atomic.specs.Topped.{topped}
-use Rattle.hibitset_atomic.specs.Topping.{topped_lawful}
+use Rattle.hibitset_atomic.specs.TopLayer.{with_top_layer}
+use Rattle.hibitset_atomic.specs.TopLayerLemmas.{topped_lawful}
 use Rattle.hibitset_atomic.specs.declared.atomic.AtomicBitSet.{AtomicBitSet}
 
 -- the word of a layer at a position, of the four layers that the set keeps
@@ -20,7 +20,7 @@ word_of set = layer_word set.layers
 
 -- the same with the layer on top of them
 abbrev pub topped_word : AtomicBitSet → ℕ → ℕ → ℕ
-topped_word set = topped (ATOMIC_LAYERS - 1) (word_of set)
+topped_word set = with_top_layer (ATOMIC_LAYERS - 1) (word_of set)
 
 -- the set has the number as a member
 unfoldable pub has : AtomicBitSet → ℕ → Bool
@@ -36,27 +36,27 @@ abbrev pub members_of : AtomicBitSet → List ℕ
 members_of set = members_below ATOMIC_MAX_EID (has set)
 
 -- some member lies in the same 4,096 indices
-abbrev pub HasNear : AtomicBitSet → ℕ → Type 0
-HasNear set i = (j : ℕ) × (j / 4096 ≡ i / 4096) × (has set j ≡ true)
+abbrev pub SharesBlockWithMember : AtomicBitSet → ℕ → Type 0
+SharesBlockWithMember set i = (j : ℕ) × (j / 4096 ≡ i / 4096) × (has set j ≡ true)
 
 -- no member lies in the same 4,096 indices
-abbrev pub HasNoNear : AtomicBitSet → ℕ → Type 0
-HasNoNear set i = (j : ℕ) → has set j ≡ true → j / 4096 ≢ i / 4096
+abbrev pub SharesBlockWithNone : AtomicBitSet → ℕ → Type 0
+SharesBlockWithNone set i = (j : ℕ) → has set j ≡ true → j / 4096 ≢ i / 4096
 
 -- The block of 4,096 indices that has the number is not made, so that an addition there needs memory. Where some member
 -- is near, it is made.
-unfoldable pub LacksBlock : AtomicBitSet → ℕ → Type 0
-LacksBlock set i = IsUnmade set.layers.layer0 (i / 4096)
+unfoldable pub NeedsAllocation : AtomicBitSet → ℕ → Type 0
+NeedsAllocation set i = IsUnmade set.layers.layer0 (i / 4096)
 
 -- There is room for all blocks, so that no addition needs memory.
-unfoldable pub HasAllRoom : AtomicBitSet → Type 0
-HasAllRoom set = HasRoom set.layers.layer0
+unfoldable pub AllBlocksReserved : AtomicBitSet → Type 0
+AllBlocksReserved set = HasRoom set.layers.layer0
 
 -- The same blocks are made as before, and room for all stays.
 pub record KeepsBlocks (old new : AtomicBitSet) : Type 0 where
-  pub keeps : (i : ℕ) → LacksBlock new i → LacksBlock old i
-  pub most : (i : ℕ) → LacksBlock old i → LacksBlock new i
-  pub room : HasAllRoom old → HasAllRoom new
+  pub keeps : (i : ℕ) → NeedsAllocation new i → NeedsAllocation old i
+  pub most : (i : ℕ) → NeedsAllocation old i → NeedsAllocation new i
+  pub room : AllBlocksReserved old → AllBlocksReserved new
 
 pub keeps_own_blocks : (set : AtomicBitSet) → KeepsBlocks set set
 keeps_own_blocks set = record { keeps = λ i lacks. lacks; most = λ i lacks. lacks; room = λ all. all }
@@ -68,8 +68,8 @@ keeps_blocks_twice a b c first second = record {
   room = λ all. second.room (first.room all);
 }
 
-pub block_apart : (set : AtomicBitSet) (i j : ℕ) → has set i ≡ true → LacksBlock set j → i / 4096 ≢ j / 4096
-unfolding has word_of LacksBlock
+pub block_apart : (set : AtomicBitSet) (i j : ℕ) → has set i ≡ true → NeedsAllocation set j → i / 4096 ≢ j / 4096
+unfolding has word_of NeedsAllocation
 block_apart set i j on lacks same =
     let blocks = set.layers.layer0 in
     let at : i / 64 / 64 ≡ j / 4096 = omega (arith, same) in

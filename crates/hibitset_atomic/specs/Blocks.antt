@@ -1,6 +1,6 @@
 -- What a contract sees of `Blocks`.
 use Rattle.std.specs.Prelude.{◌≡◌, ℕ, ◌*◌, ◌/◌, ◌<◌, ◌≤◌, get_or, vec_capacity}
-use Rattle.hibitset_atomic.specs.Placed.{placed_word}
+use Rattle.hibitset_atomic.specs.BlockTable.{placed_word}
 use Rattle.hibitset_atomic.specs.declared.blocks.Blocks.{Blocks}
 
 -- the word at a position

@@ -4,5 +4,5 @@ use Rattle.hibitset_atomic.specs.AtomicBitSet.{topped_word}
 use Rattle.hibitset_atomic.specs.declared.atomic.AtomicBitSet.{AtomicBitSet}
 
 -- the words of `BitSetAnd` over both
-abbrev pub intersected : AtomicBitSet → AtomicBitSet → ℕ → ℕ → ℕ
-intersected a b l p = bit_and (topped_word a l p) (topped_word b l p)
+abbrev pub intersection_word : AtomicBitSet → AtomicBitSet → ℕ → ℕ → ℕ
+intersection_word a b l p = bit_and (topped_word a l p) (topped_word b l p)

@@ -10,9 +10,9 @@ use Rattle.hibitset_atomic.specs.declared.steps.event.StepError.TheVariants.{Unk
 use Rattle.std.specs.Int.{bit_at}
 use Rattle.hibitset_base.specs.Sets.{bit_of}
 use Rattle.hibitset_base.specs.Places.{Place}
-use Rattle.hibitset_atomic.specs.Pasts.{call_of, is_there, stands, Walk, walk_of, read_first}
+use Rattle.hibitset_atomic.specs.History.{call_of, is_there, bit_of_history, Walk, walk_of, read_first}
 
--- the reason that an error gives, and none where memory was refused
+-- the reason that an error gives, and none if an allocation failed
 abbrev pub reason : StepError → Option StepError
 reason Unknown = Some Unknown
 reason Used = Some Used
@@ -38,7 +38,7 @@ IsWord standing (p ∷ ps) word = (b : ℕ) → b < 64 → bit_at word b ≡ bit
 -- a read answers the first word left, and whether none is left after it
 abbrev pub ReadAnswer : (ℕ → Bool) → List Event → Option Walk → Reply → Type 0
 ReadAnswer old past None reply = ⊥
-ReadAnswer old past (Some walk) (Word word ended) = IsWord (stands old past) walk.left word × (IsTrue ended ↔ ((read_first (stands old past) walk.items walk.reads walk.left).left ≡ []))
+ReadAnswer old past (Some walk) (Word word ended) = IsWord (bit_of_history old past) walk.left word × (IsTrue ended ↔ ((read_first (bit_of_history old past) walk.items walk.reads walk.left).left ≡ []))
 ReadAnswer old past (Some walk) Begun = ⊥
 ReadAnswer old past (Some walk) Opened = ⊥
 ReadAnswer old past (Some walk) (First there) = ⊥

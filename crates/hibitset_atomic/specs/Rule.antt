@@ -10,75 +10,75 @@ use lib.ListN.{get_elem?}
 use Rattle.atomic_table.specs.Table.{State, Step, Me}
 use Rattle.hibitset_atomic.specs.declared.shared.view.View.{View}
 use Rattle.hibitset_atomic.specs.Lists.{Has, Distinct, Apart, below, Each, Pairs}
-use Rattle.hibitset_atomic.specs.declared.shared.sizes.TheConstants.{SHARES, ROW_WORDS}
+use Rattle.hibitset_atomic.specs.declared.shared.layout.TheConstants.{SHARES, ROW_WORDS}
 use Rattle.hibitset_atomic.specs.declared.atomic.TheConstants.{ATOMIC_MAX_EID}
 
--- the mark stands
-abbrev pub Lit : List ℕ → ℕ → Type 0
-Lit words mark = bit_at (slice_index words (mark / 64)) (mark % 64) ≡ 1
+-- the mark is set
+abbrev pub IsSet : List ℕ → ℕ → Type 0
+IsSet words mark = bit_at (slice_index words (mark / 64)) (mark % 64) ≡ 1
 
 abbrev pub above : ℕ → ℕ
 above mark = ATOMIC_MAX_EID + mark / 64
 
 -- the four marks of an index
-abbrev pub Whole : (ℕ → Type 0) → ℕ → Type 0
-Whole P i = P i × P (above i) × P (above (above i)) × P (above (above (above i)))
+abbrev pub HoldsOnPath : (ℕ → Type 0) → ℕ → Type 0
+HoldsOnPath P i = P i × P (above i) × P (above (above i)) × P (above (above (above i)))
 
 -- what a seat knows: it has seen the whole path
 abbrev pub Knows : View → ℕ → Type 0
-Knows v i = Whole (Has v.seen) i
+Knows v i = HoldsOnPath (Has v.seen) i
 
--- some bit of the word p stands
+-- some bit of the word p is set
 abbrev pub Nonzero : List ℕ → ℕ → Type 0
-Nonzero words p = (mark : ℕ) × (mark / 64 ≡ p) × Lit words mark
+Nonzero words p = (mark : ℕ) × (mark / 64 ≡ p) × IsSet words mark
 
 abbrev pub Reported : List View → ℕ → Type 0
 Reported views i = (id : ℕ) × (v : View) × (get_elem? views id ≡ some v) × Has v.reports i
 
 -- layer 0 has the old indices and all reports
-abbrev pub Content : List ℕ → List ℕ → List View → Type 0
-Content old words views = ((i : ℕ) → Lit old i → Lit words i) × ((i : ℕ) → i < ATOMIC_MAX_EID → Lit words i → Lit old i ⊎ Reported views i)
+abbrev pub Layer0IsOldOrReported : List ℕ → List ℕ → List View → Type 0
+Layer0IsOldOrReported old words views = ((i : ℕ) → IsSet old i → IsSet words i) × ((i : ℕ) → i < ATOMIC_MAX_EID → IsSet words i → IsSet old i ⊎ Reported views i)
 
 -- a seat's reports are indices in layer 0, not old, and each once
-abbrev pub Honest : List ℕ → List ℕ → View → Type 0
-Honest old words v = ((i : ℕ) → Has v.reports i → Lit words i × ¬ Lit old i × (i < ATOMIC_MAX_EID)) × Distinct v.reports
+abbrev pub ReportsAreNew : List ℕ → List ℕ → View → Type 0
+ReportsAreNew old words v = ((i : ℕ) → Has v.reports i → IsSet words i × ¬ IsSet old i × (i < ATOMIC_MAX_EID)) × Distinct v.reports
 
 -- what it has seen stands
 abbrev pub Sees : List ℕ → View → Type 0
-Sees words v = (mark : ℕ) → Has v.seen mark → Lit words mark
+Sees words v = (mark : ℕ) → Has v.seen mark → IsSet words mark
 
 -- at most one report is not known yet
-abbrev pub Late : View → Type 0
-Late v = (i j : ℕ) → Has v.reports i → Has v.reports j → ¬ Knows v i → ¬ Knows v j → i ≡ j
+abbrev pub AtMostOneUnfinished : View → Type 0
+AtMostOneUnfinished v = (i j : ℕ) → Has v.reports i → Has v.reports j → ¬ Knows v i → ¬ Knows v j → i ≡ j
 
-abbrev pub Settled : View → Type 0
-Settled v = (i : ℕ) → Has v.reports i → Knows v i
+abbrev pub AllReportsKnown : View → Type 0
+AllReportsKnown v = (i : ℕ) → Has v.reports i → Knows v i
 
 abbrev pub Shares : View → Type 0
 Shares v = ((x : ℕ) → Has v.shares x → x < SHARES) × Distinct v.shares
 
 -- a view with no share is no seat: it has no report
-abbrev pub Counts : List ℕ → View → Type 0
-Counts old v = (length v.shares ≡ 0 → v.reports ≡ []) × (0 < length v.shares → v.old ≡ old)
+abbrev pub EmptyWithoutShares : List ℕ → View → Type 0
+EmptyWithoutShares old v = (length v.shares ≡ 0 → v.reports ≡ []) × (0 < length v.shares → v.old ≡ old)
 
-abbrev pub Fair : List ℕ → List ℕ → View → Type 0
-Fair old words v = Honest old words v × Sees words v × Late v × Shares v × Counts old v
+abbrev pub SeatInvariant : List ℕ → List ℕ → View → Type 0
+SeatInvariant old words v = ReportsAreNew old words v × Sees words v × AtMostOneUnfinished v × Shares v × EmptyWithoutShares old v
 
-abbrev pub Separate : View → View → Type 0
-Separate v w = Apart v.reports w.reports × Apart v.shares w.shares
+abbrev pub AreDisjointSeats : View → View → Type 0
+AreDisjointSeats v w = Apart v.reports w.reports × Apart v.shares w.shares
 
--- a summary bit stands only over a nonzero word
-abbrev pub Summed : List ℕ → Type 0
-Summed words = (p : ℕ) → Lit words (ATOMIC_MAX_EID + p) → Nonzero words p
+-- a summary bit is set only over a nonzero word
+abbrev pub SummariesOverNonzero : List ℕ → Type 0
+SummariesOverNonzero words = (p : ℕ) → IsSet words (ATOMIC_MAX_EID + p) → Nonzero words p
 
 -- each old index has its whole path
-abbrev pub Rooted : List ℕ → List ℕ → Type 0
-Rooted old words = (i : ℕ) → i < ATOMIC_MAX_EID → Lit old i → Whole (Lit words) i
+abbrev pub OldPathsSet : List ℕ → List ℕ → Type 0
+OldPathsSet old words = (i : ℕ) → i < ATOMIC_MAX_EID → IsSet old i → HoldsOnPath (IsSet words) i
 
-abbrev pub Holds : List ℕ → State (Unit {0}) View → Type 0
-Holds old s =
-    (length s.words ≡ ROW_WORDS) × Content old s.words s.views × Each (Fair old s.words) s.views × Pairs Separate s.views
-    × Rooted old s.words × Summed s.words
+abbrev pub Invariant : List ℕ → State (Unit {0}) View → Type 0
+Invariant old s =
+    (length s.words ≡ ROW_WORDS) × Layer0IsOldOrReported old s.words s.views × Each (SeatInvariant old s.words) s.views × Pairs AreDisjointSeats s.views
+    × OldPathsSet old s.words × SummariesOverNonzero s.words
 
 abbrev pub pick : ℕ → ℕ → List ℕ → List ℕ
 pick zero mark marks = marks
@@ -110,53 +110,53 @@ exchanging v = counting v.loads (v.exchanges + 1) v
 
 -- what the rule tells a seat that finds n in the word p
 abbrev pub Finds : ℕ → ℕ → View → Type 0
-Finds p n v = (words : List ℕ) × (slice_index words p ≡ n) × Fair v.old words v × Rooted v.old words × Summed words
+Finds p n v = (words : List ℕ) × (slice_index words p ≡ n) × SeatInvariant v.old words v × OldPathsSet v.old words × SummariesOverNonzero words
 
 -- the exchange at layer 0: the index is reported where its bit was clear
-abbrev pub Enters_at : ℕ → ℕ → Me (Unit {0}) View → ℕ → Me (Unit {0}) View → Type 0
-Enters_at p mask v n w = (w.1 ≡ v.1) × ((b : ℕ) → b < 64 → mask ≡ 2 ^ b
+abbrev pub FetchOrLayer0At : ℕ → ℕ → Me (Unit {0}) View → ℕ → Me (Unit {0}) View → Type 0
+FetchOrLayer0At p mask v n w = (w.1 ≡ v.1) × ((b : ℕ) → b < 64 → mask ≡ 2 ^ b
     → (bit_at n b ≡ 1 → w.0 ≡ seeing p (bit_or n mask) (exchanging v.0))
-    × (bit_at n b ≡ 0 → (w.0 ≡ seeing p (bit_or n mask) (reporting (p * 64 + b) (exchanging v.0))) × ¬ Lit v.0.old (p * 64 + b) × ¬ Has v.0.seen (p * 64 + b)))
+    × (bit_at n b ≡ 0 → (w.0 ≡ seeing p (bit_or n mask) (reporting (p * 64 + b) (exchanging v.0))) × ¬ IsSet v.0.old (p * 64 + b) × ¬ Has v.0.seen (p * 64 + b)))
 
 -- an exchange above layer 0
-abbrev pub Marks_at : ℕ → ℕ → Me (Unit {0}) View → ℕ → Me (Unit {0}) View → Type 0
-Marks_at p mask v n w = (w.1 ≡ v.1) × (w.0 ≡ seeing p (bit_or n mask) (exchanging v.0))
+abbrev pub FetchOrSummaryAt : ℕ → ℕ → Me (Unit {0}) View → ℕ → Me (Unit {0}) View → Type 0
+FetchOrSummaryAt p mask v n w = (w.1 ≡ v.1) × (w.0 ≡ seeing p (bit_or n mask) (exchanging v.0))
 
 -- a load
-abbrev pub Looks_at : ℕ → Me (Unit {0}) View → ℕ → Me (Unit {0}) View → Type 0
-Looks_at p v n w = (w.1 ≡ v.1) × (w.0 ≡ seeing p n (loading v.0)) × Finds p n v.0
+abbrev pub LoadAt : ℕ → Me (Unit {0}) View → ℕ → Me (Unit {0}) View → Type 0
+LoadAt p v n w = (w.1 ≡ v.1) × (w.0 ≡ seeing p n (loading v.0)) × Finds p n v.0
 
-abbrev pub Entered : Step (Unit {0}) → Me (Unit {0}) View → ℕ → Me (Unit {0}) View → Type 0
-Entered step = Enters_at step.word step.first
+abbrev pub IsFetchOrLayer0 : Step (Unit {0}) → Me (Unit {0}) View → ℕ → Me (Unit {0}) View → Type 0
+IsFetchOrLayer0 step = FetchOrLayer0At step.word step.first
 
-abbrev pub Marked : Step (Unit {0}) → Me (Unit {0}) View → ℕ → Me (Unit {0}) View → Type 0
-Marked step = Marks_at step.word step.first
+abbrev pub IsFetchOrSummary : Step (Unit {0}) → Me (Unit {0}) View → ℕ → Me (Unit {0}) View → Type 0
+IsFetchOrSummary step = FetchOrSummaryAt step.word step.first
 
-abbrev pub Looked : Step (Unit {0}) → Me (Unit {0}) View → ℕ → Me (Unit {0}) View → Type 0
-Looked step = Looks_at step.word
+abbrev pub IsLoad : Step (Unit {0}) → Me (Unit {0}) View → ℕ → Me (Unit {0}) View → Type 0
+IsLoad step = LoadAt step.word
 
-abbrev pub opener : List ℕ → View
-opener old = record { old = old; shares = below SHARES; reports = []; seen = []; loads = 0; exchanges = 0 }
+abbrev pub opening_view : List ℕ → View
+opening_view old = record { old = old; shares = below SHARES; reports = []; seen = []; loads = 0; exchanges = 0 }
 
-abbrev pub nobody : View
-nobody = record { old = []; shares = []; reports = []; seen = []; loads = 0; exchanges = 0 }
+abbrev pub empty_view : View
+empty_view = record { old = []; shares = []; reports = []; seen = []; loads = 0; exchanges = 0 }
 
 abbrev pub half : View → ℕ
 half v = length v.shares / 2
 
-abbrev pub keeper : View → View
-keeper v = record { old = v.old; shares = drop (half v) v.shares; reports = v.reports; seen = v.seen; loads = v.loads; exchanges = v.exchanges }
+abbrev pub first_half : View → View
+first_half v = record { old = v.old; shares = drop (half v) v.shares; reports = v.reports; seen = v.seen; loads = v.loads; exchanges = v.exchanges }
 
-abbrev pub newcomer : View → View
-newcomer v = record { old = v.old; shares = take (half v) v.shares; reports = []; seen = v.seen; loads = 0; exchanges = 0 }
+abbrev pub second_half : View → View
+second_half v = record { old = v.old; shares = take (half v) v.shares; reports = []; seen = v.seen; loads = 0; exchanges = 0 }
 
-abbrev pub together : View → View → View
-together v w = record { old = v.old; shares = v.shares ++ w.shares; reports = v.reports ++ w.reports; seen = v.seen ++ w.seen; loads = v.loads + w.loads; exchanges = v.exchanges + w.exchanges }
+abbrev pub joined_view : View → View → View
+joined_view v w = record { old = v.old; shares = v.shares ++ w.shares; reports = v.reports ++ w.reports; seen = v.seen ++ w.seen; loads = v.loads + w.loads; exchanges = v.exchanges + w.exchanges }
 
 -- between two steps of one seat
 abbrev pub Grew : Me (Unit {0}) View → Me (Unit {0}) View → Type 0
 Grew v w = (w.1 ≡ v.1) × (w.0.old ≡ v.0.old) × (w.0.shares ≡ v.0.shares) × ((m : ℕ) → Has v.0.seen m → Has w.0.seen m)
 
--- at some moment the mark did not stand, and all that the seat had seen stood, and the paths of all old indices
+-- at some moment the mark was clear, while all that the seat had seen was set, and the paths of all old indices
 abbrev pub Gap : View → ℕ → Type 0
-Gap v mark = (words : List ℕ) × ¬ Lit words mark × Sees words v × Rooted v.old words
+Gap v mark = (words : List ℕ) × ¬ IsSet words mark × Sees words v × OldPathsSet v.old words

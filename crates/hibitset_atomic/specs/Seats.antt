@@ -2,14 +2,14 @@
 use Rattle.std.specs.Prelude.{◌≡◌, ◌⊎◌, ◌↔◌, ℕ, ◌<◌, Bool, true, List}
 use Rattle.atomic_table.specs.Table.{State, Seen}
 use Rattle.hibitset_atomic.specs.declared.shared.view.View.{View}
-use Rattle.hibitset_atomic.specs.declared.shared.parts.Seat.{Seat}
-use Rattle.hibitset_atomic.specs.declared.shared.parts.SharedBitSet.{SharedBitSet}
-use Rattle.hibitset_atomic.specs.Rule.{Lit, Knows, Settled, Reported, Holds}
+use Rattle.hibitset_atomic.specs.declared.shared.types.Seat.{Seat}
+use Rattle.hibitset_atomic.specs.declared.shared.types.SharedBitSet.{SharedBitSet}
+use Rattle.hibitset_atomic.specs.Rule.{IsSet, Knows, AllReportsKnown, Reported, Invariant}
 use Rattle.hibitset_atomic.specs.declared.atomic.TheConstants.{ATOMIC_MAX_EID}
 
 -- the index was there when the set was shared
 unfoldable pub IsOld : SharedBitSet → ℕ → Type 0
-IsOld set i = (i < ATOMIC_MAX_EID) × Lit set.table.shared.key.value.items i
+IsOld set i = (i < ATOMIC_MAX_EID) × IsSet set.table.shared.key.value.items i
 
 unfoldable pub weight_of : Seat → ℕ
 weight_of s = s.weight
@@ -25,17 +25,17 @@ unfoldable pub exchanges_by : Seat → ℕ
 exchanges_by s = s.pass.me.0.exchanges
 
 -- the seat knows the index
-unfoldable pub Known : Seat → ℕ → Type 0
-Known s i = (i < ATOMIC_MAX_EID) × Knows s.pass.me.0 i
+unfoldable pub IsKnown : Seat → ℕ → Type 0
+IsKnown s i = (i < ATOMIC_MAX_EID) × Knows s.pass.me.0 i
 
 -- the seat came from this set, and knows its reports
-unfoldable pub Came : SharedBitSet → Seat → Type 0
-Came set s = (s.pass.table_id ≡ set.table.shared.table_id) × (s.pass.me.0.old ≡ set.table.shared.key.value.items) × Settled s.pass.me.0
+unfoldable pub BelongsTo : SharedBitSet → Seat → Type 0
+BelongsTo set s = (s.pass.table_id ≡ set.table.shared.table_id) × (s.pass.me.0.old ≡ set.table.shared.key.value.items) × AllReportsKnown s.pass.me.0
 
 -- A state of the set's words and of all its seats, dropped ones too, in which the rule holds and this seat is as it is
 -- now.
 abbrev pub IsStateOf : SharedBitSet → Seat → State (Unit {0}) View → Type 0
-IsStateOf set s = Seen (Holds set.table.shared.key.value.items) s.pass.id s.pass.me.0
+IsStateOf set s = Seen (Invariant set.table.shared.key.value.items) s.pass.id s.pass.me.0
 
 -- These are exactly the old indices and those that some seat of the set reported, the given one or another.
 unfoldable pub HasAllReports : SharedBitSet → Seat → (ℕ → Bool) → Type 0

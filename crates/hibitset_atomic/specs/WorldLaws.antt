@@ -3,8 +3,8 @@ use Rattle.std.specs.Prelude.{◌≡◌, ℕ, ◌+◌, ◌*◌, ◌/◌, ◌^◌
 use Rattle.hibitset_base.specs.Sets.{bit_of}
 use Rattle.hibitset_atomic.specs.declared.layers.TheConstants.{ATOMIC_LAYERS}
 use Rattle.hibitset_atomic.specs.declared.steps.state.World.{World}
-use Rattle.hibitset_atomic.specs.Pasts.{Walk, some_in, is_there}
-use Rattle.hibitset_atomic.specs.Honest.{IsHonest, IsNext, IsWithin, HasBits, reports}
+use Rattle.hibitset_atomic.specs.History.{Walk, some_in, is_there}
+use Rattle.hibitset_atomic.specs.HistoryFacts.{IsHonest, IsNext, IsWithin, HasBits, reports}
 use Rattle.hibitset_atomic.specs.Worlds.{old_of, past_of, stands_in, walk_in, is_written, IsResting}
 
 -- a statement on each walk of a world
@@ -27,7 +27,7 @@ FewAreRead world = EachWalk world (λ w walk. IsWithin ATOMIC_LAYERS (length wal
 abbrev pub NoneIsEmpty : World → Type 0
 NoneIsEmpty world = EachWalk world (λ w walk. 0 < walk.reads → HasBits (stands_in world) walk.left)
 
--- a summary bit stands only over a word that is not 0
+-- a summary bit is set only over a nonzero word
 abbrev pub NoneIsHollow : World → Type 0
 NoneIsHollow world = (l q : ℕ) → stands_in world (l + 1) q ≡ true → some_in (stands_in world l) (64 * q) 64 ≡ true
 

@@ -7,8 +7,8 @@ use Rattle.hibitset_atomic.specs.declared.steps.event.Reply.{Reply}
 use Rattle.hibitset_atomic.specs.declared.steps.event.StepError.{StepError}
 use Rattle.hibitset_atomic.specs.declared.steps.state.World.{World}
 use Rattle.hibitset_atomic.specs.AtomicBitSet.{has}
-use Rattle.hibitset_atomic.specs.Pasts.{has_passed, stands, Walk, walk_of, refusal}
-use Rattle.hibitset_atomic.specs.Honest.{IsAtRest}
+use Rattle.hibitset_atomic.specs.History.{has_passed, bit_of_history, Walk, walk_of, refusal}
+use Rattle.hibitset_atomic.specs.HistoryFacts.{IsAtRest}
 use Rattle.hibitset_atomic.specs.Replies.{reason, Answers}
 
 -- the old set
@@ -23,9 +23,9 @@ past_of world = reverse world.past.items
 abbrev pub is_written : World → ℕ → Bool
 is_written world = has_passed (past_of world) 0
 
--- a bit of a layer stands: an index under it is old, or belongs to a call that has passed the layer
+-- a bit of a layer is set: an index under it is old, or belongs to a call that has passed the layer
 abbrev pub stands_in : World → ℕ → ℕ → Bool
-stands_in world = stands (old_of world) (past_of world)
+stands_in world = bit_of_history (old_of world) (past_of world)
 
 -- the walk of a number
 abbrev pub walk_in : World → ℕ → Option Walk
@@ -35,7 +35,7 @@ walk_in world = walk_of ATOMIC_LAYERS (old_of world) (past_of world)
 abbrev pub items_of : World → ℕ → Option (List ℕ)
 items_of world w = option_map (λ walk. walk.items) (walk_in world w)
 
--- in each layer the bit over the index stands
+-- in each layer the bit over the index is set
 abbrev pub WholePathStands : World → ℕ → Type 0
 WholePathStands world i = (l : ℕ) → l < ATOMIC_LAYERS → stands_in world l (i / 64 ^ l) ≡ true
 
@@ -43,7 +43,7 @@ WholePathStands world i = (l : ℕ) → l < ATOMIC_LAYERS → stands_in world l 
 abbrev pub IsResting : World → Type 0
 IsResting world = IsAtRest ATOMIC_LAYERS (past_of world)
 
--- why an event is refused, if it is not for want of memory
+-- why an event is refused, if it is not for a failed allocation
 abbrev pub refusal_of : World → Event → Option StepError
 refusal_of world = refusal ATOMIC_LAYERS (old_of world) (past_of world)
 
@@ -52,7 +52,7 @@ abbrev pub AnswersTo : World → Event → Reply → Type 0
 AnswersTo world = Answers ATOMIC_LAYERS (old_of world) (past_of world)
 
 -- What an event does: where it is accepted, it comes to the past and is answered, and where it is refused, for its
--- reason or for want of memory, the past stays.
+-- reason or for a failed allocation, the past stays.
 abbrev pub Outcome : World → World → Event → Result Reply StepError → Type 0
 Outcome old new e (Ok reply) = (new.past.items ≡ old.past.items ++ e ∷ []) × (refusal_of old e ≡ None) × AnswersTo old e reply
 Outcome old new e (Err error) = (new.past.items ≡ old.past.items) × (refusal_of old e ≡ reason error)

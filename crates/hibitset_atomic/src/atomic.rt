@@ -1,8 +1,8 @@
 //! The set that can be shared, held alone.
-#![tactic(auto, unfolding(crate::specs::AtomicBitSet::has, crate::specs::AtomicBitSet::word_of, crate::specs::AtomicBitSet::LacksBlock, crate::specs::AtomicBitSet::HasAllRoom))]
+#![tactic(auto, unfolding(crate::specs::AtomicBitSet::has, crate::specs::AtomicBitSet::word_of, crate::specs::AtomicBitSet::NeedsAllocation, crate::specs::AtomicBitSet::AllBlocksReserved))]
 
 ghost use Rattle.std.specs.Prelude.{◌≡◌, ◌≢◌, ℕ, ◌+◌, ◌-◌, ◌*◌, ◌/◌, ◌%◌, ◌^◌, ◌<◌, ◌≤◌, ◌==◌, ◌||◌, ◌&&◌, not, if◌then◌else◌, Bool, true, false, OnOk, OnErr, IfOk, IsOk};
-ghost use Rattle.hibitset_base.specs.Words.{IsSummed, holds_at};
+ghost use Rattle.hibitset_base.specs.Words.{SummariesExactEverywhere, holds_at};
 ghost use Rattle.hibitset_atomic.specs.Layers.{layer_word};
 ghost use Rattle.hibitset_atomic.specs.declared.layers.TheConstants.{ATOMIC_LAYERS};
 ghost use Rattle.hibitset_atomic.specs.declared.atomic.TheConstants.{ATOMIC_MAX_EID};
@@ -19,22 +19,22 @@ pub const ATOMIC_MAX_EID: usize = 1 << (BITS * ATOMIC_LAYERS);
 
 /// A set of indices below `ATOMIC_MAX_EID`, kept as words in four layers, that can be shared between threads.
 ///
-/// A bit of a layer above the lowest stands exactly over a word that is not 0, at all times. The fifth layer, which
-/// every set has, is not kept: its one word is 1 where there is a member, and else 0.
+/// A bit of a layer above the lowest is set exactly over a nonzero word, at all times. The fifth layer, which every set
+/// has, is not kept: its one word is 1 where there is a member, and else 0.
 #[derive(Drop)]
 pub struct AtomicBitSet {
     pub(crate) layers: Layers,
-    ghost summed: { IsSummed ATOMIC_LAYERS (layer_word layers) },
+    ghost summed: { SummariesExactEverywhere ATOMIC_LAYERS (layer_word layers) },
 }
 
 impl AtomicBitSet {
     ghost use Rattle.hibitset_atomic.specs.Blocks.{IsMade, HasRoom};
-    ghost use Rattle.hibitset_atomic.specs.AtomicBitSet.{has, word_of, HasNear, LacksBlock, HasAllRoom};
+    ghost use Rattle.hibitset_atomic.specs.AtomicBitSet.{has, word_of, SharesBlockWithMember, NeedsAllocation, AllBlocksReserved};
 
     /// The empty set.
     pub fn new(alloc: Global) -> Result<AtomicBitSet, AllocError>
         ensures empty { IfOk result (λ set. (i : ℕ) → has set i ≡ false) }
-        ensures bare { IfOk result (λ set. (i : ℕ) → LacksBlock set i) }
+        ensures bare { IfOk result (λ set. (i : ℕ) → NeedsAllocation set i) }
     {
         let layers = Layers::new(alloc)?;
         Ok(AtomicBitSet { layers })
@@ -43,14 +43,14 @@ impl AtomicBitSet {
     /// The words alone.
     pub(crate) fn into_layers(self) -> Layers
         ensures same { result ≡ self.layers }
-        ensures summed { IsSummed ATOMIC_LAYERS (layer_word result) }
+        ensures summed { SummariesExactEverywhere ATOMIC_LAYERS (layer_word result) }
     {
         self.layers
     }
 
     /// The set of these words, whose summaries are exact.
     pub(crate) fn from_layers(layers: Layers) -> AtomicBitSet
-        requires { IsSummed ATOMIC_LAYERS (layer_word layers) }
+        requires { SummariesExactEverywhere ATOMIC_LAYERS (layer_word layers) }
         ensures { result.layers ≡ layers }
     {
         AtomicBitSet { layers }
@@ -74,7 +74,7 @@ impl AtomicBitSet {
 
     /// Puts a word into layer 0, where there is room for all blocks, and sets the summaries over it right.
     #[inline]
-    pub(crate) fn put_word(&mut self, place: usize, word: usize)
+    pub(crate) fn store_word(&mut self, place: usize, word: usize)
         requires place { place < 64 ^ (ATOMIC_LAYERS - 1) }
         requires room { HasRoom self.old.layers.layer0 }
         ensures here { word_of self.new 0 place ≡ word }
@@ -83,13 +83,13 @@ impl AtomicBitSet {
     {
         if self.layers.make(place).is_ok() {
             let before = self.layers.layer0(place);
-            self.layers.put_word(place, before, word);
+            self.layers.store_word(place, before, word);
         }
     }
 
-    // Puts an index in or takes it out, where its block is made, and tells whether it was there.
+    // Puts an index in or takes it out, where its block is made, and returns whether it was there.
     #[inline]
-    fn put(&mut self, id: Index, stands: bool) -> bool
+    fn set_bit(&mut self, id: Index, stands: bool) -> bool
         requires { IsMade self.old.layers.layer0 (id / 64) }
         ensures was { result ≡ has self.old id }
         ensures put { (i : ℕ) → has self.new i ≡ (if i == id then stands else has self.old i) }
@@ -102,48 +102,51 @@ impl AtomicBitSet {
         if word == before {
             return stands;
         }
-        self.layers.put_word(place, before, word);
+        self.layers.store_word(place, before, word);
         !stands
     }
 
-    /// Adds an index below `ATOMIC_MAX_EID`, and tells whether it was there. Where memory is refused the members stay.
+    /// Adds an index below `ATOMIC_MAX_EID`, and returns whether it was there. If an allocation fails, the members
+    /// stay.
     ///
-    /// It needs no memory where some member `j` has the same `j / 4096`, nor where the block of those 4,096 indices was
-    /// made before: once made it stays. It makes no other block. A set that `settle` made has room for all blocks, and
-    /// needs memory for none.
+    /// It does not allocate where some member `j` has the same `j / 4096`, nor where the block of those 4,096 indices
+    /// was made before: once made it stays. It makes no other block. A set that `settle` made has room for all blocks,
+    /// and needs memory for none.
     #[inline]
     pub fn add(&mut self, id: Index) -> Result<bool, AllocError>
         requires { id < ATOMIC_MAX_EID }
         ensures was { IfOk result (λ was. was ≡ has self.old id) }
         ensures added { OnOk result ((i : ℕ) → has self.new i ≡ (has self.old i || i == id)) }
-        ensures refused { OnErr result ((i : ℕ) → has self.new i ≡ has self.old i) }
-        ensures near { HasNear self.old id → IsOk result }
-        ensures lacking { OnErr result (LacksBlock self.old id) }
-        ensures keeps { (i : ℕ) → LacksBlock self.new i → LacksBlock self.old i }
-        ensures most { (i : ℕ) → i / 4096 ≢ id / 4096 → LacksBlock self.old i → LacksBlock self.new i }
-        ensures stays { OnErr result ((i : ℕ) → LacksBlock self.old i → LacksBlock self.new i) }
-        ensures room { HasAllRoom self.old → IsOk result × HasAllRoom self.new }
+        ensures err { OnErr result ((i : ℕ) → has self.new i ≡ has self.old i) }
+        ensures near { SharesBlockWithMember self.old id → IsOk result }
+        ensures lacking { OnErr result (NeedsAllocation self.old id) }
+        ensures keeps { (i : ℕ) → NeedsAllocation self.new i → NeedsAllocation self.old i }
+        ensures most { (i : ℕ) → i / 4096 ≢ id / 4096 → NeedsAllocation self.old i
+            → NeedsAllocation self.new i }
+        ensures stays { OnErr result ((i : ℕ) → NeedsAllocation self.old i
+            → NeedsAllocation self.new i) }
+        ensures succeeds { AllBlocksReserved self.old → IsOk result × AllBlocksReserved self.new }
     {
         self.layers.make(id as usize / 64)?;
-        Ok(self.put(id, true))
+        Ok(self.set_bit(id, true))
     }
 
-    /// Takes an index out, and tells whether it was there. Blocks that were made stay, and none is made.
+    /// Takes an index out, and returns whether it was there. Blocks that were made stay, and none is made.
     #[inline]
     pub fn remove(&mut self, id: Index) -> bool
         ensures was { result ≡ has self.old id }
         ensures removed { (i : ℕ) → has self.new i ≡ (has self.old i && not (i == id)) }
-        ensures keeps { (i : ℕ) → LacksBlock self.new i → LacksBlock self.old i }
-        ensures most { (i : ℕ) → LacksBlock self.old i → LacksBlock self.new i }
-        ensures room { HasAllRoom self.old → HasAllRoom self.new }
+        ensures keeps { (i : ℕ) → NeedsAllocation self.new i → NeedsAllocation self.old i }
+        ensures most { (i : ℕ) → NeedsAllocation self.old i → NeedsAllocation self.new i }
+        ensures room { AllBlocksReserved self.old → AllBlocksReserved self.new }
     {
         if !self.contains(id) {
             return false;
         }
-        self.put(id, false)
+        self.set_bit(id, false)
     }
 
-    /// Tells whether an index is there.
+    /// Returns whether an index is there.
     #[inline]
     pub fn contains(&self, id: Index) -> bool
         ensures { result ≡ has self.now id }
@@ -155,9 +158,9 @@ impl AtomicBitSet {
     /// Takes all members out, and keeps the memory: blocks that were made stay, and none is made.
     pub fn clear(&mut self)
         ensures empty { (i : ℕ) → has self.new i ≡ false }
-        ensures keeps { (i : ℕ) → LacksBlock self.new i → LacksBlock self.old i }
-        ensures most { (i : ℕ) → LacksBlock self.old i → LacksBlock self.new i }
-        ensures room { HasAllRoom self.old → HasAllRoom self.new }
+        ensures keeps { (i : ℕ) → NeedsAllocation self.new i → NeedsAllocation self.old i }
+        ensures most { (i : ℕ) → NeedsAllocation self.old i → NeedsAllocation self.new i }
+        ensures room { AllBlocksReserved self.old → AllBlocksReserved self.new }
     {
         self.layers.clear();
     }

@@ -1,12 +1,12 @@
 //! Words of layer 0 in blocks that are made one by one.
 ghost use Rattle.std.specs.Prelude.{◌≡◌, ◌≢◌, ℕ, ◌+◌, ◌-◌, ◌*◌, ◌/◌, ◌%◌, ◌^◌, ◌<◌, ◌≤◌, get_or, length, take, ◌==◌, cond, bit_or, OnOk, OnErr, IfOk, IsOk, vec_capacity};
-ghost use Rattle.hibitset_atomic.specs.Placed.{IsPlaced};
+ghost use Rattle.hibitset_atomic.specs.BlockTable.{IsPlaced};
 ghost use Rattle.hibitset_atomic.specs.declared.layers.TheConstants.{ATOMIC_LAYERS};
 
 use std::alloc::{AllocError, Global};
 
 /// How many blocks there can be.
-const BLOCKS: usize = 4_096;
+const BLOCK_COUNT: usize = 4_096;
 
 /// 262,144 words in blocks of 64, each of which is made when it is first needed. The words of blocks that are not made
 /// are 0.
@@ -20,7 +20,7 @@ pub(crate) struct Blocks {
     ghost placed: { IsPlaced 4096 places.items words.items },
 }
 
-// So many words that are 0.
+// So many zero words.
 pub(crate) fn zeros(alloc: Global, count: usize) -> Result<Vec<usize>, AllocError>
     ensures length { IfOk result (λ words. length words.items ≡ count) }
     ensures zero { IfOk result (λ words. (p : ℕ) → get_or words.items p 0 ≡ 0) }
@@ -37,12 +37,13 @@ fn no_places(alloc: Global, count: usize) -> Result<Vec<u16>, AllocError>
 }
 
 // Makes 64 words 0.
-fn wipe_block(words: &mut Vec<usize>, start: usize)
+fn zero_block(words: &mut Vec<usize>, start: usize)
     requires { start + 64 ≤ length words.old.items }
     ensures length { length words.new.items ≡ length words.old.items }
     ensures inside { (p : ℕ) → start ≤ p → p < start + 64 → get_or words.new.items p 0 ≡ 0 }
     ensures before { (p : ℕ) → p < start → get_or words.new.items p 0 ≡ get_or words.old.items p 0 }
-    ensures after { (p : ℕ) → start + 64 ≤ p → get_or words.new.items p 0 ≡ get_or words.old.items p 0 }
+    ensures after { (p : ℕ) → start + 64 ≤ p
+        → get_or words.new.items p 0 ≡ get_or words.old.items p 0 }
     ensures room { vec_capacity words.new ≡ vec_capacity words.old }
 {
     for i in start..start + 64 {
@@ -58,7 +59,7 @@ impl Blocks {
         ensures zero { IfOk result (λ blocks. (p : ℕ) → block_word blocks p ≡ 0) }
         ensures unmade { IfOk result (λ blocks. (k : ℕ) → IsUnmade blocks k) }
     {
-        let places = no_places(alloc, BLOCKS)?;
+        let places = no_places(alloc, BLOCK_COUNT)?;
         let words = zeros(alloc, 64)?;
         Ok(Blocks { places, words })
     }
@@ -68,7 +69,7 @@ impl Blocks {
         ensures same { (p : ℕ) → block_word self.new p ≡ block_word self.old p }
         ensures room { OnOk result (HasRoom self.new) }
     {
-        self.words.reserve(64 * BLOCKS)
+        self.words.reserve(64 * BLOCK_COUNT)
     }
 
     /// The word at a position.
@@ -90,9 +91,10 @@ impl Blocks {
         requires new { get_or self.old.places.items block 0 ≡ 0 }
         ensures same { (p : ℕ) → block_word self.new p ≡ block_word self.old p }
         ensures made { OnOk result (0 < get_or self.new.places.items block 0) }
-        ensures others { (k : ℕ) → k ≢ block → get_or self.new.places.items k 0 ≡ get_or self.old.places.items k 0 }
-        ensures refused { OnErr result (self.new.places.items ≡ self.old.places.items) }
-        ensures room { HasRoom self.old → IsOk result × HasRoom self.new }
+        ensures others { (k : ℕ) → k ≢ block
+            → get_or self.new.places.items k 0 ≡ get_or self.old.places.items k 0 }
+        ensures err { OnErr result (self.new.places.items ≡ self.old.places.items) }
+        ensures succeeds { HasRoom self.old → IsOk result × HasRoom self.new }
     {
         let len = self.words.len();
         self.words.resize(len + 64, 0)?;
@@ -107,10 +109,11 @@ impl Blocks {
         ensures same { (p : ℕ) → block_word self.new p ≡ block_word self.old p }
         ensures made { OnOk result (IsMade self.new position) }
         ensures there { IsMade self.old position → IsOk result }
-        ensures refused { OnErr result (IsUnmade self.old (position / 64) × (self.new.places.items ≡ self.old.places.items)) }
+        ensures err { OnErr result (IsUnmade self.old (position / 64)
+            × (self.new.places.items ≡ self.old.places.items)) }
         ensures keeps { (k : ℕ) → IsUnmade self.new k → IsUnmade self.old k }
         ensures others { (k : ℕ) → k ≢ position / 64 → IsUnmade self.old k → IsUnmade self.new k }
-        ensures room { HasRoom self.old → IsOk result × HasRoom self.new }
+        ensures succeeds { HasRoom self.old → IsOk result × HasRoom self.new }
     {
         if self.places[position / 64] != 0 {
             return Ok(());
@@ -120,7 +123,7 @@ impl Blocks {
 
     /// Puts a word into a block that is made.
     #[inline]
-    pub(crate) fn put(&mut self, position: usize, word: usize)
+    pub(crate) fn store_word(&mut self, position: usize, word: usize)
         requires { IsMade self.old position }
         ensures here { block_word self.new position ≡ word }
         ensures others { (p : ℕ) → p ≢ position → block_word self.new p ≡ block_word self.old p }
@@ -131,17 +134,19 @@ impl Blocks {
         self.words[place as usize * 64 + position % 64] = word;
     }
 
-    /// Sets a bit of a word, and tells the word as it was. Where memory is refused no word changes.
+    /// Sets a bit of a word, and tells the word as it was. If an allocation fails, no word changes.
     pub(crate) fn fetch_or(&mut self, position: usize, bit: u32) -> Result<usize, AllocError>
         requires position { position < 64 ^ (ATOMIC_LAYERS - 1) }
         requires bit { bit < 64 }
         ensures before { IfOk result (λ word. word ≡ block_word self.old position) }
-        ensures after { OnOk result ((p : ℕ) → block_word self.new p ≡ cond (p == position) (bit_or (block_word self.old p) (2 ^ bit)) (block_word self.old p)) }
-        ensures refused { OnErr result ((p : ℕ) → block_word self.new p ≡ block_word self.old p) }
+        ensures after { OnOk result ((p : ℕ)
+            → block_word self.new p ≡ cond (p == position)
+            (bit_or (block_word self.old p) (2 ^ bit)) (block_word self.old p)) }
+        ensures err { OnErr result ((p : ℕ) → block_word self.new p ≡ block_word self.old p) }
     {
         self.make(position)?;
         let before = self.word(position);
-        self.put(position, before | (1 << bit));
+        self.store_word(position, before | (1 << bit));
         Ok(before)
     }
 
@@ -154,6 +159,6 @@ impl Blocks {
         ensures room { vec_capacity self.new.words ≡ vec_capacity self.old.words }
     {
         let place = self.places[block];
-        wipe_block(&mut self.words, place as usize * 64);
+        zero_block(&mut self.words, place as usize * 64);
     }
 }

@@ -5,20 +5,20 @@ ghost use Rattle.std.specs.Prelude.{◌≡◌, ◌≢◌, ℕ, ◌/◌, ◌<◌,
 ghost use Rattle.std.specs.Iterator.{IsFiniteIterable};
 ghost use Rattle.hibitset_base.specs.declared.build.BuildError.TheVariants.{Memory};
 ghost use Rattle.hibitset_atomic.specs.declared.atomic.TheConstants.{ATOMIC_MAX_EID};
-ghost use Rattle.hibitset_atomic.specs.AtomicBitSet.{has, HasNoNear, LacksBlock, block_apart};
-ghost use Rattle.hibitset_atomic.specs.Building.{Refuses, TakesAll, StopsAtRefused};
+ghost use Rattle.hibitset_atomic.specs.AtomicBitSet.{has, SharesBlockWithNone, NeedsAllocation, block_apart};
+ghost use Rattle.hibitset_atomic.specs.Extension.{Refuses, TakesAll, StopsAtRefused};
 
 use crate::atomic::{ATOMIC_MAX_EID, AtomicBitSet};
-use hibitset_base::build::{self, BuildError, Extendable};
+use hibitset_base::build::{self, BuildError, FallibleInsert};
 use hibitset_base::util::Index;
 use std::alloc::{AllocError, Global};
 
-impl Extendable for AtomicBitSet {
+impl FallibleInsert for AtomicBitSet {
     ghost RANGE = { ATOMIC_MAX_EID };
 
-    ghost lacks_room = { LacksBlock };
+    ghost needs_allocation = { NeedsAllocation };
 
-    ghost lie_apart = { λ i j. i / 4096 ≢ j / 4096 };
+    ghost need_separate_room = { λ i j. i / 4096 ≢ j / 4096 };
 
     ghost apart = { block_apart };
 
@@ -33,18 +33,22 @@ impl Extendable for AtomicBitSet {
 impl AtomicBitSet {
     /// Adds the items of an iterator, each of which is to be below `ATOMIC_MAX_EID`.
     ///
-    /// It stops at the first item that is not, and where memory is refused: then the set has its old members and the
-    /// items before that one, and no later item is drawn. Memory is refused only for an item whose block of 4,096
+    /// It stops at the first item that is not, and if an allocation fails: then the set has its old members and the
+    /// items before that one, and no later item is drawn. An allocation can fail only for an item whose block of 4,096
     /// indices is not made, and no block is made but those of members. It is `Extend` of the original.
     pub fn extend_indices<U: IntoIterator<Item = Index>>(
         &mut self,
         iter: U,
     ) -> Result<(), BuildError>
-        requires { IsFiniteIterable U.into_iter_gives U.IntoIter.can_next U.IntoIter.remaining iter }
-        ensures all { OnOk result (TakesAll U.into_iter_gives U.IntoIter.next_gives (λ i. i) iter (has self.old) (has self.new)) }
-        ensures stops { IfErr result (StopsAtRefused U.into_iter_gives U.IntoIter.next_gives (λ i. i) iter (has self.old) (has self.new) (LacksBlock self.new)) }
-        ensures keeps { (i : ℕ) → LacksBlock self.new i → LacksBlock self.old i }
-        ensures most { (i : ℕ) → LacksBlock self.old i → HasNoNear self.new i → LacksBlock self.new i }
+        requires { IsFiniteIterable U.into_iter_gives U.IntoIter.can_next U.IntoIter.remaining
+            iter }
+        ensures all { OnOk result (TakesAll U.into_iter_gives U.IntoIter.next_gives (λ i. i) iter
+            (has self.old) (has self.new)) }
+        ensures stops { IfErr result (StopsAtRefused U.into_iter_gives U.IntoIter.next_gives
+            (λ i. i) iter (has self.old) (has self.new) (NeedsAllocation self.new)) }
+        ensures keeps { (i : ℕ) → NeedsAllocation self.new i → NeedsAllocation self.old i }
+        ensures most { (i : ℕ) → NeedsAllocation self.old i → SharesBlockWithNone self.new i
+            → NeedsAllocation self.new i }
     {
         build::extend_indices(self, iter)
     }
@@ -54,29 +58,37 @@ impl AtomicBitSet {
         &mut self,
         iter: U,
     ) -> Result<(), BuildError>
-        requires { IsFiniteIterable U.into_iter_gives U.IntoIter.can_next U.IntoIter.remaining iter }
-        ensures all { OnOk result (TakesAll U.into_iter_gives U.IntoIter.next_gives (λ i. i.now) iter (has self.old) (has self.new)) }
-        ensures stops { IfErr result (StopsAtRefused U.into_iter_gives U.IntoIter.next_gives (λ i. i.now) iter (has self.old) (has self.new) (LacksBlock self.new)) }
-        ensures keeps { (i : ℕ) → LacksBlock self.new i → LacksBlock self.old i }
-        ensures most { (i : ℕ) → LacksBlock self.old i → HasNoNear self.new i → LacksBlock self.new i }
+        requires { IsFiniteIterable U.into_iter_gives U.IntoIter.can_next U.IntoIter.remaining
+            iter }
+        ensures all { OnOk result (TakesAll U.into_iter_gives U.IntoIter.next_gives (λ i. i.now)
+            iter (has self.old) (has self.new)) }
+        ensures stops { IfErr result (StopsAtRefused U.into_iter_gives U.IntoIter.next_gives
+            (λ i. i.now) iter (has self.old) (has self.new) (NeedsAllocation self.new)) }
+        ensures keeps { (i : ℕ) → NeedsAllocation self.new i → NeedsAllocation self.old i }
+        ensures most { (i : ℕ) → NeedsAllocation self.old i → SharesBlockWithNone self.new i
+            → NeedsAllocation self.new i }
     {
         build::extend_index_refs(self, iter)
     }
 
     /// A set of the items of an iterator, each of which is to be below `ATOMIC_MAX_EID`.
     ///
-    /// It stops at the first item that is not, and where memory is refused: then no later item is drawn. Memory is
-    /// refused only for an item with none before it in the same 4,096 indices. Where there is no memory for the empty
+    /// It stops at the first item that is not, and if an allocation fails: then no later item is drawn. An allocation
+    /// can fail only for an item with none before it in the same 4,096 indices. Where there is no memory for the empty
     /// set itself, the error is `Memory` at place 0, whatever the items are, and none is drawn. It is `FromIterator` of
     /// the original.
     pub fn from_indices<U: IntoIterator<Item = Index>>(
         alloc: Global,
         iter: U,
     ) -> Result<AtomicBitSet, BuildError>
-        requires { IsFiniteIterable U.into_iter_gives U.IntoIter.can_next U.IntoIter.remaining iter }
-        ensures all { IfOk result (λ set. TakesAll U.into_iter_gives U.IntoIter.next_gives (λ i. i) iter (λ _. false) (has set)) }
-        ensures most { IfOk result (λ set. (i : ℕ) → HasNoNear set i → LacksBlock set i) }
-        ensures stops { IfErr result (λ error. (error ≡ Memory 0) ⊎ Refuses U.into_iter_gives U.IntoIter.next_gives (λ i. i) iter error) }
+        requires { IsFiniteIterable U.into_iter_gives U.IntoIter.can_next U.IntoIter.remaining
+            iter }
+        ensures all { IfOk result (λ set. TakesAll U.into_iter_gives U.IntoIter.next_gives (λ i. i)
+            iter (λ _. false) (has set)) }
+        ensures most { IfOk result (λ set. (i : ℕ) → SharesBlockWithNone set i
+            → NeedsAllocation set i) }
+        ensures stops { IfErr result (λ error. (error ≡ Memory 0)
+            ⊎ Refuses U.into_iter_gives U.IntoIter.next_gives (λ i. i) iter error) }
     {
         match AtomicBitSet::new(alloc) {
             Ok(set) => build::from_indices(set, iter),
@@ -92,10 +104,14 @@ impl AtomicBitSet {
         alloc: Global,
         iter: U,
     ) -> Result<AtomicBitSet, BuildError>
-        requires { IsFiniteIterable U.into_iter_gives U.IntoIter.can_next U.IntoIter.remaining iter }
-        ensures all { IfOk result (λ set. TakesAll U.into_iter_gives U.IntoIter.next_gives (λ i. i.now) iter (λ _. false) (has set)) }
-        ensures most { IfOk result (λ set. (i : ℕ) → HasNoNear set i → LacksBlock set i) }
-        ensures stops { IfErr result (λ error. (error ≡ Memory 0) ⊎ Refuses U.into_iter_gives U.IntoIter.next_gives (λ i. i.now) iter error) }
+        requires { IsFiniteIterable U.into_iter_gives U.IntoIter.can_next U.IntoIter.remaining
+            iter }
+        ensures all { IfOk result (λ set. TakesAll U.into_iter_gives U.IntoIter.next_gives
+            (λ i. i.now) iter (λ _. false) (has set)) }
+        ensures most { IfOk result (λ set. (i : ℕ) → SharesBlockWithNone set i
+            → NeedsAllocation set i) }
+        ensures stops { IfErr result (λ error. (error ≡ Memory 0)
+            ⊎ Refuses U.into_iter_gives U.IntoIter.next_gives (λ i. i.now) iter error) }
     {
         match AtomicBitSet::new(alloc) {
             Ok(set) => build::from_index_refs(set, iter),

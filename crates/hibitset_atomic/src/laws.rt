@@ -1,11 +1,11 @@
 //! Laws that users rely on.
 ghost use Rattle.std.specs.Prelude.{◌≡◌, ℕ, ◌-◌, ◌^◌, ◌<◌, ◌≤◌, true, bit_and};
 ghost use Rattle.hibitset_base.specs.declared.util.TheConstants.{LAYERS};
-ghost use Rattle.hibitset_base.specs.Reading.{Encloses};
-ghost use Rattle.hibitset_base.specs.Sets.{IsExact};
+ghost use Rattle.hibitset_base.specs.WordsRead.{CoversWords};
+ghost use Rattle.hibitset_base.specs.Sets.{SummariesExact};
 ghost use Rattle.hibitset_base.specs.Splits.{AreWords};
 ghost use Rattle.hibitset_atomic.specs.AtomicBitSet.{has, word_of, topped_word};
-ghost use Rattle.hibitset_atomic.specs.Laws.{intersected};
+ghost use Rattle.hibitset_atomic.specs.Laws.{intersection_word};
 ghost use Rattle.hibitset_atomic.specs.declared.atomic.AtomicBitSet.{AtomicBitSet};
 ghost use Rattle.hibitset_atomic.specs.declared.atomic.TheConstants.{ATOMIC_MAX_EID};
 ghost use Rattle.hibitset_atomic.specs.declared.layers.TheConstants.{ATOMIC_LAYERS};
@@ -21,15 +21,24 @@ use hibitset_base::util::LAYERS;
 /// an intersection lie within those of each operand, so by the clause `bound` of `iter` a walk over `BitSetAnd` of two
 /// atomic sets, or of references to them, reads at most four words of each for every member of the smaller one, and the
 /// top. The same holds beside a set of any other type, on either side of it. The words of the four layers that are kept
-/// are exact alone. Past its positions each layer has words that are 0: layer 0 has 262,144 positions, and each layer
-/// above it a 64th of those below.
+/// are exact alone. Past its positions each layer has zero words: layer 0 has 262,144 positions, and each layer above
+/// it a 64th of those below.
 pub fn atomic_laws()
     ensures within { (set : AtomicBitSet) (i : ℕ) → has set i ≡ true → i < ATOMIC_MAX_EID }
-    ensures exact { (set : AtomicBitSet) → IsExact LAYERS (topped_word set) × AreWords (topped_word set) }
-    ensures intersection { (a b : AtomicBitSet) → Encloses LAYERS (has a) (topped_word a) (intersected a b) × Encloses LAYERS (has b) (topped_word b) (intersected a b) }
-    ensures kept { (set : AtomicBitSet) → IsExact ATOMIC_LAYERS (word_of set) × AreWords (word_of set) }
-    ensures past { (set : AtomicBitSet) (l p : ℕ) → 64 ^ (ATOMIC_LAYERS - 1 - l) ≤ p → topped_word set l p ≡ 0 }
-    ensures beside { (set : AtomicBitSet) (word : ℕ → ℕ → ℕ) → Encloses LAYERS (has set) (topped_word set) (λ l p. bit_and (topped_word set l p) (word l p)) × Encloses LAYERS (has set) (topped_word set) (λ l p. bit_and (word l p) (topped_word set l p)) }
+    ensures exact { (set : AtomicBitSet)
+        → SummariesExact LAYERS (topped_word set) × AreWords (topped_word set) }
+    ensures intersection { (a b : AtomicBitSet)
+        → CoversWords LAYERS (has a) (topped_word a) (intersection_word a b)
+        × CoversWords LAYERS (has b) (topped_word b) (intersection_word a b) }
+    ensures kept { (set : AtomicBitSet)
+        → SummariesExact ATOMIC_LAYERS (word_of set) × AreWords (word_of set) }
+    ensures past { (set : AtomicBitSet) (l p : ℕ) → 64 ^ (ATOMIC_LAYERS - 1 - l) ≤ p
+        → topped_word set l p ≡ 0 }
+    ensures beside { (set : AtomicBitSet) (word : ℕ → ℕ → ℕ)
+        → CoversWords LAYERS (has set) (topped_word set)
+        (λ l p. bit_and (topped_word set l p) (word l p))
+        × CoversWords LAYERS (has set) (topped_word set)
+        (λ l p. bit_and (word l p) (topped_word set l p)) }
 {}
 
 /// The laws of every world, whatever has happened to it. The call does nothing, and its contract says them.
@@ -38,8 +47,8 @@ pub fn atomic_laws()
 /// every index that was old or whose call had ended before the walk began. It reads next the word under the first bit
 /// that it has left, in the lowest layer; each word after its first is not 0; and it has read at most 3k + 1 words
 /// where it has ended, and 3k + 3 where it has not, k the number of its items. No number from `ATOMIC_MAX_EID` on is
-/// old or written. A summary bit never stands over a word that is 0, and at rest summaries are exact. Each index that
-/// is written and was not old was reported new once, and no other ever, so the old set are the members that no call
+/// old or written. A summary bit is never set over a zero word, and at rest summaries are exact. Each index that is
+/// written and was not old was reported new once, and no other ever, so the old set are the members that no call
 /// reported new.
 pub fn world_laws()
     ensures honest { (world : World) → WalksAreHonest world }

@@ -1,7 +1,7 @@
 //! The words of an atomic set: four layers, of which the lowest is made block by block.
 ghost use Rattle.std.specs.Prelude.{◌≡◌, ◌≢◌, ℕ, ◌+◌, ◌*◌, ◌/◌, ◌%◌, ◌^◌, ◌<◌, ◌≤◌, ◌↔◌, ◌-◌, ◌==◌, ◌&&◌, cond, bit_or, get_or, length, OnOk, OnErr, IfOk, IsOk, vec_capacity};
-ghost use Rattle.hibitset_base.specs.Words.{IsSummed};
-ghost use Rattle.hibitset_atomic.specs.Clearing.{IsCovered, IsClearUnder, IsSameBeside};
+ghost use Rattle.hibitset_base.specs.Words.{SummariesExactEverywhere};
+ghost use Rattle.hibitset_atomic.specs.Clear.{IsCovered, IsClearUnder, IsSameBeside};
 ghost use Rattle.hibitset_atomic.specs.declared.layers.TheConstants.{ATOMIC_LAYERS};
 
 use crate::blocks::{Blocks, zeros};
@@ -23,7 +23,8 @@ pub(crate) struct Layers {
     pub(crate) layer0: Blocks,
     ghost whole1: { length layer1.items ≡ 4096 },
     ghost whole2: { length layer2.items ≡ 64 },
-    ghost fits: { ((p : ℕ) → get_or layer1.items p 0 < 2 ^ 64) × ((p : ℕ) → get_or layer2.items p 0 < 2 ^ 64) × (layer3 < 2 ^ 64) },
+    ghost fits: { ((p : ℕ) → get_or layer1.items p 0 < 2 ^ 64)
+        × ((p : ℕ) → get_or layer2.items p 0 < 2 ^ 64) × (layer3 < 2 ^ 64) },
 }
 
 // The word with one bit set.
@@ -42,7 +43,9 @@ fn or_at(words: &mut Vec<usize>, position: usize, bit: u32) -> usize
     ensures length { length words.new.items ≡ length words.old.items }
     ensures before { result ≡ get_or words.old.items position 0 }
     ensures fits { (p : ℕ) → get_or words.new.items p 0 < 2 ^ 64 }
-    ensures after { (p : ℕ) → get_or words.new.items p 0 ≡ cond (p == position) (bit_or (get_or words.old.items p 0) (2 ^ bit)) (get_or words.old.items p 0) }
+    ensures after { (p : ℕ) → get_or words.new.items p 0
+        ≡ cond (p == position) (bit_or (get_or words.old.items p 0) (2 ^ bit))
+        (get_or words.old.items p 0) }
 {
     let before = words[position];
     words[position] = or_bit(before, bit);
@@ -77,8 +80,7 @@ impl Layers {
         self.layer0.make_room()
     }
 
-    // Makes the word of layer 2 at a place 0, and all words under it. It goes by the bits, and only to words that are
-    // not 0.
+    // Makes the word of layer 2 at a place 0, and all words under it. It goes by the bits, and only to nonzero words.
     fn clear_under(&mut self, place: usize)
         requires place { place < 64 }
         requires covered { IsCovered (layer_word self.old) }
@@ -97,9 +99,9 @@ impl Layers {
         }
     }
 
-    /// Makes all words 0, and takes no memory. It goes only to words that are not 0.
+    /// Makes all words 0, and does not allocate. It goes only to nonzero words.
     pub(crate) fn clear(&mut self)
-        requires { IsSummed ATOMIC_LAYERS (layer_word self.old) }
+        requires { SummariesExactEverywhere ATOMIC_LAYERS (layer_word self.old) }
         ensures zero { (l p : ℕ) → layer_word self.new l p ≡ 0 }
         ensures blocks { self.new.layer0.places.items ≡ self.old.layer0.places.items }
         ensures room { vec_capacity self.new.layer0.words ≡ vec_capacity self.old.layer0.words }
@@ -150,28 +152,30 @@ impl Layers {
         ensures same { (l p : ℕ) → layer_word self.new l p ≡ layer_word self.old l p }
         ensures made { OnOk result (IsMade self.new.layer0 place) }
         ensures there { IsMade self.old.layer0 place → IsOk result }
-        ensures refused { OnErr result (IsUnmade self.old.layer0 (place / 64) × (self.new.layer0.places.items ≡ self.old.layer0.places.items)) }
+        ensures err { OnErr result (IsUnmade self.old.layer0 (place / 64)
+            × (self.new.layer0.places.items ≡ self.old.layer0.places.items)) }
         ensures keeps { (k : ℕ) → IsUnmade self.new.layer0 k → IsUnmade self.old.layer0 k }
-        ensures others { (k : ℕ) → k ≢ place / 64 → IsUnmade self.old.layer0 k → IsUnmade self.new.layer0 k }
-        ensures room { HasRoom self.old.layer0 → IsOk result × HasRoom self.new.layer0 }
+        ensures others { (k : ℕ) → k ≢ place / 64 → IsUnmade self.old.layer0 k
+            → IsUnmade self.new.layer0 k }
+        ensures succeeds { HasRoom self.old.layer0 → IsOk result × HasRoom self.new.layer0 }
     {
         self.layer0.make(place)
     }
 
     /// Puts a word into a block of layer 0 in the place of the word `before`, and sets the summaries over it right, as
-    /// far up as one turns from 0 or to 0.
+    /// far up as one becomes zero or nonzero.
     #[inline]
-    pub(crate) fn put_word(&mut self, place: usize, before: usize, word: usize)
+    pub(crate) fn store_word(&mut self, place: usize, before: usize, word: usize)
         requires made { IsMade self.old.layer0 place }
         requires before { before ≡ layer_word self.old 0 place }
-        requires summed { IsSummed ATOMIC_LAYERS (layer_word self.old) }
+        requires summed { SummariesExactEverywhere ATOMIC_LAYERS (layer_word self.old) }
         ensures here { layer_word self.new 0 place ≡ word }
         ensures others { (p : ℕ) → p ≢ place → layer_word self.new 0 p ≡ layer_word self.old 0 p }
-        ensures summed { IsSummed ATOMIC_LAYERS (layer_word self.new) }
+        ensures summed { SummariesExactEverywhere ATOMIC_LAYERS (layer_word self.new) }
         ensures room { HasRoom self.old.layer0 → HasRoom self.new.layer0 }
         ensures blocks { self.new.layer0.places.items ≡ self.old.layer0.places.items }
     {
-        self.layer0.put(place, word);
+        self.layer0.store_word(place, word);
         if (before == 0) == (word == 0) {
             return;
         }
@@ -202,8 +206,8 @@ impl Layers {
         }
     }
 
-    /// Sets a bit of a word, and tells the word as it was. Nothing else changes, no summary either; where memory is
-    /// refused, nothing does.
+    /// Sets a bit of a word, and tells the word as it was. Nothing else changes, no summary either; if an allocation
+    /// fails, nothing does.
     pub(crate) fn fetch_or(
         &mut self,
         layer: usize,
@@ -214,8 +218,11 @@ impl Layers {
         requires position { position < 64 ^ (ATOMIC_LAYERS - 1 - layer) }
         requires bit { bit < 64 }
         ensures before { IfOk result (λ word. word ≡ layer_word self.old layer position) }
-        ensures after { OnOk result ((l p : ℕ) → layer_word self.new l p ≡ cond (l == layer && p == position) (bit_or (layer_word self.old l p) (2 ^ bit)) (layer_word self.old l p)) }
-        ensures refused { OnErr result ((l p : ℕ) → layer_word self.new l p ≡ layer_word self.old l p) }
+        ensures after { OnOk result ((l p : ℕ)
+            → layer_word self.new l p ≡ cond (l == layer && p == position)
+            (bit_or (layer_word self.old l p) (2 ^ bit)) (layer_word self.old l p)) }
+        ensures err { OnErr result ((l p : ℕ)
+            → layer_word self.new l p ≡ layer_word self.old l p) }
     {
         match layer {
             0 => self.layer0.fetch_or(position, bit),

@@ -1,8 +1,11 @@
 //! Operators over atomic sets held alone:
 //! `!`, `&`, `|`, `^` and `-` make a virtual set of their operands, and `into_iter` a walk.
+//!
+//! They are written out, for the set and for a reference to it: the toolchain refuses impls that a macro of the
+//! repository writes.
 ghost use Rattle.std.specs.Prelude.{◌≡◌};
-ghost use Rattle.hibitset_base.specs.Connectives.{IsComplement, IsDifference, IsExclusive, IsIntersection, IsUnion};
-ghost use Rattle.hibitset_base.specs.Walk.{Starts};
+ghost use Rattle.hibitset_base.specs.Connectives.{IsComplement, IsDifference, IsSymmetricDifference, IsIntersection, IsUnion};
+ghost use Rattle.hibitset_base.specs.Walk.{StartsAtTop};
 ghost use Rattle.hibitset_atomic.specs.AtomicBitSet.{has, topped_word};
 
 use crate::atomic::AtomicBitSet;
@@ -15,7 +18,8 @@ use std::ops::{BitAnd, BitOr, BitXor, Not, Sub};
 impl Not for AtomicBitSet {
     type Output = BitSetNot<Self>;
 
-    ghost not_gives = { λ set result. (result.0 ≡ set) × IsComplement (has set) (⟦<Self::Output as BitSetLike>⟧.holds result) };
+    ghost not_gives = { λ set result. (result.0 ≡ set)
+        × IsComplement (has set) (⟦<Self::Output as BitSetLike>⟧.holds result) };
 
     #[inline]
     fn not(self) -> BitSetNot<Self> {
@@ -26,7 +30,8 @@ impl Not for AtomicBitSet {
 impl<T: BitSetLike> BitAnd<T> for AtomicBitSet {
     type Output = BitSetAnd<Self, T>;
 
-    ghost bitand_gives = { λ set other result. (result.0 ≡ set) × (result.1 ≡ other) × IsIntersection (has set) (T.holds other) (⟦<Self::Output as BitSetLike>⟧.holds result) };
+    ghost bitand_gives = { λ set other result. (result.0 ≡ set) × (result.1 ≡ other)
+        × IsIntersection (has set) (T.holds other) (⟦<Self::Output as BitSetLike>⟧.holds result) };
 
     #[inline]
     fn bitand(self, rhs: T) -> BitSetAnd<Self, T> {
@@ -37,7 +42,8 @@ impl<T: BitSetLike> BitAnd<T> for AtomicBitSet {
 impl<T: BitSetLike> BitOr<T> for AtomicBitSet {
     type Output = BitSetOr<Self, T>;
 
-    ghost bitor_gives = { λ set other result. (result.0 ≡ set) × (result.1 ≡ other) × IsUnion (has set) (T.holds other) (⟦<Self::Output as BitSetLike>⟧.holds result) };
+    ghost bitor_gives = { λ set other result. (result.0 ≡ set) × (result.1 ≡ other)
+        × IsUnion (has set) (T.holds other) (⟦<Self::Output as BitSetLike>⟧.holds result) };
 
     #[inline]
     fn bitor(self, rhs: T) -> BitSetOr<Self, T> {
@@ -48,7 +54,9 @@ impl<T: BitSetLike> BitOr<T> for AtomicBitSet {
 impl<T: BitSetLike> BitXor<T> for AtomicBitSet {
     type Output = BitSetXor<Self, T>;
 
-    ghost bitxor_gives = { λ set other result. (result.0 ≡ set) × (result.1 ≡ other) × IsExclusive (has set) (T.holds other) (⟦<Self::Output as BitSetLike>⟧.holds result) };
+    ghost bitxor_gives = { λ set other result. (result.0 ≡ set) × (result.1 ≡ other)
+        × IsSymmetricDifference (has set) (T.holds other)
+        (⟦<Self::Output as BitSetLike>⟧.holds result) };
 
     #[inline]
     fn bitxor(self, rhs: T) -> BitSetXor<Self, T> {
@@ -59,7 +67,8 @@ impl<T: BitSetLike> BitXor<T> for AtomicBitSet {
 impl<T: BitSetLike> Sub<T> for AtomicBitSet {
     type Output = BitSetAnd<Self, BitSetNot<T>>;
 
-    ghost sub_gives = { λ set other result. (result.0 ≡ set) × (result.1.0 ≡ other) × IsDifference (has set) (T.holds other) (⟦<Self::Output as BitSetLike>⟧.holds result) };
+    ghost sub_gives = { λ set other result. (result.0 ≡ set) × (result.1.0 ≡ other)
+        × IsDifference (has set) (T.holds other) (⟦<Self::Output as BitSetLike>⟧.holds result) };
 
     #[inline]
     fn sub(self, rhs: T) -> BitSetAnd<Self, BitSetNot<T>> {
@@ -72,7 +81,7 @@ impl IntoIterator for AtomicBitSet {
 
     type IntoIter = BitIter<AtomicBitSet>;
 
-    ghost into_iter_gives = { Starts has topped_word };
+    ghost into_iter_gives = { StartsAtTop has topped_word };
 
     #[inline]
     fn into_iter(self) -> BitIter<AtomicBitSet> {
@@ -83,7 +92,8 @@ impl IntoIterator for AtomicBitSet {
 impl<'a> Not for &'a AtomicBitSet {
     type Output = BitSetNot<Self>;
 
-    ghost not_gives = { λ set result. (result.0 ≡ set) × IsComplement (has set.now) (⟦<Self::Output as BitSetLike>⟧.holds result) };
+    ghost not_gives = { λ set result. (result.0 ≡ set)
+        × IsComplement (has set.now) (⟦<Self::Output as BitSetLike>⟧.holds result) };
 
     #[inline]
     fn not(self) -> BitSetNot<Self> {
@@ -94,7 +104,9 @@ impl<'a> Not for &'a AtomicBitSet {
 impl<'a, T: BitSetLike> BitAnd<T> for &'a AtomicBitSet {
     type Output = BitSetAnd<Self, T>;
 
-    ghost bitand_gives = { λ set other result. (result.0 ≡ set) × (result.1 ≡ other) × IsIntersection (has set.now) (T.holds other) (⟦<Self::Output as BitSetLike>⟧.holds result) };
+    ghost bitand_gives = { λ set other result. (result.0 ≡ set) × (result.1 ≡ other)
+        × IsIntersection (has set.now) (T.holds other)
+        (⟦<Self::Output as BitSetLike>⟧.holds result) };
 
     #[inline]
     fn bitand(self, rhs: T) -> BitSetAnd<Self, T> {
@@ -105,7 +117,8 @@ impl<'a, T: BitSetLike> BitAnd<T> for &'a AtomicBitSet {
 impl<'a, T: BitSetLike> BitOr<T> for &'a AtomicBitSet {
     type Output = BitSetOr<Self, T>;
 
-    ghost bitor_gives = { λ set other result. (result.0 ≡ set) × (result.1 ≡ other) × IsUnion (has set.now) (T.holds other) (⟦<Self::Output as BitSetLike>⟧.holds result) };
+    ghost bitor_gives = { λ set other result. (result.0 ≡ set) × (result.1 ≡ other)
+        × IsUnion (has set.now) (T.holds other) (⟦<Self::Output as BitSetLike>⟧.holds result) };
 
     #[inline]
     fn bitor(self, rhs: T) -> BitSetOr<Self, T> {
@@ -116,7 +129,9 @@ impl<'a, T: BitSetLike> BitOr<T> for &'a AtomicBitSet {
 impl<'a, T: BitSetLike> BitXor<T> for &'a AtomicBitSet {
     type Output = BitSetXor<Self, T>;
 
-    ghost bitxor_gives = { λ set other result. (result.0 ≡ set) × (result.1 ≡ other) × IsExclusive (has set.now) (T.holds other) (⟦<Self::Output as BitSetLike>⟧.holds result) };
+    ghost bitxor_gives = { λ set other result. (result.0 ≡ set) × (result.1 ≡ other)
+        × IsSymmetricDifference (has set.now) (T.holds other)
+        (⟦<Self::Output as BitSetLike>⟧.holds result) };
 
     #[inline]
     fn bitxor(self, rhs: T) -> BitSetXor<Self, T> {
@@ -127,7 +142,9 @@ impl<'a, T: BitSetLike> BitXor<T> for &'a AtomicBitSet {
 impl<'a, T: BitSetLike> Sub<T> for &'a AtomicBitSet {
     type Output = BitSetAnd<Self, BitSetNot<T>>;
 
-    ghost sub_gives = { λ set other result. (result.0 ≡ set) × (result.1.0 ≡ other) × IsDifference (has set.now) (T.holds other) (⟦<Self::Output as BitSetLike>⟧.holds result) };
+    ghost sub_gives = { λ set other result. (result.0 ≡ set) × (result.1.0 ≡ other)
+        × IsDifference (has set.now) (T.holds other)
+        (⟦<Self::Output as BitSetLike>⟧.holds result) };
 
     #[inline]
     fn sub(self, rhs: T) -> BitSetAnd<Self, BitSetNot<T>> {
@@ -140,7 +157,7 @@ impl<'a> IntoIterator for &'a AtomicBitSet {
 
     type IntoIter = BitIter<Self>;
 
-    ghost into_iter_gives = { Starts (λ set. has set.now) (λ set. topped_word set.now) };
+    ghost into_iter_gives = { StartsAtTop (λ set. has set.now) (λ set. topped_word set.now) };
 
     #[inline]
     fn into_iter(self) -> BitIter<Self> {

@@ -4,39 +4,40 @@
 //! asks with its own; `join` puts seats together, and `settle` ends it. A call on the shared set takes no lock and
 //! tries nothing again: it makes at most eleven atomic steps, each of them sequentially consistent. Loads and exchanges
 //! are counted where the words are touched, and its seat tells how many it has made (`loads_by`, `exchanges_by`).
+#![tactic(auto, unfolding(crate::specs::Seats::BelongsTo, crate::specs::Seats::IsKnown, crate::specs::Seats::IsOld, crate::specs::Seats::weight_of, crate::specs::Seats::reports_of, crate::specs::Seats::loads_by, crate::specs::Seats::exchanges_by))]
 
 ghost use Rattle.std.specs.Prelude.{◌≡◌, ◌≢◌, ℕ, ◌+◌, ◌-◌, ◌*◌, ◌/◌, ◌<◌, ◌≤◌, ◌⊎◌, true, false, [], ◌∷◌, ◌++◌, length, slice_index, nat_eq, Contains, IsOk, IfOk, IfSome, IsNone, IfErr, ◌↔◌};
 ghost use Rattle.std.specs.Slots.{slots_items, slots_len, IsFull};
 ghost use Rattle.std.specs.List.{IsDistinct};
-ghost use Rattle.hibitset_atomic.specs.AtomicBitSet.{has, word_of, HasAllRoom};
+ghost use Rattle.hibitset_atomic.specs.AtomicBitSet.{has, word_of, AllBlocksReserved};
 ghost use Rattle.hibitset_atomic.specs.Blocks.{HasRoom};
 ghost use Rattle.hibitset_atomic.specs.Row.{word_in_row};
-ghost use Rattle.hibitset_base.specs.Words.{IsSummed};
+ghost use Rattle.hibitset_base.specs.Words.{SummariesExactEverywhere};
 ghost use Rattle.hibitset_atomic.specs.declared.layers.TheConstants.{ATOMIC_LAYERS};
 ghost use Rattle.hibitset_atomic.specs.declared.atomic.TheConstants.{ATOMIC_MAX_EID};
-ghost use Rattle.hibitset_atomic.specs.Seats.{IsOld, Came, Known, weight_of, reports_of, loads_by, exchanges_by, HasAllReports};
-ghost use Rattle.hibitset_atomic.specs.declared.shared.sizes.TheConstants.{SHARES, LAYER1_START, ROW_WORDS};
+ghost use Rattle.hibitset_atomic.specs.Seats.{IsOld, BelongsTo, IsKnown, weight_of, reports_of, loads_by, exchanges_by, HasAllReports};
+ghost use Rattle.hibitset_atomic.specs.declared.shared.layout.TheConstants.{SHARES, LAYER1_START, ROW_WORDS};
 
 use crate::atomic::{ATOMIC_MAX_EID, AtomicBitSet};
 use crate::layers::ATOMIC_LAYERS;
-use crate::shared::rule::{Halves, Unites};
-use crate::shared::sizes::{LAYER1_START, LAYER2_START, LAYER3_START, ROW_WORDS};
-use crate::shared::steps::mark_of;
+use crate::shared::atomic_ops::mark_of;
+use crate::shared::layout::{LAYER1_START, LAYER2_START, LAYER3_START, ROW_WORDS};
+use crate::shared::rule::{JoinSeats, SplitSeat};
 use atomic_table::{Closed, Table};
 use hibitset_base::util::Index;
 use std::alloc::{AllocError, Global};
 use std::snapshot::Snapshot;
 
-mod among;
-mod parts;
+mod atomic_ops;
+mod divide;
+mod layout;
 pub mod rule;
-mod sizes;
-mod steps;
+mod types;
 pub mod view;
 pub mod walk;
 
-pub use parts::{Seat, SharedBitSet};
-pub use sizes::SHARES;
+pub use layout::SHARES;
+pub use types::{Seat, SharedBitSet};
 pub use walk::SharedWalk;
 
 // The word at a place of the row of all words, layer 0 first.
@@ -59,7 +60,8 @@ fn row_word(set: &AtomicBitSet, place: usize) -> u64
 // The words of all layers in one row.
 fn row_of(set: &AtomicBitSet) -> Result<Vec<u64>, AllocError>
     ensures long { IfOk result (λ row. length row.items ≡ ROW_WORDS) }
-    ensures words { IfOk result (λ row. (p : ℕ) → p < ROW_WORDS → slice_index row.items p ≡ word_in_row (word_of set.now) p) }
+    ensures words { IfOk result (λ row. (p : ℕ) → p < ROW_WORDS
+        → slice_index row.items p ≡ word_in_row (word_of set.now) p) }
 {
     let mut row = Vec::with_capacity(set.allocator(), ROW_WORDS)?;
     for place in 0..ROW_WORDS {
@@ -73,13 +75,14 @@ fn fill(closed: &Closed<(), Global>, set: &mut AtomicBitSet)
     requires closed { (slots_len closed.now.words ≡ ROW_WORDS) × IsFull closed.now.words }
     requires empty { (p : ℕ) → word_of set.old 0 p ≡ 0 }
     requires room { HasRoom set.old.layers.layer0 }
-    ensures words { (p : ℕ) → p < LAYER1_START → word_of set.new 0 p ≡ slice_index (slots_items closed.now.words) p }
+    ensures words { (p : ℕ) → p < LAYER1_START
+        → word_of set.new 0 p ≡ slice_index (slots_items closed.now.words) p }
     ensures room { HasRoom set.new.layers.layer0 }
 {
     for place in 0..LAYER1_START {
         let word = closed.word(place) as usize;
         if word != 0 {
-            set.put_word(place, word);
+            set.store_word(place, word);
         }
     }
 }
@@ -91,11 +94,11 @@ impl AtomicBitSet {
     /// The opening seat has all shares, weight `SHARES`, no reports, and knows nothing. All words of the four layers
     /// are made here, 2 MB, so that no call on the shared set needs memory until `settle`. Where that memory is
     /// refused, the set comes back unchanged.
-    #[tactic(auto, unfolding(crate::specs::Seats::Came, crate::specs::Seats::Known, crate::specs::Seats::IsOld, crate::specs::Seats::weight_of, crate::specs::Seats::reports_of, crate::specs::Seats::loads_by, crate::specs::Seats::exchanges_by))]
     pub fn share(self) -> Result<(SharedBitSet, Seat), AtomicBitSet>
-        ensures back { IfErr result (λ set. set ≡ self) }
-        ensures came { IfOk result (λ r. Came r.0 r.1) }
-        ensures opening { IfOk result (λ r. (weight_of r.1 ≡ SHARES) × (reports_of r.1 ≡ []) × ((i : ℕ) → ¬ Known r.1 i)) }
+        ensures value_returned { IfErr result (λ set. set ≡ self) }
+        ensures came { IfOk result (λ r. BelongsTo r.0 r.1) }
+        ensures opening { IfOk result (λ r. (weight_of r.1 ≡ SHARES) × (reports_of r.1 ≡ [])
+            × ((i : ℕ) → ¬ IsKnown r.1 i)) }
         ensures steps { IfOk result (λ r. (loads_by r.1 ≡ 0) × (exchanges_by r.1 ≡ 0)) }
         ensures old { IfOk result (λ r. (i : ℕ) → (has self i ≡ true) ↔ IsOld r.0 i) }
     {
@@ -118,30 +121,32 @@ impl AtomicBitSet {
 }
 
 impl SharedBitSet {
-    /// Adds an index below `ATOMIC_MAX_EID`, and tells whether it was there, as `AtomicBitSet::add_atomic` of the
+    /// Adds an index below `ATOMIC_MAX_EID`, and returns whether it was there, as `AtomicBitSet::add_atomic` of the
     /// original does, which takes no seat.
     ///
     /// It answers false exactly where its own exchange put the index in, which is then the newest of the seat's
     /// reports. It never does so for an index that was there before `share`; and no two seats that are joined have a
-    /// report in common, as `join` says. When it returns, the seat knows the index: all four bits on the way to it
-    /// stand, and stay.
+    /// report in common, as `join` says. When it returns, the seat knows the index: all four bits on the way to it are
+    /// set, and stay.
     ///
     /// It reads those four bits first, and where they stand, as for an index that is old or known to the seat, it
-    /// writes nothing and answers true. Else it exchanges in layer 0, and above it, from the lowest up, in each layer
-    /// whose bit does not stand yet: seven loads and four exchanges at most. It takes no memory and waits for nobody.
+    /// writes nothing and returns true. Else it exchanges in layer 0, and above it, from the lowest up, in each layer
+    /// whose bit is still clear: seven loads and four exchanges at most. It does not allocate and waits for nobody.
     #[inline]
-    #[tactic(auto, unfolding(crate::specs::Seats::Came, crate::specs::Seats::Known, crate::specs::Seats::IsOld, crate::specs::Seats::weight_of, crate::specs::Seats::reports_of, crate::specs::Seats::loads_by, crate::specs::Seats::exchanges_by))]
     pub fn add_atomic(&self, seat: &mut Seat, id: Index) -> bool
         requires id { id < ATOMIC_MAX_EID }
-        requires came { Came self.now seat.old }
-        ensures came { Came self.now seat.new × (weight_of seat.new ≡ weight_of seat.old) }
-        ensures known { Known seat.new id × ((i : ℕ) → Known seat.old i → Known seat.new i) }
+        requires came { BelongsTo self.now seat.old }
+        ensures came { BelongsTo self.now seat.new × (weight_of seat.new ≡ weight_of seat.old) }
+        ensures known { IsKnown seat.new id × ((i : ℕ) → IsKnown seat.old i → IsKnown seat.new i) }
         ensures there { result ≡ true → reports_of seat.new ≡ reports_of seat.old }
-        ensures new { result ≡ false → (reports_of seat.new ≡ id ∷ reports_of seat.old) × ¬ IsOld self.now id × ¬ Known seat.old id }
+        ensures new { result ≡ false → (reports_of seat.new ≡ id ∷ reports_of seat.old)
+            × ¬ IsOld self.now id × ¬ IsKnown seat.old id }
         ensures once { result ≡ false → ¬ Contains (reports_of seat.old) id }
         ensures loads { loads_by seat.new ≤ loads_by seat.old + (2 * ATOMIC_LAYERS - 1) }
         ensures exchanges { exchanges_by seat.new ≤ exchanges_by seat.old + ATOMIC_LAYERS }
-        ensures still { IsOld self.now id ⊎ Known seat.old id → (loads_by seat.new ≤ loads_by seat.old + ATOMIC_LAYERS) × (exchanges_by seat.new ≡ exchanges_by seat.old) }
+        ensures still { IsOld self.now id ⊎ IsKnown seat.old id
+            → (loads_by seat.new ≤ loads_by seat.old + ATOMIC_LAYERS)
+            × (exchanges_by seat.new ≡ exchanges_by seat.old) }
     {
         if self.contains(seat, id) {
             return true;
@@ -150,71 +155,76 @@ impl SharedBitSet {
     }
 
     // The exchanges, from layer 0 up, for an index that is neither old nor known to the seat: that of layer 0 always,
-    // and above it those whose bits do not stand by then.
+    // and above it those whose bits are clear by then.
     #[inline(never)]
-    #[tactic(auto, unfolding(crate::specs::Seats::Came, crate::specs::Seats::Known, crate::specs::Seats::IsOld, crate::specs::Seats::weight_of, crate::specs::Seats::reports_of, crate::specs::Seats::loads_by, crate::specs::Seats::exchanges_by))]
     fn exchange(&self, seat: &mut Seat, id: Index) -> bool
         requires id { id < ATOMIC_MAX_EID }
-        requires came { Came self.now seat.old }
-        requires new { ¬ IsOld self.now id × ¬ Known seat.old id }
-        ensures came { Came self.now seat.new × (weight_of seat.new ≡ weight_of seat.old) }
-        ensures known { Known seat.new id × ((i : ℕ) → Known seat.old i → Known seat.new i) }
+        requires came { BelongsTo self.now seat.old }
+        requires new { ¬ IsOld self.now id × ¬ IsKnown seat.old id }
+        ensures came { BelongsTo self.now seat.new × (weight_of seat.new ≡ weight_of seat.old) }
+        ensures known { IsKnown seat.new id × ((i : ℕ) → IsKnown seat.old i → IsKnown seat.new i) }
         ensures there { result ≡ true → reports_of seat.new ≡ reports_of seat.old }
         ensures new { result ≡ false → reports_of seat.new ≡ id ∷ reports_of seat.old }
         ensures loads { loads_by seat.new ≡ loads_by seat.old + (ATOMIC_LAYERS - 1) }
         ensures exchanges { exchanges_by seat.new ≤ exchanges_by seat.old + ATOMIC_LAYERS }
     {
-        let there = self.enter(&mut seat.pass, id);
-        self.mark(&mut seat.pass, id, 0);
-        self.mark(&mut seat.pass, id, 1);
-        self.mark(&mut seat.pass, id, 2);
+        let there = self.fetch_or_layer0(&mut seat.pass, id);
+        self.set_summary(&mut seat.pass, id, 0);
+        self.set_summary(&mut seat.pass, id, 1);
+        self.set_summary(&mut seat.pass, id, 2);
         there
     }
 
-    /// Tells whether an index is there, as `AtomicBitSet::contains` of the original does, which takes no seat.
+    /// Returns whether an index is there, as `AtomicBitSet::contains` of the original does, which takes no seat.
     ///
     /// It is true of each index from before `share`, and of each that the seat knows; of another it is true only where
-    /// all four bits on the way to it were seen to stand, and the seat knows it from then on. It is false from
-    /// `ATOMIC_MAX_EID` on. It makes at most four loads and writes nothing. It takes no memory and waits for nobody.
+    /// all four bits on the way to it were seen set, and the seat knows it from then on. It is false from
+    /// `ATOMIC_MAX_EID` on. It makes at most four loads and writes nothing. It does not allocate and waits for nobody.
     #[inline]
-    #[tactic(auto, unfolding(crate::specs::Seats::Came, crate::specs::Seats::Known, crate::specs::Seats::IsOld, crate::specs::Seats::weight_of, crate::specs::Seats::reports_of, crate::specs::Seats::loads_by, crate::specs::Seats::exchanges_by))]
     pub fn contains(&self, seat: &mut Seat, id: Index) -> bool
-        requires came { Came self.now seat.old }
-        ensures came { Came self.now seat.new × (weight_of seat.new ≡ weight_of seat.old) × (reports_of seat.new ≡ reports_of seat.old) }
-        ensures known { (i : ℕ) → Known seat.old i → Known seat.new i }
-        ensures yes { result ≡ true → (id < ATOMIC_MAX_EID) × Known seat.new id }
-        ensures no { result ≡ false → ¬ IsOld self.now id × ¬ Known seat.new id }
-        ensures steps { (loads_by seat.new ≤ loads_by seat.old + ATOMIC_LAYERS) × (exchanges_by seat.new ≡ exchanges_by seat.old) }
+        requires came { BelongsTo self.now seat.old }
+        ensures came { BelongsTo self.now seat.new × (weight_of seat.new ≡ weight_of seat.old)
+            × (reports_of seat.new ≡ reports_of seat.old) }
+        ensures known { (i : ℕ) → IsKnown seat.old i → IsKnown seat.new i }
+        ensures yes { result ≡ true → (id < ATOMIC_MAX_EID) × IsKnown seat.new id }
+        ensures no { result ≡ false → ¬ IsOld self.now id × ¬ IsKnown seat.new id }
+        ensures steps { (loads_by seat.new ≤ loads_by seat.old + ATOMIC_LAYERS)
+            × (exchanges_by seat.new ≡ exchanges_by seat.old) }
     {
         if id as usize >= ATOMIC_MAX_EID {
             return false;
         }
-        self.stands(&mut seat.pass, mark_of(id, 0))
-            && self.stands(&mut seat.pass, mark_of(id, 1))
-            && self.stands(&mut seat.pass, mark_of(id, 2))
-            && self.stands(&mut seat.pass, mark_of(id, 3))
+        self.load_bit(&mut seat.pass, mark_of(id, 0))
+            && self.load_bit(&mut seat.pass, mark_of(id, 1))
+            && self.load_bit(&mut seat.pass, mark_of(id, 2))
+            && self.load_bit(&mut seat.pass, mark_of(id, 3))
     }
 
     /// Makes two seats of one: of weight w, the first has weight w - w / 2 and the second w / 2, rounded down. There is
     /// no second exactly where w is 1.
     ///
     /// The reports stay with the first, and so does the count of its steps; both know what the seat knew. It makes no
-    /// step, takes no memory and waits for nobody.
-    #[tactic(auto, unfolding(crate::specs::Seats::Came, crate::specs::Seats::Known, crate::specs::Seats::IsOld, crate::specs::Seats::weight_of, crate::specs::Seats::reports_of, crate::specs::Seats::loads_by, crate::specs::Seats::exchanges_by))]
+    /// step, does not allocate and waits for nobody.
     pub fn divide(&self, seat: Seat) -> (Seat, Option<Seat>)
-        requires { Came self.now seat }
-        ensures came { Came self.now result.0 × IfSome result.1 (λ second. Came self.now second) }
-        ensures weights { (weight_of result.0 ≡ weight_of seat - weight_of seat / 2) × IfSome result.1 (λ second. weight_of second ≡ weight_of seat / 2) }
-        ensures reports { (reports_of result.0 ≡ reports_of seat) × IfSome result.1 (λ second. reports_of second ≡ []) }
-        ensures known { (i : ℕ) → Known seat i → Known result.0 i × IfSome result.1 (λ second. Known second i) }
+        requires { BelongsTo self.now seat }
+        ensures came { BelongsTo self.now result.0
+            × IfSome result.1 (λ second. BelongsTo self.now second) }
+        ensures weights { (weight_of result.0 ≡ weight_of seat - weight_of seat / 2)
+            × IfSome result.1 (λ second. weight_of second ≡ weight_of seat / 2) }
+        ensures reports { (reports_of result.0 ≡ reports_of seat)
+            × IfSome result.1 (λ second. reports_of second ≡ []) }
+        ensures known { (i : ℕ) → IsKnown seat i
+            → IsKnown result.0 i × IfSome result.1 (λ second. IsKnown second i) }
         ensures one { IsNone result.1 ↔ (weight_of seat ≡ 1) }
-        ensures steps { (loads_by result.0 ≡ loads_by seat) × (exchanges_by result.0 ≡ exchanges_by seat) × IfSome result.1 (λ second. (loads_by second ≡ 0) × (exchanges_by second ≡ 0)) }
+        ensures steps { (loads_by result.0 ≡ loads_by seat)
+            × (exchanges_by result.0 ≡ exchanges_by seat)
+            × IfSome result.1 (λ second. (loads_by second ≡ 0) × (exchanges_by second ≡ 0)) }
     {
         let Seat { mut pass, weight } = seat;
         if weight == 1 {
             return (Seat { pass, weight }, None);
         }
-        let other = self.table.shared.split_seat::<Halves>(&mut pass);
+        let other = self.table.shared.split_seat::<SplitSeat>(&mut pass);
         let given = weight / 2;
         (
             Seat {
@@ -231,27 +241,29 @@ impl SharedBitSet {
     /// Makes one seat of two seats of this set: their weights, their reports and what they know, together.
     ///
     /// No index is reported by both, none that was there before `share` is reported, and the weight is at most
-    /// `SHARES`. It makes one load, takes no memory and waits for nobody.
-    #[tactic(auto, unfolding(crate::specs::Seats::Came, crate::specs::Seats::Known, crate::specs::Seats::IsOld, crate::specs::Seats::weight_of, crate::specs::Seats::reports_of, crate::specs::Seats::loads_by, crate::specs::Seats::exchanges_by))]
+    /// `SHARES`. It makes one load, does not allocate and waits for nobody.
     pub fn join(&self, a: Seat, b: Seat) -> Seat
-        requires { Came self.now a × Came self.now b }
-        ensures came { Came self.now result }
-        ensures weight { (weight_of result ≡ weight_of a + weight_of b) × (weight_of a + weight_of b ≤ SHARES) }
+        requires { BelongsTo self.now a × BelongsTo self.now b }
+        ensures came { BelongsTo self.now result }
+        ensures weight { (weight_of result ≡ weight_of a + weight_of b)
+            × (weight_of a + weight_of b ≤ SHARES) }
         ensures reports { reports_of result ≡ reports_of a ++ reports_of b }
         ensures apart { (i : ℕ) → Contains (reports_of a) i → ¬ Contains (reports_of b) i }
         ensures once { IsDistinct nat_eq (reports_of result) }
         ensures honest { (i : ℕ) → Contains (reports_of result) i → ¬ IsOld self.now i }
-        ensures known { (i : ℕ) → Known a i ⊎ Known b i → Known result i }
-        ensures steps { (loads_by result ≡ loads_by a + loads_by b + 1) × (exchanges_by result ≡ exchanges_by a + exchanges_by b) }
+        ensures known { (i : ℕ) → IsKnown a i ⊎ IsKnown b i → IsKnown result i }
+        ensures steps { (loads_by result ≡ loads_by a + loads_by b + 1)
+            × (exchanges_by result ≡ exchanges_by a + exchanges_by b) }
     {
         let Seat { mut pass, weight } = a;
         let Seat {
             pass: other,
             weight: others,
         } = b;
-        self.table.shared.join_seat::<Unites>(&mut pass, other);
-        // Whatever it finds, a load shows that the rule holds of the two together.
-        self.look(&mut pass, LAYER3_START);
+        self.table.shared.join_seat::<JoinSeats>(&mut pass, other);
+        // The value is not used. The proof needs one step of the table here, to learn that the invariant holds for the
+        // joined seat.
+        self.load(&mut pass, LAYER3_START);
         Seat {
             pass,
             weight: weight + others,
@@ -266,18 +278,21 @@ impl SharedBitSet {
     ///
     /// It is refused for memory alone, which it takes first: then both come back unchanged, and it can be called again.
     /// A seat that was dropped took its shares with it, so no seat is whole after that.
-    #[tactic(auto, unfolding(crate::specs::Seats::Came, crate::specs::Seats::Known, crate::specs::Seats::IsOld, crate::specs::Seats::weight_of, crate::specs::Seats::reports_of, crate::specs::Seats::loads_by, crate::specs::Seats::exchanges_by, crate::specs::Seats::HasAllReports, crate::specs::AtomicBitSet::has, crate::specs::AtomicBitSet::word_of, crate::specs::AtomicBitSet::HasAllRoom))]
+    #[tactic(auto, unfolding(crate::specs::Seats::BelongsTo, crate::specs::Seats::IsKnown, crate::specs::Seats::IsOld, crate::specs::Seats::weight_of, crate::specs::Seats::reports_of, crate::specs::Seats::loads_by, crate::specs::Seats::exchanges_by, crate::specs::Seats::HasAllReports, crate::specs::AtomicBitSet::has, crate::specs::AtomicBitSet::word_of, crate::specs::AtomicBitSet::AllBlocksReserved))]
     pub fn settle(self, seat: Seat) -> Result<AtomicBitSet, (SharedBitSet, Seat)>
-        requires { Came self seat }
-        ensures back { IfErr result (λ r. (r.0 ≡ self) × (r.1 ≡ seat)) }
-        ensures exact { IfOk result (λ set. IsSummed ATOMIC_LAYERS (word_of set)) }
+        requires { BelongsTo self seat }
+        ensures value_returned { IfErr result (λ r. (r.0 ≡ self) × (r.1 ≡ seat)) }
+        ensures exact { IfOk result (λ set. SummariesExactEverywhere ATOMIC_LAYERS (word_of set)) }
         ensures old { IfOk result (λ set. (i : ℕ) → IsOld self i → has set i ≡ true) }
-        ensures known { IfOk result (λ set. (i : ℕ) → Known seat i → has set i ≡ true) }
-        ensures reported { IfOk result (λ set. (i : ℕ) → Contains (reports_of seat) i → has set i ≡ true) }
+        ensures known { IfOk result (λ set. (i : ℕ) → IsKnown seat i → has set i ≡ true) }
+        ensures reported { IfOk result (λ set. (i : ℕ) → Contains (reports_of seat) i
+            → has set i ≡ true) }
         ensures all { IfOk result (λ set. HasAllReports self seat (has set)) }
-        ensures whole { IfOk result (λ set. weight_of seat ≡ SHARES → (i : ℕ) → has set i ≡ true → IsOld self i ⊎ Contains (reports_of seat) i) }
-        ensures once { IsOk result → IsDistinct nat_eq (reports_of seat) × ((i : ℕ) → Contains (reports_of seat) i → ¬ IsOld self i) }
-        ensures room { IfOk result (λ set. HasAllRoom set) }
+        ensures whole { IfOk result (λ set. weight_of seat ≡ SHARES → (i : ℕ) → has set i ≡ true
+            → IsOld self i ⊎ Contains (reports_of seat) i) }
+        ensures once { IsOk result → IsDistinct nat_eq (reports_of seat)
+            × ((i : ℕ) → Contains (reports_of seat) i → ¬ IsOld self i) }
+        ensures room { IfOk result (λ set. AllBlocksReserved set) }
     {
         let Ok(mut set) = AtomicBitSet::with_room(self.alloc) else {
             return Err((self, seat));
@@ -301,7 +316,7 @@ impl Seat {
         self.weight
     }
 
-    /// Tells whether the seat has all shares of its set, which are `SHARES`. A set that settles with such a seat has
+    /// Returns whether the seat has all shares of its set, which are `SHARES`. A set that settles with such a seat has
     /// the old indices and this seat's reports, and no others.
     #[tactic(auto, unfolding(crate::specs::Seats::weight_of))]
     pub fn is_whole(&self) -> bool

@@ -29,7 +29,7 @@ pub use state::World;
 /// The four bits that an addition of an index sets, from the lowest layer up. Each is told as its layer, the position
 /// of its word in the layer, and the word that has this bit alone.
 ///
-/// The index is below `ATOMIC_MAX_EID`. It takes no memory.
+/// The index is below `ATOMIC_MAX_EID`. It does not allocate.
 #[inline]
 pub fn path(id: Index) -> [(usize, usize, usize); 4]
     requires { id < ATOMIC_MAX_EID }
@@ -57,16 +57,16 @@ pub(crate) fn bit_over(id: Index, layer: usize) -> (usize, u32)
 
 impl World {
     ghost use Rattle.hibitset_atomic.specs.AtomicBitSet.{has, word_of};
-    ghost use Rattle.hibitset_base.specs.Words.{IsSummed};
+    ghost use Rattle.hibitset_base.specs.Words.{SummariesExactEverywhere};
     ghost use Rattle.hibitset_atomic.specs.Layers.{layer_word};
-    ghost use Rattle.hibitset_atomic.specs.LayerBits.{lit};
+    ghost use Rattle.hibitset_atomic.specs.LayerBits.{layer_bit};
     ghost use Rattle.hibitset_atomic.specs.Replies.{reason};
     ghost use Rattle.hibitset_atomic.specs.Worlds.{old_of, past_of, items_of, is_written, refusal_of, AnswersTo, Outcome, IsResting, WholePathStands};
 
     /// A world of this set, in which nothing has happened: the set's members are the old indices, no call has begun,
     /// and no walk.
     ///
-    /// It takes no memory. From `alloc` comes what the world keeps of its past, its calls and its walks.
+    /// It does not allocate. From `alloc` comes what the world keeps of its past, its calls and its walks.
     pub fn new(alloc: Global, set: AtomicBitSet) -> World
         ensures old { old_of result ≡ has set }
         ensures past { past_of result ≡ [] }
@@ -83,13 +83,13 @@ impl World {
 
     /// One event happens and is answered, or it is refused. One that happens comes to the past, and the old set stays.
     ///
-    /// - `Begin` touches no word and answers `Begun`. It is refused as `Used` where a call has the number, then as
+    /// - `Begin` touches no word and returns `Begun`. It is refused as `Used` where a call has the number, then as
     ///   `Range` where the index is not below `ATOMIC_MAX_EID`.
     /// - `Step` sets the bit of the call's next layer, from the lowest up. The first answers `First`, which tells
     ///   whether the index was old or written before, and the next three answer `Path` with the number of layers that
     ///   the call has still to pass. It is refused as `Unknown` where no call has the number, and as `Ended` where the
     ///   call has passed all four layers.
-    /// - `Open` reads no word and answers `Opened`. It is refused as `Used` where a walk has the number.
+    /// - `Open` reads no word and returns `Opened`. It is refused as `Used` where a walk has the number.
     /// - `Read` reads one word: first that of layer 3, then always the one under the first bit in the lowest layer,
     ///   among the bits above layer 0 that the walk has read and not gone under. The bits of a word of layer 0 become
     ///   items. It answers `Word` with the word, and whether no bit is left to go under. It is refused as `Unknown`
@@ -102,12 +102,12 @@ impl World {
         ensures accepted { OnOk result (refusal_of self.old event ≡ None) }
         ensures answer { IfOk result (λ reply. AnswersTo self.old event reply) }
         ensures unchanged { OnErr result (past_of self.new ≡ past_of self.old) }
-        ensures refused { IfErr result (λ error. refusal_of self.old event ≡ reason error) }
+        ensures err { IfErr result (λ error. refusal_of self.old event ≡ reason error) }
         ensures old { old_of self.new ≡ old_of self.old }
     {
         match event {
             Event::Begin { call, id } => self.begin(call, id),
-            Event::Step { call } => self.step(call),
+            Event::Step { call } => self.apply_step(call),
             Event::Open { walk } => self.open(walk),
             Event::Read { walk } => self.read(walk),
         }
@@ -139,7 +139,7 @@ impl World {
     }
 
     // A call passes its next layer.
-    fn step(&mut self, number: u32) -> Result<Reply, StepError>
+    fn apply_step(&mut self, number: u32) -> Result<Reply, StepError>
         ensures outcome { Outcome self.old self.new (Event.Step number) result }
         ensures old { old_of self.new ≡ old_of self.old }
     {
@@ -211,14 +211,14 @@ impl World {
         Ok(Reply::Word { word, ended })
     }
 
-    /// The items of a walk so far, ascending, and none where no walk has the number. It takes no memory.
+    /// The items of a walk so far, ascending, and none where no walk has the number. It does not allocate.
     pub fn items(&self, walk: u32) -> Option<&[Index]>
         ensures { option_copied result ≡ items_of self.now walk }
     {
         self.walks.items(walk)
     }
 
-    /// Tells whether every call that began has ended, by its fourth step. It takes no memory.
+    /// Returns whether every call that began has ended, by its fourth step. It does not allocate.
     pub fn is_at_rest(&self) -> bool
         ensures { IsTrue result ↔ IsResting self.now }
     {
@@ -228,29 +228,29 @@ impl World {
     /// Takes the set out of a world at rest: its members are the old indices and those that were written, and its
     /// summaries are exact.
     ///
-    /// It takes no memory. `is_at_rest` is the test for the condition.
+    /// It does not allocate. `is_at_rest` is the test for the condition.
     pub fn settle(self) -> AtomicBitSet
         requires { IsResting self }
         ensures members { (i : ℕ) → has result i ≡ (old_of self i || is_written self i) }
-        ensures exact { IsSummed ATOMIC_LAYERS (word_of result) }
+        ensures exact { SummariesExactEverywhere ATOMIC_LAYERS (word_of result) }
     {
         AtomicBitSet::from_layers(self.layers)
     }
 
-    // Tells whether the bit of a layer over an index stands.
+    // Returns whether the bit of a layer over an index is set.
     fn bit(&self, id: Index, layer: usize) -> bool
         requires id { id < ATOMIC_MAX_EID }
         requires layer { layer < ATOMIC_LAYERS }
-        ensures { result ≡ lit (layer_word self.now.layers) layer (id / 64 ^ layer) }
+        ensures { result ≡ layer_bit (layer_word self.now.layers) layer (id / 64 ^ layer) }
     {
         let (place, bit) = bit_over(id, layer);
         (self.layers.word(layer, place) >> bit) & 1 == 1
     }
 
-    /// Tells whether the whole path of an index stands: in each of the four layers the bit that `path` tells. So it is
-    /// after each addition of the index has ended, and it may be before that, by other calls.
+    /// Returns whether the whole path of an index is set: in each of the four layers the bit that `path` tells. So it
+    /// is after each addition of the index has ended, and it may be before that, by other calls.
     ///
-    /// The index is below `ATOMIC_MAX_EID`. It is no event, and takes no memory.
+    /// The index is below `ATOMIC_MAX_EID`. It is no event, and does not allocate.
     pub fn stands(&self, id: Index) -> bool
         requires { id < ATOMIC_MAX_EID }
         ensures { IsTrue result ↔ WholePathStands self.now id }

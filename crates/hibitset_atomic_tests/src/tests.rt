@@ -1,8 +1,8 @@
 //! Values from outside: worked rows, and each public call at least once.
 ghost use Rattle.std.specs.Prelude.{◌≡◌, ◌<◌};
-ghost use Rattle.hibitset_atomic.specs.Seats.{Came, weight_of};
+ghost use Rattle.hibitset_atomic.specs.Seats.{BelongsTo, weight_of};
 ghost use Rattle.hibitset_atomic.specs.declared.atomic.TheConstants.{ATOMIC_MAX_EID};
-ghost use Rattle.hibitset_atomic.specs.declared.shared.sizes.TheConstants.{SHARES};
+ghost use Rattle.hibitset_atomic.specs.declared.shared.layout.TheConstants.{SHARES};
 
 mod again;
 mod building;
@@ -78,7 +78,7 @@ fn assert_count(rt: &impl Abort, found: usize, wanted: usize) {
 
 // A set that many may add to, and its opening seat.
 fn shared(rt: &impl Abort, set: AtomicBitSet) -> (SharedBitSet, Seat)
-    ensures { Came result.0 result.1 × (weight_of result.1 ≡ SHARES) }
+    ensures { BelongsTo result.0 result.1 × (weight_of result.1 ≡ SHARES) }
 {
     let Ok(shared) = set.share() else {
         panic!(rt; "no memory")
@@ -88,7 +88,7 @@ fn shared(rt: &impl Abort, set: AtomicBitSet) -> (SharedBitSet, Seat)
 
 // The set held alone again.
 fn settled(rt: &impl Abort, set: SharedBitSet, seat: Seat) -> AtomicBitSet
-    requires { Came set seat }
+    requires { BelongsTo set seat }
 {
     let Ok(set) = set.settle(seat) else {
         panic!(rt; "no memory")
@@ -98,8 +98,8 @@ fn settled(rt: &impl Abort, set: SharedBitSet, seat: Seat) -> AtomicBitSet
 
 // Adds an index, which is to be new.
 fn assert_new(rt: &impl Abort, set: &SharedBitSet, seat: &mut Seat, id: Index)
-    requires { Came set.now seat.old × (id < ATOMIC_MAX_EID) }
-    ensures { Came set.now seat.new × (weight_of seat.new ≡ weight_of seat.old) }
+    requires { BelongsTo set.now seat.old × (id < ATOMIC_MAX_EID) }
+    ensures { BelongsTo set.now seat.new × (weight_of seat.new ≡ weight_of seat.old) }
 {
     assert!(rt; !set.add_atomic(seat, id));
 }

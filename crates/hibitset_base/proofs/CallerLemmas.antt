@@ -10,8 +10,8 @@ use Rattle.std.proofs.lemmas.Bool.Decides.{nat_tests}
 use Rattle.std.proofs.lemmas.List.Elements.{All-nil, All-rest, All-weaker, All-contains_itself, Contains-append_right, Contains-get_or}
 use Rattle.hibitset_base.specs.First.{IsFirst, HasNone}
 use Rattle.hibitset_base.specs.Members.{members, members_below}
-use Rattle.hibitset_base.proofs.Members.{members-first, true_or_false}
-use Rattle.hibitset_base.proofs.Firsts.{first_in, none_in, first_below, none_below}
+use Rattle.hibitset_base.proofs.MemberLemmas.{members-first, true_or_false}
+use Rattle.hibitset_base.proofs.FirstLemmas.{first_in, none_in, first_below, none_below}
 
 not_before : (start i : ℕ) (b : Bool) → (start ≤ i → b ≡ false) → (nat_le start i && b) ≡ false
 not_before start i b clear = grind (arith, nat_tests)

@@ -5,14 +5,14 @@ use Rattle.std.proofs.lemmas.Bool.{cases_lt}
 use Rattle.std.proofs.lemmas.List.{append-nil, reverse-append}
 use Rattle.hibitset_base.specs.First.{IsLast, HasNone}
 use Rattle.hibitset_base.specs.Members.{members, members_below}
-use Rattle.hibitset_base.specs.Sets.{IsExact}
+use Rattle.hibitset_base.specs.Sets.{SummariesExact}
 use Rattle.hibitset_base.specs.Places.{Place, items_of}
 use Rattle.hibitset_base.specs.Ranks.{start_over}
-use Rattle.hibitset_base.specs.Reading.{AllStand, depth}
+use Rattle.hibitset_base.specs.WordsRead.{AllAreSet, depth}
 use Rattle.hibitset_base.specs.RevPlaces.{GoesBack}
-use Rattle.hibitset_base.proofs.Firsts.{none_in}
-use Rattle.hibitset_base.proofs.Layers.{one_member}
-use Rattle.hibitset_base.proofs.Members.{members-none, members-append, true_or_false}
+use Rattle.hibitset_base.proofs.FirstLemmas.{none_in}
+use Rattle.hibitset_base.proofs.LayerLemmas.{one_member}
+use Rattle.hibitset_base.proofs.MemberLemmas.{members-none, members-append, true_or_false}
 use Rattle.hibitset_base.proofs.RankLemmas.{start_here, none_start}
 use Rattle.hibitset_base.proofs.RevWalkLemmas.{last_item}
 
@@ -79,15 +79,15 @@ module _ (n : ℕ) (p : ℕ → Bool) (w : ℕ → ℕ → ℕ) (reads later : �
   last_given (Some x) end goes items is = (items_of p qs, sym is ∙ (sym goes.items ∙ last_item p qs x))
 
   -- over exact summaries each read leads one layer down
-  pub few_down : (r : Option ℕ) → Steps r → IsExact n w → AllStand w ps → later ≤ reads + depth (reverse ps)
+  pub few_down : (r : Option ℕ) → Steps r → SummariesExact n w → AllAreSet w ps → later ≤ reads + depth (reverse ps)
   few_down None goes exact drawn = let h = goes.few exact drawn in omega (arith, h)
   few_down (Some x) goes exact drawn = let h = goes.few exact drawn in omega (arith, h)
 
   -- and none is read in vain
-  pub none_read : (r : Option ℕ) → r ≡ None → qs ≡ [] → Steps r → IsExact n w → AllStand w ps → later ≤ reads
+  pub none_read : (r : Option ℕ) → r ≡ None → qs ≡ [] → Steps r → SummariesExact n w → AllAreSet w ps → later ≤ reads
   none_read None none end goes exact drawn = nothing ps goes drawn
     where
-      nothing : (xs : List Place) → GoesBack n p w reads xs later qs → AllStand w xs → later ≤ reads
+      nothing : (xs : List Place) → GoesBack n p w reads xs later qs → AllAreSet w xs → later ≤ reads
       nothing [] goes drawn = let h = goes.few exact drawn in omega (arith, h)
       nothing (x ∷ xs) goes drawn = absurd (goes.some exact drawn (cons_is_some x xs) end)
   none_read (Some x) none end goes exact drawn = absurd (cc)

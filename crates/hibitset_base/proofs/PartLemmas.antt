@@ -10,12 +10,12 @@ use Rattle.hibitset_base.specs.Members.{members}
 use Rattle.hibitset_base.specs.Sets.{IsLawful}
 use Rattle.hibitset_base.specs.Places.{places_in, bits_from, items_under, items_of}
 use Rattle.hibitset_base.specs.Ranks.{HasHead, HasPart}
-use Rattle.hibitset_base.specs.Reading.{Stands, AllStand}
-use Rattle.hibitset_base.proofs.Members.{members-none, members-same, members-append, members-blocks}
-use Rattle.hibitset_base.proofs.Left.{eq_none}
-use Rattle.hibitset_base.proofs.Layers.{block_here}
-use Rattle.hibitset_base.proofs.Cutting.{CutsAt}
-use Rattle.hibitset_base.proofs.Descending.{one_of, all-members}
+use Rattle.hibitset_base.specs.WordsRead.{BitIsSet, AllAreSet}
+use Rattle.hibitset_base.proofs.MemberLemmas.{members-none, members-same, members-append, members-blocks}
+use Rattle.hibitset_base.proofs.PlaceLemmas.{eq_none}
+use Rattle.hibitset_base.proofs.LayerLemmas.{block_here}
+use Rattle.hibitset_base.proofs.CutLemmas.{CutsAt}
+use Rattle.hibitset_base.proofs.DescentLemmas.{one_of, all-members}
 
 -- with the ones from bit a on before bit b a word keeps its part there
 pub has_part : (m a b : ℕ) → a ≤ b → b ≤ 64 → HasPart m a b (bit_and m (2 ^ b - 2 ^ a))
@@ -76,10 +76,10 @@ items_of_head n p w lawful l k q c head layers within has =
     let count : c - 0 ≡ c = omega arith in
     items_of_part n p w lawful l k q 0 c head layers within (part_of_head (w l q) c head has) ∙ ap₂ (λ x y. members p (x * 64 ^ l) (y * 64 ^ l)) first count
 
--- the bits of a head stand in the set's own word
-pub drawn_head : (w : ℕ → ℕ → ℕ) (l q c head : ℕ) → HasHead (w l q) c head → AllStand w (places_in l (bits_from (64 * q) head))
+-- the bits of a head are set in the set's own word
+pub drawn_head : (w : ℕ → ℕ → ℕ) (l q c head : ℕ) → HasHead (w l q) c head → AllAreSet w (places_in l (bits_from (64 * q) head))
 drawn_head w l q c head has =
-    all-members (Stands w) l (λ i. bit_at head (i - 64 * q) == 1) (64 * q) 64
+    all-members (BitIsSet w) l (λ i. bit_at head (i - 64 * q) == 1) (64 * q) 64
     (λ i from below stands.
     let place : i / 64 ≡ q = omega arith in
     let bit : i % 64 ≡ i - 64 * q = omega arith in

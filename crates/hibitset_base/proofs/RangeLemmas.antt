@@ -6,7 +6,7 @@ use Rattle.std.proofs.lemmas.List.{append-nil}
 use Rattle.hibitset_base.specs.Members.{members, members_below}
 use Rattle.hibitset_base.specs.Ranges.{in_range, range_low, range_high, range_inside}
 use Rattle.hibitset_base.specs.Ranks.{IsNth}
-use Rattle.hibitset_base.proofs.Members.{members-none, members-same, members-append, true_or_false}
+use Rattle.hibitset_base.proofs.MemberLemmas.{members-none, members-same, members-append, true_or_false}
 
 and_false : (a b : Bool) → b ≡ false → (a && b) ≡ false
 and_false true b e = e

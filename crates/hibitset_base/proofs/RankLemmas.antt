@@ -8,13 +8,13 @@ use Rattle.std.proofs.lemmas.Nat.{pow-add}
 use Rattle.hibitset_base.specs.Members.{members, members_below}
 use Rattle.hibitset_base.specs.Sets.{IsLawful}
 use Rattle.hibitset_base.specs.Places.{places_in, bits_from, items_under, items_of}
-use Rattle.hibitset_base.specs.From.{bit_over}
+use Rattle.hibitset_base.specs.WalkFrom.{bit_over}
 use Rattle.hibitset_base.specs.Ranks.{HasHead, start_over}
-use Rattle.hibitset_base.proofs.Members.{members-none, members-append}
-use Rattle.hibitset_base.proofs.Firsts.{none_in}
-use Rattle.hibitset_base.proofs.Left.{eq_none}
-use Rattle.hibitset_base.proofs.Layers.{block_here}
-use Rattle.hibitset_base.proofs.Beginning.{over, word_within}
+use Rattle.hibitset_base.proofs.MemberLemmas.{members-none, members-append}
+use Rattle.hibitset_base.proofs.FirstLemmas.{none_in}
+use Rattle.hibitset_base.proofs.PlaceLemmas.{eq_none}
+use Rattle.hibitset_base.proofs.LayerLemmas.{block_here}
+use Rattle.hibitset_base.proofs.WalkFromLemmas.{over, word_within}
 use Rattle.hibitset_base.proofs.PartLemmas.{items_of_head}
 
 -- a place over an index lies in its layer

@@ -12,9 +12,9 @@ use Rattle.hibitset_base.specs.Places.{places_in, bits_from, items_of}
 use Rattle.hibitset_base.specs.Ranks.{AreCounts, CountsBefore, block_size}
 use Rattle.hibitset_base.specs.Sets.{IsLawful}
 use Rattle.hibitset_base.specs.declared.util.TheConstants.{LAYERS, MAX_EID}
-use Rattle.hibitset_base.proofs.Descending.{items_after}
-use Rattle.hibitset_base.proofs.Lists.{get_or_any}
-use Rattle.hibitset_base.proofs.Members.{members-append, members-length, members-none}
+use Rattle.hibitset_base.proofs.DescentLemmas.{items_after}
+use Rattle.hibitset_base.proofs.ListLemmas.{get_or_any}
+use Rattle.hibitset_base.proofs.MemberLemmas.{members-append, members-length, members-none}
 use Rattle.hibitset_base.proofs.RankLemmas.{in_front, in_rest}
 
 -- the list of all, cut at an index

@@ -3,11 +3,11 @@ use Rattle.std.proofs.Common.{◌≡◌, ◌≢◌, ℕ, zero, suc, ◌+◌, ◌
 use Rattle.std.proofs.lemmas.Bool.{cases_lt}
 use Rattle.std.proofs.lemmas.Bool.Decides.{nat_tests}
 use Rattle.hibitset_base.specs.Connectives.{is_member}
-use Rattle.hibitset_base.specs.Deciding.{same_or_not}
+use Rattle.hibitset_base.specs.Decisions.{same_or_not}
 use Rattle.hibitset_base.specs.Members.{members, members_below}
 use Rattle.hibitset_base.specs.declared.util.TheConstants.{MAX_EID}
-use Rattle.hibitset_base.proofs.Members.{true_or_false}
-use Rattle.hibitset_base.proofs.Firsts.{first_in, none_in}
+use Rattle.hibitset_base.proofs.MemberLemmas.{true_or_false}
+use Rattle.hibitset_base.proofs.FirstLemmas.{first_in, none_in}
 
 -- what is left after the first of some members
 rest_after : (p : ℕ → Bool) (a n x : ℕ) (rest : List ℕ) → members p a n ≡ x ∷ rest → rest ≡ members p (suc x) (a + n - suc x)

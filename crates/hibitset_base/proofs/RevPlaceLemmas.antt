@@ -1,10 +1,10 @@
 -- The places that a walk down has left: the last one taken, and those of a word put behind.
 use Rattle.std.proofs.Common.{◌≡◌, ◌≢◌, ℕ, zero, suc, ◌+◌, ◌<◌, List, [], ◌∷◌, ◌++◌, refl, sym, ◌∙◌, ap, ap₂, arith, append_assoc, inl, inr}
 use Rattle.std.proofs.lemmas.List.{append-nil, map-append}
-use Rattle.hibitset_base.specs.Deciding.{same_or_not}
+use Rattle.hibitset_base.specs.Decisions.{same_or_not}
 use Rattle.hibitset_base.specs.Places.{Place, places_in, bits_from}
 use Rattle.hibitset_base.specs.RevPlaces.{rev_places}
-use Rattle.hibitset_base.proofs.Left.{bits-none}
+use Rattle.hibitset_base.proofs.PlaceLemmas.{bits-none}
 
 -- no bit is left
 pub rev-none : (m s : ℕ → ℕ) (n : ℕ) → ((j : ℕ) → j < n → m j ≡ 0) → rev_places m s n ≡ []

@@ -11,19 +11,19 @@ use Rattle.std.proofs.lemmas.List.Elements.{All-append, All-pop}
 use Rattle.std.proofs.lemmas.Nat.Bits.{bit_at-lt}
 use mathlib.Core.List.{reverse_aux, reverse_aux-append}
 use Rattle.hibitset_base.specs.Members.{members, members_below}
-use Rattle.hibitset_base.specs.Sets.{IsLawful, IsExact}
+use Rattle.hibitset_base.specs.Sets.{IsLawful, SummariesExact}
 use Rattle.hibitset_base.specs.Places.{Place, places_in, bits_from, items_under, items_of}
-use Rattle.hibitset_base.specs.Reading.{words_under, words_of, Stands, AllStand, depth}
+use Rattle.hibitset_base.specs.WordsRead.{words_under, words_of, BitIsSet, AllAreSet, depth}
 use Rattle.hibitset_base.specs.RevPlaces.{rev_places, GoesBack}
 use Rattle.hibitset_base.specs.RevCursor.{rev_left}
-use Rattle.hibitset_base.specs.RevWalk.{rev_set_of, rev_items_left, RevKeepsOn, RevWalkSteps}
+use Rattle.hibitset_base.specs.RevWalk.{rev_set_of, rev_items_left, RevStepKeeps, RevWalkSteps}
 use Rattle.hibitset_base.specs.declared.rev_iter.BitRevIter.{BitRevIter}
 use Rattle.hibitset_base.specs.declared.util.TheConstants.{LAYERS}
-use Rattle.hibitset_base.proofs.Descending.{drawn_from_word, fewer_after}
-use Rattle.hibitset_base.proofs.Layers.{one_member, read_word}
-use Rattle.hibitset_base.proofs.Left.{eq_one, eq_none, bits-first}
-use Rattle.hibitset_base.proofs.Masks.{takes_first}
-use Rattle.hibitset_base.proofs.Members.{members-none, members-same, members-append, members-length}
+use Rattle.hibitset_base.proofs.DescentLemmas.{drawn_from_word, fewer_after}
+use Rattle.hibitset_base.proofs.LayerLemmas.{one_member, read_word}
+use Rattle.hibitset_base.proofs.PlaceLemmas.{eq_one, eq_none, bits-first}
+use Rattle.hibitset_base.proofs.MaskLemmas.{takes_first}
+use Rattle.hibitset_base.proofs.MemberLemmas.{members-none, members-same, members-append, members-length}
 
 one_alone : (t : Bool) (x : ℕ) → t ≡ true → cond t (x ∷ []) [] ≡ x ∷ []
 one_alone t x e = rw e refl
@@ -157,7 +157,7 @@ module _ (n : ℕ) (p : ℕ → Bool) (w : ℕ → ℕ → ℕ) (lawful : IsLawf
       let same = ap (λ ys. length (words_of w ys)) (append-nil under) in
       omega (arith, a, b, la, lb, more, same)
 
-  some_bit : IsExact n w → Stands w place → 0 < w l q
+  some_bit : SummariesExact n w → BitIsSet w place → 0 < w l q
   some_bit exact stands =
       let k : ℕ = n - 2 - l in
       let k-is : n - (l + 1) ≡ suc k = omega arith in
@@ -170,7 +170,7 @@ module _ (n : ℕ) (p : ℕ → Bool) (w : ℕ → ℕ → ℕ) (lawful : IsLawf
       let whole : 64 * (q / 64) + q % 64 ≡ q = omega arith in
       rw whole at some
 
-  -- the bits of a word that is not 0
+  -- the bits of a nonzero word
   some_place : 0 < w l q → (first : ℕ) × (more : List ℕ) × (bits_from (64 * q) (w l q) ≡ first ∷ more)
   some_place some = (_, _, bits-first (64 * q) (w l q) (trailing_zeros w64 (w l q)) _ (takes_first (w l q) some fits))
 
@@ -178,14 +178,14 @@ module _ (n : ℕ) (p : ℕ → Bool) (w : ℕ → ℕ → ℕ) (lawful : IsLawf
   goes_down_back r = record {
     items = same_items;
     count = one_word r;
-    drawn = λ drawn. All-append (Stands w) rest under (All-pop (Stands w) (rest ++ (place ∷ [])) rest (Some place) refl drawn).0 (drawn_from_word w l q);
+    drawn = λ drawn. All-append (BitIsSet w) rest under (All-pop (BitIsSet w) (rest ++ (place ∷ [])) rest (Some place) refl drawn).0 (drawn_from_word w l q);
     few = λ exact drawn.
-        let there = some_place (some_bit exact (All-pop (Stands w) (rest ++ (place ∷ [])) rest (Some place) refl drawn).1) in
+        let there = some_place (some_bit exact (All-pop (BitIsSet w) (rest ++ (place ∷ [])) rest (Some place) refl drawn).1) in
         let new : depth (reverse (rest ++ under)) ≡ l = ap (λ ys. depth (reverse (rest ++ places_in l ys))) there.2 ∙ depth_behind rest l there.0 there.1 in
         let old = depth_last rest place in
         omega (arith, new, old);
     some = λ exact drawn _ none.
-        let there = some_place (some_bit exact (All-pop (Stands w) (rest ++ (place ∷ [])) rest (Some place) refl drawn).1) in
+        let there = some_place (some_bit exact (All-pop (BitIsSet w) (rest ++ (place ∷ [])) rest (Some place) refl drawn).1) in
         some_behind rest (record { layer = l; position = there.0 }) (places_in l there.1) (ap (λ ys. rest ++ places_in l ys) (sym there.2) ∙ none);
   }
 
@@ -199,7 +199,7 @@ last_words w rest i = flat_map-append (λ x. words_under w x.layer x.position) r
 -- What a step shows of its cursor is what the walk's users see.
 module _ {T : Type 0} (holds : T → ℕ → Bool) (word : T → ℕ → ℕ → ℕ) (old new : BitRevIter T) (set : new.set ≡ old.set) where
   keeps_back : {qs : List Place} → GoesBack LAYERS (holds old.set) (word old.set) old.reads.count (rev_left old.cursor) new.reads.count qs
-      → words_of (word old.set) qs ≡ words_of (word old.set) (rev_left new.cursor) → (AllStand (word old.set) qs → AllStand (word old.set) (rev_left new.cursor)) → RevKeepsOn word old new
+      → words_of (word old.set) qs ≡ words_of (word old.set) (rev_left new.cursor) → (AllAreSet (word old.set) qs → AllAreSet (word old.set) (rev_left new.cursor)) → RevStepKeeps word old new
   unfolding rev_set_of
   keeps_back goes same drawn = record {
     set = set;
@@ -221,7 +221,7 @@ module _ {T : Type 0} (holds : T → ℕ → Bool) (word : T → ℕ → ℕ →
       let last = last_item (holds old.set) (rev_left new.cursor) i in
       let turned : reverse (items_of (holds old.set) (rev_left old.cursor)) ≡ i ∷ reverse (items_of (holds old.set) (rev_left new.cursor)) =
       ap reverse (sym goes.items ∙ last) ∙ reverse-append (items_of (holds old.set) (rev_left new.cursor)) (i ∷ []) in
-      (turned ∙ ap (λ s. i ∷ reverse (items_of (holds s) (rev_left new.cursor))) (sym set), keeps_back goes (last_words (word old.set) (rev_left new.cursor) i) (λ h. (All-pop (Stands (word old.set)) _ (rev_left new.cursor) (Some (record { layer = 0; position = i })) refl h).0))
+      (turned ∙ ap (λ s. i ∷ reverse (items_of (holds s) (rev_left new.cursor))) (sym set), keeps_back goes (last_words (word old.set) (rev_left new.cursor) i) (λ h. (All-pop (BitIsSet (word old.set)) _ (rev_left new.cursor) (Some (record { layer = 0; position = i })) refl h).0))
 
 -- each run of such a walk gives what was left, in order
 pub back_runs : {T : Type 0} (holds : T → ℕ → Bool) (word : T → ℕ → ℕ → ℕ) → YieldsInOrder (RevWalkSteps holds word) (rev_items_left holds)

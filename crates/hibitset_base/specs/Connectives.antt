@@ -24,8 +24,8 @@ abbrev pub IsDifference : (ℕ → Bool) → (ℕ → Bool) → (ℕ → Bool) �
 IsDifference set other result = (i : ℕ) → result i ≡ (set i && not (other i))
 
 -- the result has exactly the numbers that are in one of the two alone
-abbrev pub IsExclusive : (ℕ → Bool) → (ℕ → Bool) → (ℕ → Bool) → Type 0
-IsExclusive set other result = (i : ℕ) → result i ≡ differ (set i) (other i)
+abbrev pub IsSymmetricDifference : (ℕ → Bool) → (ℕ → Bool) → (ℕ → Bool) → Type 0
+IsSymmetricDifference set other result = (i : ℕ) → result i ≡ differ (set i) (other i)
 
 -- the two have no number below the bound in common
 abbrev pub AreDisjoint : ℕ → (ℕ → Bool) → (ℕ → Bool) → Type 0

@@ -58,7 +58,7 @@ run_order from to p some = elim (cases_lt (min (from - 64 * p) 64) (min (to - 64
       omega (arith, h, some))
 ]
 
--- the bit over a word that is not 0
+-- the bit over a nonzero word
 over_range : (start end l p : ℕ) → 0 < range_word start end l p → bit_at (range_word start end (l + 1) (p / 64)) (p % 64) ≡ 1
 over_range start end l p some =
     let z : ℕ = 64 ^ l in

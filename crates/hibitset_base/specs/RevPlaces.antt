@@ -1,8 +1,8 @@
 -- Where a walk down stands: the places that it has still to visit, the next one last.
 use Rattle.std.specs.Prelude.{◌≡◌, ◌≢◌, ℕ, zero, suc, ◌+◌, ◌-◌, ◌%◌, ◌^◌, ◌<◌, ◌≤◌, Bool, List, [], ◌++◌, length, get_or, reverse}
-use Rattle.hibitset_base.specs.Sets.{IsExact}
+use Rattle.hibitset_base.specs.Sets.{SummariesExact}
 use Rattle.hibitset_base.specs.Places.{Place, places_in, bits_from, items_of}
-use Rattle.hibitset_base.specs.Reading.{words_of, AllStand, depth}
+use Rattle.hibitset_base.specs.WordsRead.{words_of, AllAreSet, depth}
 
 -- What masks leave to a walk down, those of the layers below n: the bits of each mask, where the first is at the
 -- layer's start. A higher layer comes first.
@@ -19,6 +19,6 @@ AreAligned n starts = (l : ℕ) → l < n → (get_or starts l 0 % 64 ≡ 0) × 
 pub record GoesBack (n : ℕ) (holds : ℕ → Bool) (word : ℕ → ℕ → ℕ) (reads : ℕ) (ps : List Place) (later : ℕ) (qs : List Place) : Type 0 where
   pub items : items_of holds qs ≡ items_of holds ps
   pub count : later + length (words_of word qs) ≡ reads + length (words_of word ps)
-  pub drawn : AllStand word ps → AllStand word qs
-  pub few : IsExact n word → AllStand word ps → later + depth (reverse qs) ≤ reads + depth (reverse ps)
-  pub some : IsExact n word → AllStand word ps → ps ≢ [] → qs ≢ []
+  pub drawn : AllAreSet word ps → AllAreSet word qs
+  pub few : SummariesExact n word → AllAreSet word ps → later + depth (reverse qs) ≤ reads + depth (reverse ps)
+  pub some : SummariesExact n word → AllAreSet word ps → ps ≢ [] → qs ≢ []

@@ -1,9 +1,9 @@
 -- What a contract sees of a walk from the last member down.
 use Rattle.std.specs.Prelude.{◌≡◌, ℕ, ◌+◌, ◌-◌, ◌≤◌, Bool, List, length, reverse, Option}
 use Rattle.std.specs.Iterator.{YieldsFirst}
-use Rattle.hibitset_base.specs.Sets.{IsExact}
+use Rattle.hibitset_base.specs.Sets.{SummariesExact}
 use Rattle.hibitset_base.specs.Places.{Place, items_of}
-use Rattle.hibitset_base.specs.Reading.{words_of, AllStand}
+use Rattle.hibitset_base.specs.WordsRead.{words_of, AllAreSet}
 use Rattle.hibitset_base.specs.RevCursor.{rev_left}
 use Rattle.hibitset_base.specs.declared.rev_iter.BitRevIter.{BitRevIter}
 use Rattle.hibitset_base.specs.declared.util.TheConstants.{LAYERS}
@@ -26,17 +26,17 @@ module _ {T : Type 0} where
   rev_words_ahead word walk = words_of (word walk.set) (rev_left walk.cursor)
 
   -- the bits that the walk has left stand in its set's own words
-  abbrev pub IsRevDrawn : (T → ℕ → ℕ → ℕ) → BitRevIter T → Type 0
-  IsRevDrawn word walk = AllStand (word walk.set) (rev_left walk.cursor)
+  abbrev pub RevBitsAreFromSet : (T → ℕ → ℕ → ℕ) → BitRevIter T → Type 0
+  RevBitsAreFromSet word walk = AllAreSet (word walk.set) (rev_left walk.cursor)
 
   -- What a walk down keeps at each step: its set, how many words it reads in all, that it is drawn, and over exact
   -- summaries few reads.
-  pub record RevKeepsOn (word : T → ℕ → ℕ → ℕ) (old new : BitRevIter T) : Type 0 where
+  pub record RevStepKeeps (word : T → ℕ → ℕ → ℕ) (old new : BitRevIter T) : Type 0 where
     pub set : rev_set_of new ≡ rev_set_of old
     pub count : rev_words_read new + length (rev_words_ahead word new) ≡ rev_words_read old + length (rev_words_ahead word old)
-    pub drawn : IsRevDrawn word old → IsRevDrawn word new
-    pub few : IsExact LAYERS (word (rev_set_of old)) → IsRevDrawn word old → rev_words_read new ≤ rev_words_read old + (LAYERS - 1)
+    pub drawn : RevBitsAreFromSet word old → RevBitsAreFromSet word new
+    pub few : SummariesExact LAYERS (word (rev_set_of old)) → RevBitsAreFromSet word old → rev_words_read new ≤ rev_words_read old + (LAYERS - 1)
 
   -- a step gives the first item that is left
   abbrev pub RevWalkSteps : (T → ℕ → Bool) → (T → ℕ → ℕ → ℕ) → BitRevIter T → Option ℕ → BitRevIter T → Type 0
-  RevWalkSteps holds word old item new = YieldsFirst (rev_items_left holds) old item new × RevKeepsOn word old new
+  RevWalkSteps holds word old item new = YieldsFirst (rev_items_left holds) old item new × RevStepKeeps word old new

@@ -8,14 +8,14 @@ use Rattle.std.specs.Int.{bit_at}
 abbrev pub bit_of : Bool → ℕ
 bit_of b = cond b 1 0
 
--- Layer 0 has the set's bits, and over each word that is not 0, below the top layer, the bit in the layer above stands.
--- Bits over a word that is 0 are allowed.
+-- Layer 0 has the set's bits, and over each nonzero word, below the top layer, the bit in the layer above is set. Bits
+-- over a zero word are allowed.
 pub record IsLawful (n : ℕ) (holds : ℕ → Bool) (word : ℕ → ℕ → ℕ) : Type 0 where
   pub members : (p b : ℕ) → p < 64 ^ (n - 1) → b < 64 → bit_at (word 0 p) b ≡ bit_of (holds (64 * p + b))
   pub summaries : (l p : ℕ) → l + 1 < n → p < 64 ^ (n - 1 - l) → 0 < word l p → bit_at (word (l + 1) (p / 64)) (p % 64) ≡ 1
 
--- Summaries are exact: a bit above layer 0 stands over a word that is not 0, and over no other.
-pub record IsExact (n : ℕ) (word : ℕ → ℕ → ℕ) : Type 0 where
+-- Summaries are exact: a bit above layer 0 is set over a nonzero word, and over no other.
+pub record SummariesExact (n : ℕ) (word : ℕ → ℕ → ℕ) : Type 0 where
   pub exact : (l p b : ℕ) → l + 1 < n → p < 64 ^ (n - 2 - l) → b < 64 → (bit_at (word (l + 1) p) b ≡ 1) ↔ (0 < word l (64 * p + b))
 
 -- the two sets hold of the same numbers

@@ -66,7 +66,7 @@ bit_at_mod x j small =
     let low = bit_at-lt x j in
     ap (λ y. bit_at y j) (sym (and_mask x 64)) ∙ (masked ∙ rw one (omega arith))
 
--- the bit above stands where the one over either operand's word does
+-- the bit above is set where the one over either operand's word does
 or_above : (n : ℕ) {p q : ℕ → Bool} {v w : ℕ → ℕ → ℕ} → IsLawful n p v → IsLawful n q w → (l i : ℕ) → l + 1 < n → i < 64 ^ (n - 1 - l) → (0 < v l i) ⊎ (0 < w l i)
     → bit_at (bit_or (v (l + 1) (i / 64)) (w (l + 1) (i / 64))) (i % 64) ≡ 1
 or_above n {p} {q} {v} {w} a b l i below within some =

@@ -6,13 +6,13 @@ use Rattle.std.specs.Int.{bit_at}
 abbrev pub word_at : List (List ℕ) → ℕ → ℕ → ℕ
 word_at layers l p = get_or (get_or layers l []) p 0
 
--- the bit of a number stands in layer 0
+-- the bit of a number is set in layer 0
 abbrev pub holds_at : (ℕ → ℕ → ℕ) → ℕ → Bool
 holds_at word i = bit_at (word 0 (i / 64)) (i % 64) == 1
 
--- A bit above layer 0 stands over a word that is not 0, and over no other. With words that are 0 past their layer's end
--- this may be said of every position.
-pub record IsSummed (n : ℕ) (word : ℕ → ℕ → ℕ) : Type 0 where
+-- A bit above layer 0 is set over a nonzero word, and over no other. With zero words past their layer's end this may be
+-- said of every position.
+pub record SummariesExactEverywhere (n : ℕ) (word : ℕ → ℕ → ℕ) : Type 0 where
   pub summed : (l p b : ℕ) → l + 1 < n → b < 64 → (bit_at (word (l + 1) p) b ≡ 1) ↔ (0 < word l (64 * p + b))
 
 -- The layers hold words, none is longer than it may be, and each covers the one below.

@@ -3,7 +3,7 @@ ghost use Rattle.std.specs.Prelude.{◌≡◌, ◌≢◌, ℕ, ◌<◌, ◌≤�
 ghost use Rattle.std.specs.Int.{bit_at};
 ghost use Rattle.hibitset_base.specs.Sets.{bit_of};
 
-/// Takes the lowest bit out of a word, and answers its number.
+/// Takes the lowest bit out of a word, and returns its number.
 #[inline]
 pub fn take_bit(word: &mut usize) -> usize
     requires { 0 < word.old }
@@ -29,7 +29,7 @@ pub fn last_bit(word: usize) -> usize
     63 - word.leading_zeros() as usize
 }
 
-/// Takes the highest bit out of a word, and answers its number.
+/// Takes the highest bit out of a word, and returns its number.
 #[inline]
 pub fn take_last_bit(word: &mut usize) -> usize
     requires { 0 < word.old }
@@ -60,7 +60,7 @@ pub fn with_bit(word: usize, bit: usize, stands: bool) -> usize
     }
 }
 
-/// Puts a word in the place of the word `before`, and tells whether one of them is 0 and the other not.
+/// Puts a word in the place of the word `before`, and returns whether one of them is 0 and the other not.
 #[inline]
 pub fn replace(words: &mut Vec<usize>, place: usize, before: usize, word: usize) -> bool
     requires place { place < length words.old.items }

@@ -1,7 +1,7 @@
 //! Sets made of the items of an iterator, or extended by them: one text for every set that keeps its words.
 ghost use Rattle.std.specs.Prelude.{◌≡◌, ℕ, ◌<◌, ◌≤◌, ◌==◌, ◌||◌, true, false, Some, OnOk, OnErr, IfOk, IfErr};
 ghost use Rattle.std.specs.Iterator.{IsFiniteIterable};
-ghost use Rattle.hibitset_base.specs.Building.{IsRefusalBelow, LiesApart, RefusesBelow, TakesAllBelow, StopsAtRefusedBelow, text_of};
+ghost use Rattle.hibitset_base.specs.Extension.{IsRefusalBelow, LiesApart, RefusesBelow, TakesAllBelow, StopsAtRefusedBelow, text_of};
 
 use crate::like::BitSetLike;
 use crate::util::Index;
@@ -37,42 +37,49 @@ impl Error for BuildError {}
 
 /// A set that indices below a bound are added to, one by one.
 #[doc(hidden)]
-pub trait Extendable: BitSetLike {
+pub trait FallibleInsert: BitSetLike {
     // The bound below which an index can be added.
     ghost RANGE: { ℕ };
 
     // A set lacks room for an index if to add it takes memory.
-    ghost lacks_room: { Self → ℕ → Type 0 };
+    ghost needs_allocation: { Self → ℕ → Type 0 };
 
     // The room for the one index is none for the other.
-    ghost lie_apart: { ℕ → ℕ → Type 0 };
+    ghost need_separate_room: { ℕ → ℕ → Type 0 };
 
     /// The bound below which an index can be added.
     const RANGE: usize;
 
-    /// Adds an index below the bound. Where memory is refused the members stay.
+    /// Adds an index below the bound. If an allocation fails, the members stay.
     fn add_index(&mut self, index: Index) -> Result<bool, AllocError>
         requires { index < RANGE }
-        ensures added { OnOk result ((i : ℕ) → Self.holds self.new i ≡ (Self.holds self.old i || i == index)) }
-        ensures refused { OnErr result ((i : ℕ) → Self.holds self.new i ≡ Self.holds self.old i) }
-        ensures lacking { OnErr result (lacks_room self.old index) }
-        ensures keeps { (j : ℕ) → lacks_room self.new j → lacks_room self.old j }
-        ensures most { OnOk result ((j : ℕ) → lacks_room self.old j → lie_apart index j → lacks_room self.new j) }
-        ensures stays { OnErr result ((j : ℕ) → lacks_room self.old j → lacks_room self.new j) };
+        ensures added { OnOk result ((i : ℕ)
+            → Self.holds self.new i ≡ (Self.holds self.old i || i == index)) }
+        ensures err { OnErr result ((i : ℕ) → Self.holds self.new i ≡ Self.holds self.old i) }
+        ensures lacking { OnErr result (needs_allocation self.old index) }
+        ensures keeps { (j : ℕ) → needs_allocation self.new j → needs_allocation self.old j }
+        ensures most { OnOk result ((j : ℕ) → needs_allocation self.old j
+            → need_separate_room index j → needs_allocation self.new j) }
+        ensures stays { OnErr result ((j : ℕ) → needs_allocation self.old j
+            → needs_allocation self.new j) };
 
     // Each member has room, and so has what does not lie apart from it.
-    ghost apart: { (s : Self) (i j : ℕ) → Self.holds s i ≡ true → lacks_room s j → lie_apart i j };
+    ghost apart: { (s : Self) (i j : ℕ) → Self.holds s i ≡ true → needs_allocation s j
+        → need_separate_room i j };
 }
 
 // Adds the item at `place`, if it is in range and there is memory for it.
 #[inline]
-fn add_item<T: Extendable>(set: &mut T, place: usize, index: Index) -> Result<(), BuildError>
+fn add_item<T: FallibleInsert>(set: &mut T, place: usize, index: Index) -> Result<(), BuildError>
     ensures added { OnOk result ((i : ℕ) → T.holds set.new i ≡ (T.holds set.old i || index == i)) }
     ensures in_range { OnOk result (index < T.RANGE) }
-    ensures refused { IfErr result (λ error. IsRefusalBelow T.RANGE (T.lacks_room set.new) error place index × ((i : ℕ) → T.holds set.new i ≡ T.holds set.old i)) }
-    ensures keeps { (j : ℕ) → T.lacks_room set.new j → T.lacks_room set.old j }
-    ensures most { OnOk result ((j : ℕ) → T.lacks_room set.old j → T.lie_apart index j → T.lacks_room set.new j) }
-    ensures stays { OnErr result ((j : ℕ) → T.lacks_room set.old j → T.lacks_room set.new j) }
+    ensures err { IfErr result (λ error. IsRefusalBelow T.RANGE (T.needs_allocation set.new)
+        error place index × ((i : ℕ) → T.holds set.new i ≡ T.holds set.old i)) }
+    ensures keeps { (j : ℕ) → T.needs_allocation set.new j → T.needs_allocation set.old j }
+    ensures most { OnOk result ((j : ℕ) → T.needs_allocation set.old j
+        → T.need_separate_room index j → T.needs_allocation set.new j) }
+    ensures stays { OnErr result ((j : ℕ) → T.needs_allocation set.old j
+        → T.needs_allocation set.new j) }
 {
     if index as usize >= T::RANGE {
         return Err(BuildError::OutOfRange { place, index });
@@ -85,15 +92,19 @@ fn add_item<T: Extendable>(set: &mut T, place: usize, index: Index) -> Result<()
 
 /// Adds the items of an iterator, up to the first that is refused.
 #[doc(hidden)]
-pub fn extend_indices<T: Extendable, U: IntoIterator<Item = Index>>(
+pub fn extend_indices<T: FallibleInsert, U: IntoIterator<Item = Index>>(
     set: &mut T,
     iter: U,
 ) -> Result<(), BuildError>
     requires { IsFiniteIterable U.into_iter_gives U.IntoIter.can_next U.IntoIter.remaining iter }
-    ensures all { OnOk result (TakesAllBelow T.RANGE U.into_iter_gives U.IntoIter.next_gives (λ i. i) iter (T.holds set.old) (T.holds set.new)) }
-    ensures stops { IfErr result (StopsAtRefusedBelow T.RANGE U.into_iter_gives U.IntoIter.next_gives (λ i. i) iter (T.holds set.old) (T.holds set.new) (T.lacks_room set.new)) }
-    ensures keeps { (j : ℕ) → T.lacks_room set.new j → T.lacks_room set.old j }
-    ensures most { (j : ℕ) → T.lacks_room set.old j → LiesApart T.lie_apart (T.holds set.new) j → T.lacks_room set.new j }
+    ensures all { OnOk result (TakesAllBelow T.RANGE U.into_iter_gives U.IntoIter.next_gives
+        (λ i. i) iter (T.holds set.old) (T.holds set.new)) }
+    ensures stops { IfErr result (StopsAtRefusedBelow T.RANGE U.into_iter_gives
+        U.IntoIter.next_gives (λ i. i) iter (T.holds set.old) (T.holds set.new)
+        (T.needs_allocation set.new)) }
+    ensures keeps { (j : ℕ) → T.needs_allocation set.new j → T.needs_allocation set.old j }
+    ensures most { (j : ℕ) → T.needs_allocation set.old j
+        → LiesApart T.need_separate_room (T.holds set.new) j → T.needs_allocation set.new j }
 {
     let mut place = 0usize;
     for index in iter {
@@ -105,15 +116,19 @@ pub fn extend_indices<T: Extendable, U: IntoIterator<Item = Index>>(
 
 /// Adds the items that an iterator gives by reference, as `extend_indices` does.
 #[doc(hidden)]
-pub fn extend_index_refs<'a, T: Extendable, U: IntoIterator<Item = &'a Index>>(
+pub fn extend_index_refs<'a, T: FallibleInsert, U: IntoIterator<Item = &'a Index>>(
     set: &mut T,
     iter: U,
 ) -> Result<(), BuildError>
     requires { IsFiniteIterable U.into_iter_gives U.IntoIter.can_next U.IntoIter.remaining iter }
-    ensures all { OnOk result (TakesAllBelow T.RANGE U.into_iter_gives U.IntoIter.next_gives (λ i. i.now) iter (T.holds set.old) (T.holds set.new)) }
-    ensures stops { IfErr result (StopsAtRefusedBelow T.RANGE U.into_iter_gives U.IntoIter.next_gives (λ i. i.now) iter (T.holds set.old) (T.holds set.new) (T.lacks_room set.new)) }
-    ensures keeps { (j : ℕ) → T.lacks_room set.new j → T.lacks_room set.old j }
-    ensures most { (j : ℕ) → T.lacks_room set.old j → LiesApart T.lie_apart (T.holds set.new) j → T.lacks_room set.new j }
+    ensures all { OnOk result (TakesAllBelow T.RANGE U.into_iter_gives U.IntoIter.next_gives
+        (λ i. i.now) iter (T.holds set.old) (T.holds set.new)) }
+    ensures stops { IfErr result (StopsAtRefusedBelow T.RANGE U.into_iter_gives
+        U.IntoIter.next_gives (λ i. i.now) iter (T.holds set.old) (T.holds set.new)
+        (T.needs_allocation set.new)) }
+    ensures keeps { (j : ℕ) → T.needs_allocation set.new j → T.needs_allocation set.old j }
+    ensures most { (j : ℕ) → T.needs_allocation set.old j
+        → LiesApart T.need_separate_room (T.holds set.new) j → T.needs_allocation set.new j }
 {
     let mut place = 0usize;
     for index in iter {
@@ -125,16 +140,20 @@ pub fn extend_index_refs<'a, T: Extendable, U: IntoIterator<Item = &'a Index>>(
 
 /// A set without members, extended by the items of an iterator.
 #[doc(hidden)]
-pub fn from_indices<T: Extendable, U: IntoIterator<Item = Index>>(
+pub fn from_indices<T: FallibleInsert, U: IntoIterator<Item = Index>>(
     mut set: T,
     iter: U,
 ) -> Result<T, BuildError>
-    requires finite { IsFiniteIterable U.into_iter_gives U.IntoIter.can_next U.IntoIter.remaining iter }
+    requires finite { IsFiniteIterable U.into_iter_gives U.IntoIter.can_next U.IntoIter.remaining
+        iter }
     requires empty { (i : ℕ) → T.holds set i ≡ false }
-    requires bare { (j : ℕ) → T.lacks_room set j }
-    ensures all { IfOk result (λ made. TakesAllBelow T.RANGE U.into_iter_gives U.IntoIter.next_gives (λ i. i) iter (λ _. false) (T.holds made)) }
-    ensures most { IfOk result (λ made. (j : ℕ) → LiesApart T.lie_apart (T.holds made) j → T.lacks_room made j) }
-    ensures stops { IfErr result (RefusesBelow T.RANGE U.into_iter_gives U.IntoIter.next_gives (λ i. i) iter T.lie_apart) }
+    requires bare { (j : ℕ) → T.needs_allocation set j }
+    ensures all { IfOk result (λ made. TakesAllBelow T.RANGE U.into_iter_gives U.IntoIter.next_gives
+        (λ i. i) iter (λ _. false) (T.holds made)) }
+    ensures most { IfOk result (λ made. (j : ℕ) → LiesApart T.need_separate_room (T.holds made) j
+        → T.needs_allocation made j) }
+    ensures stops { IfErr result (RefusesBelow T.RANGE U.into_iter_gives U.IntoIter.next_gives
+        (λ i. i) iter T.need_separate_room) }
 {
     extend_indices(&mut set, iter)?;
     Ok(set)
@@ -142,16 +161,20 @@ pub fn from_indices<T: Extendable, U: IntoIterator<Item = Index>>(
 
 /// A set without members, extended by the items that an iterator gives by reference.
 #[doc(hidden)]
-pub fn from_index_refs<'a, T: Extendable, U: IntoIterator<Item = &'a Index>>(
+pub fn from_index_refs<'a, T: FallibleInsert, U: IntoIterator<Item = &'a Index>>(
     mut set: T,
     iter: U,
 ) -> Result<T, BuildError>
-    requires finite { IsFiniteIterable U.into_iter_gives U.IntoIter.can_next U.IntoIter.remaining iter }
+    requires finite { IsFiniteIterable U.into_iter_gives U.IntoIter.can_next U.IntoIter.remaining
+        iter }
     requires empty { (i : ℕ) → T.holds set i ≡ false }
-    requires bare { (j : ℕ) → T.lacks_room set j }
-    ensures all { IfOk result (λ made. TakesAllBelow T.RANGE U.into_iter_gives U.IntoIter.next_gives (λ i. i.now) iter (λ _. false) (T.holds made)) }
-    ensures most { IfOk result (λ made. (j : ℕ) → LiesApart T.lie_apart (T.holds made) j → T.lacks_room made j) }
-    ensures stops { IfErr result (RefusesBelow T.RANGE U.into_iter_gives U.IntoIter.next_gives (λ i. i.now) iter T.lie_apart) }
+    requires bare { (j : ℕ) → T.needs_allocation set j }
+    ensures all { IfOk result (λ made. TakesAllBelow T.RANGE U.into_iter_gives U.IntoIter.next_gives
+        (λ i. i.now) iter (λ _. false) (T.holds made)) }
+    ensures most { IfOk result (λ made. (j : ℕ) → LiesApart T.need_separate_room (T.holds made) j
+        → T.needs_allocation made j) }
+    ensures stops { IfErr result (RefusesBelow T.RANGE U.into_iter_gives U.IntoIter.next_gives
+        (λ i. i.now) iter T.need_separate_room) }
 {
     extend_index_refs(&mut set, iter)?;
     Ok(set)

@@ -7,13 +7,13 @@ ghost use Rattle.std.specs.Iterator.Runs.{YieldsInOrder};
 ghost use Rattle.hibitset_base.specs.Connectives.{is_member};
 ghost use Rattle.hibitset_base.specs.Members.{members_below};
 ghost use Rattle.hibitset_base.specs.Places.{places_left, items_of, IsWellFormed};
-ghost use Rattle.hibitset_base.specs.Drain.{items_to_drain, drained, lender, DrainSteps};
+ghost use Rattle.hibitset_base.specs.Drain.{items_to_drain, drained_set, lender, DrainSteps};
 ghost use Rattle.hibitset_base.specs.declared.util.TheConstants.{LAYERS, MAX_EID};
 
 use crate::cursor::Cursor;
-use crate::iter::{cursor_of, start, step};
+use crate::iter::{cursor_of, next_index, root_cursor};
 use crate::like::DrainableBitSet;
-use crate::reads::Reads;
+use crate::read_count::Reads;
 use crate::util::{Index, LAYERS, MAX_EID};
 
 /// A walk over the members of a set, in ascending order, that takes each one out of the set as it gives it.
@@ -37,8 +37,9 @@ impl<'a, T> DrainBitIter<'a, T> {
     pub fn new(set: &'a mut T, masks: [usize; LAYERS], prefix: [u32; LAYERS - 1]) -> Self
         requires { IsWellFormed LAYERS masks prefix }
         ensures lender { lender result ≡ set.entry.ghost_name }
-        ensures set { drained result ≡ set.old }
-        ensures items { (holds : T → ℕ → Bool) → items_to_drain holds result ≡ items_of (holds set.old) (places_left 0 masks prefix) }
+        ensures set { drained_set result ≡ set.old }
+        ensures items { (holds : T → ℕ → Bool)
+            → items_to_drain holds result ≡ items_of (holds set.old) (places_left 0 masks prefix) }
     {
         DrainBitIter {
             set,
@@ -53,13 +54,13 @@ impl<'a, T: DrainableBitSet> DrainBitIter<'a, T> {
     #[inline]
     pub(crate) fn from_top(set: &'a mut T) -> Self
         ensures lender { lender result ≡ set.entry.ghost_name }
-        ensures set { drained result ≡ set.old }
+        ensures set { drained_set result ≡ set.old }
         ensures items { items_to_drain T.holds result ≡ members_below MAX_EID (T.holds set.old) }
         ensures runs { YieldsInOrder (DrainSteps T.holds T.keeps_room) (items_to_drain T.holds) }
         ensures fits { length (items_to_drain T.holds result) ≤ MAX_EID }
     {
         let mut reads = Reads::none();
-        let cursor = start(&*set, &mut reads);
+        let cursor = root_cursor(&*set, &mut reads);
         DrainBitIter { set, cursor, reads }
     }
 }
@@ -73,7 +74,7 @@ impl<'a, T: DrainableBitSet> Iterator for DrainBitIter<'a, T> {
 
     #[inline]
     fn next(&mut self) -> Option<Index> {
-        let index = step(&*self.set, &mut self.cursor, &mut self.reads)?;
+        let index = next_index(&*self.set, &mut self.cursor, &mut self.reads)?;
         self.set.remove(index);
         Some(index)
     }
@@ -97,13 +98,15 @@ fn keep_or_remove<T: DrainableBitSet, F: Fn(Index) -> bool>(set: &mut T, index: 
 #[inline]
 pub(crate) fn retain_members<T: DrainableBitSet, F: Fn(Index) -> bool>(set: &mut T, keep: &F)
     requires { F.IsAlwaysCallable keep.now }
-    ensures kept { (i : ℕ) → i < MAX_EID → T.holds set.old i ≡ true → F.post keep.now i (T.holds set.new i) }
-    ensures others { (i : ℕ) → is_member (T.holds set.old) i ≡ false → T.holds set.new i ≡ T.holds set.old i }
+    ensures kept { (i : ℕ) → i < MAX_EID → T.holds set.old i ≡ true
+        → F.post keep.now i (T.holds set.new i) }
+    ensures others { (i : ℕ) → is_member (T.holds set.old) i ≡ false
+        → T.holds set.new i ≡ T.holds set.old i }
     ensures room { T.keeps_room set.old set.new }
 {
     let mut reads = Reads::none();
-    let mut cursor = start(&*set, &mut reads);
-    'items: while let Some(index) = step(&*set, &mut cursor, &mut reads) {
+    let mut cursor = root_cursor(&*set, &mut reads);
+    'items: while let Some(index) = next_index(&*set, &mut cursor, &mut reads) {
         keep_or_remove(set, index, keep);
     }
 }

@@ -2,26 +2,26 @@
 #![tactic(auto, unfolding(crate::specs::Walk::items_left, crate::specs::Walk::set_of))]
 
 ghost use Rattle.std.specs.Prelude.{◌≡◌, ℕ, ◌+◌, ◌-◌, ◌<◌, ◌≤◌, ◌++◌, max, length, MatchOption, IfSome, Some, None, ⊤};
-ghost use Rattle.hibitset_base.specs.Sets.{IsExact};
+ghost use Rattle.hibitset_base.specs.Sets.{SummariesExact};
 ghost use Rattle.hibitset_base.specs.Cursor.{IsAlone, IsOneBelow};
-ghost use Rattle.hibitset_base.specs.Cutting.{HasOneMask};
-ghost use Rattle.hibitset_base.specs.Walk.{set_of, items_left, masks_left, words_read, IsDrawn};
-ghost use Rattle.hibitset_base.specs.Dividing.{IsUndivided, IsDivided};
-ghost use Rattle.hibitset_base.specs.Splits.{range_size, LieInOneRange, ShareNoRange, AreWords, part_set, part_items, other_items, PartIsDrawn, PartHasOneMask, AreHalves, IsOfTheSame, part_reads, SplitReads};
+ghost use Rattle.hibitset_base.specs.PlaceHalves.{HasOneMask};
+ghost use Rattle.hibitset_base.specs.Walk.{set_of, items_left, masks_left, words_read, BitsAreFromSet};
+ghost use Rattle.hibitset_base.specs.Division.{IsUndivided, IsDivided};
+ghost use Rattle.hibitset_base.specs.Splits.{range_size, LieInOneRange, ShareNoRange, AreWords, part_set, part_items, items_of_second, PartBitsAreFromSet, PartHasOneMask, DifferByAtMostOne, SameSetAndLayers, part_reads, SplitReads};
 ghost use Rattle.std.specs.List.{FoldsTo};
 ghost use Rattle.hibitset_base.specs.declared.util.TheConstants.{LAYERS};
 
-use crate::iter::{BitIter, go_down};
+use crate::bulk::fold::fold_walk;
+use crate::iter::{BitIter, descend};
 use crate::like::BitSetLike;
-use crate::reads::Reads;
+use crate::read_count::Reads;
 use crate::util::{Index, LAYERS};
-use crate::words::fold_walk;
 use std::fmt::Debug;
 
-mod driver;
+mod cost;
+mod fill;
 mod par_iter;
-mod pieces;
-mod size;
+mod run;
 mod workers;
 
 pub use self::par_iter::BitParIter;
@@ -39,15 +39,19 @@ fn look_at<'a, T: BitSetLike>(walk: &mut BitIter<&'a T>, layer: usize) -> Option
     requires one { IsOneBelow walk.old.cursor (layer + 1) }
     ensures set { set_of walk.new ≡ set_of walk.old }
     ensures few { words_read walk.new ≤ words_read walk.old + 1 }
-    ensures other { IfSome result (λ other. (set_of other ≡ set_of walk.old) × (words_read other ≡ 0)) }
-    ensures one_mask { IfSome result (λ other. HasOneMask LAYERS (masks_left walk.new) × HasOneMask LAYERS (masks_left other)) }
-    ensures parts { MatchOption result (IsUndivided (λ s. T.holds s.now) (λ s. T.word s.now) layer walk.old walk.new) (IsDivided (λ s. T.holds s.now) (λ s. T.word s.now) layer walk.old walk.new) }
+    ensures other { IfSome result (λ other. (set_of other ≡ set_of walk.old)
+        × (words_read other ≡ 0)) }
+    ensures one_mask { IfSome result (λ other. HasOneMask LAYERS (masks_left walk.new)
+        × HasOneMask LAYERS (masks_left other)) }
+    ensures parts { MatchOption result
+        (IsUndivided (λ s. T.holds s.now) (λ s. T.word s.now) layer walk.old walk.new)
+        (IsDivided (λ s. T.holds s.now) (λ s. T.word s.now) layer walk.old walk.new) }
 {
     if walk.cursor.is_empty(layer) {
         return None;
     }
     let Some(cursor) = walk.cursor.halve(layer) else {
-        go_down(walk.set, &mut walk.cursor, &mut walk.reads, layer);
+        descend(walk.set, &mut walk.cursor, &mut walk.reads, layer);
         return None;
     };
     Some(BitIter {
@@ -63,10 +67,17 @@ fn divide<'a, T: BitSetLike>(walk: &mut BitIter<&'a T>, looks: usize) -> Option<
     requires one { IsOneBelow walk.old.cursor LAYERS }
     ensures set { set_of walk.new ≡ set_of walk.old }
     ensures few { words_read walk.new ≤ words_read walk.old + looks }
-    ensures other { IfSome result (λ other. (set_of other ≡ set_of walk.old) × (words_read other ≡ 0)) }
-    ensures one_mask { IfSome result (λ other. HasOneMask LAYERS (masks_left walk.new) × HasOneMask LAYERS (masks_left other)) }
-    ensures parts { MatchOption result (IsUndivided (λ s. T.holds s.now) (λ s. T.word s.now) (LAYERS - looks) walk.old walk.new) (IsDivided (λ s. T.holds s.now) (λ s. T.word s.now) (LAYERS - looks) walk.old walk.new) }
-    ensures some { IsExact LAYERS (T.word (set_of walk.old).now) → AreWords (T.word (set_of walk.old).now) → IsDrawn (λ s. T.word s.now) walk.old → IfSome result (λ other. (0 < length (items_left (λ s. T.holds s.now) walk.new)) × (0 < length (items_left (λ s. T.holds s.now) other))) }
+    ensures other { IfSome result (λ other. (set_of other ≡ set_of walk.old)
+        × (words_read other ≡ 0)) }
+    ensures one_mask { IfSome result (λ other. HasOneMask LAYERS (masks_left walk.new)
+        × HasOneMask LAYERS (masks_left other)) }
+    ensures parts { MatchOption result
+        (IsUndivided (λ s. T.holds s.now) (λ s. T.word s.now) (LAYERS - looks) walk.old walk.new)
+        (IsDivided (λ s. T.holds s.now) (λ s. T.word s.now) (LAYERS - looks) walk.old walk.new) }
+    ensures some { SummariesExact LAYERS (T.word (set_of walk.old).now)
+        → AreWords (T.word (set_of walk.old).now) → BitsAreFromSet (λ s. T.word s.now) walk.old
+        → IfSome result (λ other. (0 < length (items_left (λ s. T.holds s.now) walk.new))
+        × (0 < length (items_left (λ s. T.holds s.now) other))) }
 {
     'looks: for look in 0..looks {
         if let Some(other) = look_at(walk, LAYERS - 1 - look) {
@@ -85,16 +96,27 @@ impl<'a, T: BitSetLike + Send + Sync> BitProducer<'a, T> {
     /// have gone down. How many items lie under each half is not said.
     pub fn split(self) -> (Self, Option<Self>)
         requires { self.1 < LAYERS }
-        ensures items { part_items T.holds self.entry ≡ part_items T.holds result.0 ++ other_items T.holds result.1 }
-        ensures more_masks { ¬ PartHasOneMask LAYERS self.entry → (result.0 ≡ self.entry) × (result.1 ≡ None) }
-        ensures none { PartHasOneMask LAYERS self.entry → result.1 ≡ None → LieInOneRange (range_size LAYERS self.entry.1) (part_items T.holds self.entry) }
-        ensures apart { IfSome result.1 (λ other. ShareNoRange (range_size LAYERS self.entry.1) (part_items T.holds result.0) (part_items T.holds other)) }
-        ensures half { IfSome result.1 (AreHalves result.0) }
-        ensures some { IsExact LAYERS (T.word (part_set self.entry)) → AreWords (T.word (part_set self.entry)) → PartIsDrawn T.word self.entry → IfSome result.1 (λ other. (0 < length (part_items T.holds result.0)) × (0 < length (part_items T.holds other))) }
-        ensures same { IsOfTheSame self.entry result.0 × IfSome result.1 (IsOfTheSame self.entry) }
-        ensures drawn { PartIsDrawn T.word self.entry → PartIsDrawn T.word result.0 × IfSome result.1 (PartIsDrawn T.word) }
-        ensures one_mask { PartHasOneMask LAYERS self.entry → PartHasOneMask LAYERS result.0 × IfSome result.1 (PartHasOneMask LAYERS) }
-        ensures read { SplitReads T.word (max self.entry.1 1) self.entry result.0 result.1 × IfSome result.1 (λ other. part_reads other ≡ 0) }
+        ensures items { part_items T.holds self.entry
+            ≡ part_items T.holds result.0 ++ items_of_second T.holds result.1 }
+        ensures more_masks { ¬ PartHasOneMask LAYERS self.entry
+            → (result.0 ≡ self.entry) × (result.1 ≡ None) }
+        ensures none { PartHasOneMask LAYERS self.entry → result.1 ≡ None
+            → LieInOneRange (range_size LAYERS self.entry.1) (part_items T.holds self.entry) }
+        ensures apart { IfSome result.1 (λ other. ShareNoRange (range_size LAYERS self.entry.1)
+            (part_items T.holds result.0) (part_items T.holds other)) }
+        ensures half { IfSome result.1 (DifferByAtMostOne result.0) }
+        ensures some { SummariesExact LAYERS (T.word (part_set self.entry))
+            → AreWords (T.word (part_set self.entry)) → PartBitsAreFromSet T.word self.entry
+            → IfSome result.1 (λ other. (0 < length (part_items T.holds result.0))
+            × (0 < length (part_items T.holds other))) }
+        ensures same { SameSetAndLayers self.entry result.0
+            × IfSome result.1 (SameSetAndLayers self.entry) }
+        ensures drawn { PartBitsAreFromSet T.word self.entry
+            → PartBitsAreFromSet T.word result.0 × IfSome result.1 (PartBitsAreFromSet T.word) }
+        ensures one_mask { PartHasOneMask LAYERS self.entry
+            → PartHasOneMask LAYERS result.0 × IfSome result.1 (PartHasOneMask LAYERS) }
+        ensures read { SplitReads T.word (max self.entry.1 1) self.entry result.0 result.1
+            × IfSome result.1 (λ other. part_reads other ≡ 0) }
     {
         let BitProducer(mut walk, layers) = self;
         if !walk.cursor.has_one_mask() {

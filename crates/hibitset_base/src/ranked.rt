@@ -10,12 +10,12 @@ ghost use Rattle.hibitset_base.specs.declared.util.TheConstants.{LAYERS, MAX_EID
 use crate::iter::read;
 use crate::like::BitSetLike;
 use crate::ranks::{count_part, count_range, nth_under};
-use crate::reads::Reads;
+use crate::read_count::Reads;
 use crate::util::Index;
 use std::alloc::{AllocError, Global};
 
 // Number of indices under a word of layer 1.
-const BLOCK: usize = 64 * 64;
+const INDICES_PER_BLOCK: usize = 64 * 64;
 
 /// A set that stands still, with the number of members before each 4,096th index: for many calls of `rank` and
 /// `select`.
@@ -58,10 +58,12 @@ impl<T: BitSetLike> Ranked<T> {
     pub fn new(alloc: Global, set: T) -> Result<Ranked<T>, AllocError>
         ensures set { IfOk result (λ ranked. counted_set ranked ≡ set) }
         ensures small { IfOk result (λ ranked. counts_len ranked ≤ MAX_EID / block_size + 1) }
-        ensures few { IfOk result (λ ranked. (blocks : ℕ) → ((i : ℕ) → i < MAX_EID → T.holds set i ≡ true → i < block_size * blocks) → counts_len ranked ≤ blocks + 1) }
+        ensures few { IfOk result (λ ranked. (blocks : ℕ)
+            → ((i : ℕ) → i < MAX_EID → T.holds set i ≡ true → i < block_size * blocks)
+            → counts_len ranked ≤ blocks + 1) }
     {
         let blocks = match set.last() {
-            Some(last) => last as usize / BLOCK + 1,
+            Some(last) => last as usize / INDICES_PER_BLOCK + 1,
             None => 0,
         };
         let counts = count_blocks(alloc, &set, blocks)?;
@@ -80,13 +82,14 @@ impl<T: BitSetLike> Ranked<T> {
     /// 0, and one of layer 1.
     #[inline]
     pub fn rank(&self, end: Index) -> usize
-        ensures { result ≡ length (members_below (min end MAX_EID) (T.holds (counted_set self.now))) }
+        ensures { result ≡ length (members_below (min end MAX_EID)
+            (T.holds (counted_set self.now))) }
     {
-        let block = end as usize / BLOCK;
+        let block = end as usize / INDICES_PER_BLOCK;
         if block + 1 >= self.counts.len() {
             return self.counts[self.counts.len() - 1] as usize;
         }
-        let start = (BLOCK * block) as Index;
+        let start = (INDICES_PER_BLOCK * block) as Index;
         self.counts[block] as usize + count_range(&self.set, start, end)
     }
 
@@ -94,7 +97,8 @@ impl<T: BitSetLike> Ranked<T> {
     #[inline]
     fn counts_upto(&self, at: usize) -> usize
         ensures bound { result ≤ length self.now.counts.items }
-        ensures point { IsPartitionPoint (λ count. nat_le count at ≡ true) (λ count. nat_le count at ≡ false) self.now.counts.items result }
+        ensures point { IsPartitionPoint (λ count. nat_le count at ≡ true)
+            (λ count. nat_le count at ≡ false) self.now.counts.items result }
     {
         self.counts.partition_point(
             |count: &u32| -> bool

@@ -5,13 +5,14 @@ ghost use Rattle.hibitset_base.specs.Places.{places_in, bits_from, items_of};
 ghost use Rattle.hibitset_base.specs.Ranks.{HasHead, HasPart};
 ghost use Rattle.hibitset_base.specs.declared.util.TheConstants.{LAYERS, MAX_EID};
 
+use crate::bulk::count::{count_left, count_subtree};
+use crate::bulk::{take_bit, take_child, take_next_block};
 use crate::cursor::Cursor;
-use crate::iter::{read, start};
+use crate::iter::{read, root_cursor};
 use crate::like::BitSetLike;
 use crate::range::low_ones;
-use crate::reads::Reads;
+use crate::read_count::Reads;
 use crate::util::{Index, LAYERS};
-use crate::words::{count_left, count_under, step_block, take_bit, take_under};
 
 // The bits of a word before a bit.
 #[inline]
@@ -41,13 +42,14 @@ fn count_bits<T: BitSetLike>(set: &T, layer: usize, start: u32, word: usize) -> 
     requires layer { layer < LAYERS }
     requires aligned { start % 64 ≡ 0 }
     requires within { start < 64 ^ (LAYERS - layer) }
-    ensures { result ≡ length (items_of (T.holds set.now) (places_in layer (bits_from start word))) }
+    ensures { result ≡ length (items_of (T.holds set.now)
+        (places_in layer (bits_from start word))) }
 {
     if layer == 0 {
         return word.count_ones() as usize;
     }
     if layer == 1 {
-        return count_under(set, start, word);
+        return count_subtree(set, start, word);
     }
     let mut cursor = Cursor::of_word(layer, start, word);
     count_left(set, &mut cursor, &mut Reads::none())
@@ -60,7 +62,8 @@ pub(crate) fn count_part<T: BitSetLike>(set: &T, layer: usize, from: u32, to: u3
     requires layer { layer < LAYERS }
     requires one_word { to ≤ 64 * (from / 64) + 64 }
     requires within { to ≤ 64 ^ (LAYERS - layer) }
-    ensures { result ≡ length (members (T.holds set.now) (from * 64 ^ layer) ((to - from) * 64 ^ layer)) }
+    ensures { result ≡ length (members (T.holds set.now) (from * 64 ^ layer)
+        ((to - from) * 64 ^ layer)) }
 {
     if to <= from {
         return 0;
@@ -122,12 +125,13 @@ fn nth_bit(start: Index, word: usize, at: usize) -> Option<Index>
 pub(crate) fn nth_under<T: BitSetLike>(set: &T, start: u32, word: usize, at: usize) -> Option<Index>
     requires aligned { start % 64 ≡ 0 }
     requires within { start < 64 ^ (LAYERS - 1) }
-    ensures { result ≡ slice_get (items_of (T.holds set.now) (places_in 1 (bits_from start word))) at }
+    ensures { result ≡ slice_get (items_of (T.holds set.now) (places_in 1 (bits_from start word)))
+        at }
 {
     let mut rest = word;
     let mut left = at;
     'bits: while rest != 0 {
-        let (first, lower) = take_under(set, start, &mut rest);
+        let (first, lower) = take_child(set, start, &mut rest);
         let count = lower.count_ones() as usize;
         if left < count {
             return nth_bit(first, lower, left);
@@ -143,10 +147,10 @@ pub(crate) fn find_nth<T: BitSetLike>(set: &T, at: usize) -> Option<Index>
     ensures { result ≡ slice_get (members_below MAX_EID (T.holds set.now)) at }
 {
     let mut reads = Reads::none();
-    let mut cursor = start(set, &mut reads);
+    let mut cursor = root_cursor(set, &mut reads);
     let mut left = at;
-    'parts: while let Some((start, word)) = step_block(set, &mut cursor, &mut reads) {
-        let count = count_under(set, start, word);
+    'parts: while let Some((start, word)) = take_next_block(set, &mut cursor, &mut reads) {
+        let count = count_subtree(set, start, word);
         if left < count {
             return nth_under(set, start, word, left);
         }

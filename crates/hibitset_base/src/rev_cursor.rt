@@ -46,7 +46,8 @@ impl<const N: usize> RevCursor<N> {
         requires layer { layer < N }
         requires some { 0 < rev_mask self.old layer }
         requires lowest { IsRevEmptyBelow self.old layer }
-        ensures taken { rev_left self.old ≡ rev_left self.new ++ ((record { layer = layer; position = result }) ∷ []) }
+        ensures taken { rev_left self.old
+            ≡ rev_left self.new ++ ((record { layer = layer; position = result }) ∷ []) }
         ensures within { result < 64 ^ (N - layer) }
         ensures others { (l : ℕ) → l ≢ layer → rev_mask self.new l ≡ rev_mask self.old l }
     {
@@ -59,11 +60,12 @@ impl<const N: usize> RevCursor<N> {
 
     /// Puts the places of a word's bits behind those that are left. The word lies in `layer` at `position`.
     #[inline]
-    pub(crate) fn put(&mut self, layer: usize, position: u32, word: usize)
+    pub(crate) fn push_bits(&mut self, layer: usize, position: u32, word: usize)
         requires layer { layer < N }
         requires within { position < 64 ^ (N - 1 - layer) }
         requires lowest { IsRevEmptyBelow self.old (layer + 1) }
-        ensures left { rev_left self.new ≡ rev_left self.old ++ places_in layer (bits_from (64 * position) word) }
+        ensures left { rev_left self.new ≡ rev_left self.old
+            ++ places_in layer (bits_from (64 * position) word) }
         ensures others { (l : ℕ) → l ≢ layer → rev_mask self.new l ≡ rev_mask self.old l }
     {
         let start = 64 * position;

@@ -7,16 +7,16 @@ ghost use Rattle.std.specs.Iterator.Runs.{YieldsInOrder};
 ghost use Rattle.hibitset_base.specs.Members.{members, members_below};
 ghost use Rattle.hibitset_base.specs.Places.{places_in, items_of};
 ghost use Rattle.hibitset_base.specs.Ranks.{start_over};
-ghost use Rattle.hibitset_base.specs.Reading.{words_under, words_of, AllStand, Encloses, IsBoundBy};
+ghost use Rattle.hibitset_base.specs.WordsRead.{words_under, words_of, AllAreSet, CoversWords, AreBoundByMembers};
 ghost use Rattle.hibitset_base.specs.RevCursor.{rev_left, rev_mask, IsRevEmptyBelow};
 ghost use Rattle.hibitset_base.specs.RevPlaces.{GoesBack};
-ghost use Rattle.hibitset_base.specs.RevWalk.{rev_set_of, rev_items_left, rev_words_read, rev_words_ahead, IsRevDrawn, RevWalkSteps};
+ghost use Rattle.hibitset_base.specs.RevWalk.{rev_set_of, rev_items_left, rev_words_read, rev_words_ahead, RevBitsAreFromSet, RevWalkSteps};
 ghost use Rattle.hibitset_base.specs.declared.util.TheConstants.{LAYERS, MAX_EID};
 
 use crate::iter::read;
 use crate::like::BitSetLike;
 use crate::ranks::head;
-use crate::reads::Reads;
+use crate::read_count::Reads;
 use crate::rev_cursor::RevCursor;
 use crate::util::{BITS, Index, LAYERS, MAX_EID};
 
@@ -32,14 +32,18 @@ pub struct BitRevIter<T> {
 #[inline]
 pub(crate) fn start_at_end<T: BitSetLike>(set: &T, reads: &mut Reads) -> RevCursor<LAYERS>
     ensures reads { reads.new.count ≡ reads.old.count + 1 }
-    ensures items { items_of (T.holds set.now) (rev_left result) ≡ members_below MAX_EID (T.holds set.now) }
-    ensures drawn { AllStand (T.word set.now) (rev_left result) }
-    ensures bound { (p : ℕ → Bool) (a : ℕ → ℕ → ℕ) → Encloses LAYERS p a (T.word set.now) → IsBoundBy LAYERS p (words_of (T.word set.now) (rev_left result)) }
-    ensures ahead { words_under (T.word set.now) LAYERS 0 ≡ (record { layer = LAYERS - 1; position = 0 }) ∷ words_of (T.word set.now) (rev_left result) }
+    ensures items { items_of (T.holds set.now) (rev_left result)
+        ≡ members_below MAX_EID (T.holds set.now) }
+    ensures drawn { AllAreSet (T.word set.now) (rev_left result) }
+    ensures bound { (p : ℕ → Bool) (a : ℕ → ℕ → ℕ) → CoversWords LAYERS p a (T.word set.now)
+        → AreBoundByMembers LAYERS p (words_of (T.word set.now) (rev_left result)) }
+    ensures ahead { words_under (T.word set.now) LAYERS 0
+        ≡ (record { layer = LAYERS - 1; position = 0 })
+        ∷ words_of (T.word set.now) (rev_left result) }
 {
     let word = read(set, reads, LAYERS - 1, 0);
     let mut cursor = RevCursor::<LAYERS>::empty();
-    cursor.put(LAYERS - 1, 0, word);
+    cursor.push_bits(LAYERS - 1, 0, word);
     cursor
 }
 
@@ -56,15 +60,20 @@ pub(crate) fn put_head<T: BitSetLike>(
     requires layer { layer < LAYERS }
     requires within { end < MAX_EID }
     requires lowest { IsRevEmptyBelow cursor.old (layer + 1) }
-    ensures items { items_of (T.holds set.now) (rev_left cursor.new) ≡ items_of (T.holds set.now) (rev_left cursor.old) ++ members (T.holds set.now) (start_over end (layer + 1)) (start_over end layer - start_over end (layer + 1)) }
-    ensures drawn { AllStand (T.word set.now) (rev_left cursor.old) → AllStand (T.word set.now) (rev_left cursor.new) }
-    ensures clear { result ≡ false → members (T.holds set.now) (start_over end layer) (64 ^ layer) ≡ [] }
+    ensures items { items_of (T.holds set.now) (rev_left cursor.new)
+        ≡ items_of (T.holds set.now) (rev_left cursor.old)
+        ++ members (T.holds set.now) (start_over end (layer + 1))
+        (start_over end layer - start_over end (layer + 1)) }
+    ensures drawn { AllAreSet (T.word set.now) (rev_left cursor.old)
+        → AllAreSet (T.word set.now) (rev_left cursor.new) }
+    ensures clear { result ≡ false → members (T.holds set.now) (start_over end layer) (64 ^ layer)
+        ≡ [] }
     ensures reads { reads.new.count ≡ reads.old.count + 1 }
     ensures below { IsRevEmptyBelow cursor.new layer }
 {
     let place = end >> (BITS * layer);
     let word = read(set, reads, layer, place >> BITS);
-    cursor.put(layer, place >> BITS, head(word, place % 64));
+    cursor.push_bits(layer, place >> BITS, head(word, place % 64));
     word >> (place % 64) & 1 == 1
 }
 
@@ -74,8 +83,9 @@ pub(crate) fn put_head<T: BitSetLike>(
 fn start_before<T: BitSetLike>(set: &T, reads: &mut Reads, end: Index) -> RevCursor<LAYERS>
     requires { end < MAX_EID }
     ensures read { reads.new.count ≤ reads.old.count + LAYERS }
-    ensures items { items_of (T.holds set.now) (rev_left result) ≡ members_below end (T.holds set.now) }
-    ensures drawn { AllStand (T.word set.now) (rev_left result) }
+    ensures items { items_of (T.holds set.now) (rev_left result)
+        ≡ members_below end (T.holds set.now) }
+    ensures drawn { AllAreSet (T.word set.now) (rev_left result) }
 {
     let mut cursor = RevCursor::<LAYERS>::empty();
     'layers: for depth in 0..LAYERS {
@@ -98,7 +108,8 @@ fn descend_last<T: BitSetLike>(
     requires above { 0 < layer }
     requires lowest { IsRevEmptyBelow cursor.old layer }
     ensures none { result ≡ false → IsRevEmptyBelow cursor.new (layer + 1) }
-    ensures goes { GoesBack LAYERS (T.holds set.now) (T.word set.now) reads.old.count (rev_left cursor.old) reads.new.count (rev_left cursor.new) }
+    ensures goes { GoesBack LAYERS (T.holds set.now) (T.word set.now) reads.old.count
+        (rev_left cursor.old) reads.new.count (rev_left cursor.new) }
     ensures same { result ≡ false → reads.new.count ≡ reads.old.count }
     ensures more { result ≡ true → reads.old.count < reads.new.count }
 {
@@ -107,20 +118,21 @@ fn descend_last<T: BitSetLike>(
     }
     let position = cursor.take_last(layer);
     let word = read(set, reads, layer - 1, position);
-    cursor.put(layer - 1, position, word);
+    cursor.push_bits(layer - 1, position, word);
     true
 }
 
 // Reads the word under the last bit that is left above layer 2. False if none is left.
 #[inline]
-fn refill_last_above2<T: BitSetLike>(
+fn load_last_from_layer3<T: BitSetLike>(
     set: &T,
     cursor: &mut RevCursor<LAYERS>,
     reads: &mut Reads,
 ) -> bool
     requires { IsRevEmptyBelow cursor.old 3 }
     ensures none { result ≡ false → IsRevEmptyBelow cursor.new LAYERS }
-    ensures goes { GoesBack LAYERS (T.holds set.now) (T.word set.now) reads.old.count (rev_left cursor.old) reads.new.count (rev_left cursor.new) }
+    ensures goes { GoesBack LAYERS (T.holds set.now) (T.word set.now) reads.old.count
+        (rev_left cursor.old) reads.new.count (rev_left cursor.new) }
     ensures more { result ≡ true → reads.old.count < reads.new.count }
 {
     if descend_last(set, cursor, reads, 3) {
@@ -131,48 +143,54 @@ fn refill_last_above2<T: BitSetLike>(
 
 // Reads the word under the last bit that is left above layer 1. False if none is left.
 #[inline]
-fn refill_last_above1<T: BitSetLike>(
+fn load_last_from_layer2<T: BitSetLike>(
     set: &T,
     cursor: &mut RevCursor<LAYERS>,
     reads: &mut Reads,
 ) -> bool
     requires { IsRevEmptyBelow cursor.old 2 }
     ensures none { result ≡ false → IsRevEmptyBelow cursor.new LAYERS }
-    ensures goes { GoesBack LAYERS (T.holds set.now) (T.word set.now) reads.old.count (rev_left cursor.old) reads.new.count (rev_left cursor.new) }
+    ensures goes { GoesBack LAYERS (T.holds set.now) (T.word set.now) reads.old.count
+        (rev_left cursor.old) reads.new.count (rev_left cursor.new) }
     ensures more { result ≡ true → reads.old.count < reads.new.count }
 {
     if descend_last(set, cursor, reads, 2) {
         return true;
     }
-    refill_last_above2(set, cursor, reads)
+    load_last_from_layer3(set, cursor, reads)
 }
 
 // Reads the word under the last bit that is left above layer 0. False if none is left.
 #[inline]
-fn refill_last<T: BitSetLike>(set: &T, cursor: &mut RevCursor<LAYERS>, reads: &mut Reads) -> bool
+fn load_last_word<T: BitSetLike>(set: &T, cursor: &mut RevCursor<LAYERS>, reads: &mut Reads) -> bool
     requires { IsRevEmptyBelow cursor.old 1 }
     ensures none { result ≡ false → IsRevEmptyBelow cursor.new LAYERS }
-    ensures goes { GoesBack LAYERS (T.holds set.now) (T.word set.now) reads.old.count (rev_left cursor.old) reads.new.count (rev_left cursor.new) }
+    ensures goes { GoesBack LAYERS (T.holds set.now) (T.word set.now) reads.old.count
+        (rev_left cursor.old) reads.new.count (rev_left cursor.new) }
     ensures more { result ≡ true → reads.old.count < reads.new.count }
 {
     if descend_last(set, cursor, reads, 1) {
         return true;
     }
-    refill_last_above1(set, cursor, reads)
+    load_last_from_layer2(set, cursor, reads)
 }
 
 // The last index that is left, which is taken.
 #[inline(always)]
-pub(crate) fn step_last<T: BitSetLike>(
+pub(crate) fn previous_index<T: BitSetLike>(
     set: &T,
     cursor: &mut RevCursor<LAYERS>,
     reads: &mut Reads,
 ) -> Option<Index>
     ensures end { result ≡ None → (rev_left cursor.new ≡ []) }
-    ensures goes { MatchOption result (GoesBack LAYERS (T.holds set.now) (T.word set.now) reads.old.count (rev_left cursor.old) reads.new.count (rev_left cursor.new)) (λ i. GoesBack LAYERS (T.holds set.now) (T.word set.now) reads.old.count (rev_left cursor.old) reads.new.count (rev_left cursor.new ++ ((record { layer = 0; position = i }) ∷ []))) }
+    ensures goes { MatchOption result (GoesBack LAYERS (T.holds set.now) (T.word set.now)
+        reads.old.count (rev_left cursor.old) reads.new.count (rev_left cursor.new))
+        (λ i. GoesBack LAYERS (T.holds set.now) (T.word set.now) reads.old.count
+        (rev_left cursor.old) reads.new.count
+        (rev_left cursor.new ++ ((record { layer = 0; position = i }) ∷ []))) }
 {
     'layers: while cursor.is_empty(0) {
-        if !refill_last(set, cursor, reads) {
+        if !load_last_word(set, cursor, reads) {
             return None;
         }
     }
@@ -184,11 +202,14 @@ impl<T: BitSetLike> BitRevIter<T> {
     #[inline]
     pub(crate) fn from_end(set: T) -> Self
         ensures set { rev_set_of result ≡ set }
-        ensures items { rev_items_left T.holds result ≡ reverse (members_below MAX_EID (T.holds set)) }
-        ensures drawn { IsRevDrawn T.word result }
+        ensures items { rev_items_left T.holds result
+            ≡ reverse (members_below MAX_EID (T.holds set)) }
+        ensures drawn { RevBitsAreFromSet T.word result }
         ensures read { rev_words_read result ≡ 1 }
-        ensures bound { (p : ℕ → Bool) (a : ℕ → ℕ → ℕ) → Encloses LAYERS p a (T.word set) → IsBoundBy LAYERS p (rev_words_ahead T.word result) }
-        ensures ahead { words_under (T.word set) LAYERS 0 ≡ (record { layer = LAYERS - 1; position = 0 }) ∷ rev_words_ahead T.word result }
+        ensures bound { (p : ℕ → Bool) (a : ℕ → ℕ → ℕ) → CoversWords LAYERS p a (T.word set)
+            → AreBoundByMembers LAYERS p (rev_words_ahead T.word result) }
+        ensures ahead { words_under (T.word set) LAYERS 0
+            ≡ (record { layer = LAYERS - 1; position = 0 }) ∷ rev_words_ahead T.word result }
         ensures runs { YieldsInOrder (RevWalkSteps T.holds T.word) (rev_items_left T.holds) }
         ensures fits { length (rev_items_left T.holds result) ≤ MAX_EID }
     {
@@ -201,8 +222,9 @@ impl<T: BitSetLike> BitRevIter<T> {
     #[inline]
     pub(crate) fn from_before(set: T, end: Index) -> Self
         ensures set { rev_set_of result ≡ set }
-        ensures items { rev_items_left T.holds result ≡ reverse (members_below (min end MAX_EID) (T.holds set)) }
-        ensures drawn { IsRevDrawn T.word result }
+        ensures items { rev_items_left T.holds result
+            ≡ reverse (members_below (min end MAX_EID) (T.holds set)) }
+        ensures drawn { RevBitsAreFromSet T.word result }
         ensures read { rev_words_read result ≤ LAYERS }
         ensures runs { YieldsInOrder (RevWalkSteps T.holds T.word) (rev_items_left T.holds) }
         ensures fits { length (rev_items_left T.holds result) ≤ min end MAX_EID }
@@ -225,6 +247,6 @@ impl<T: BitSetLike> Iterator for BitRevIter<T> {
 
     #[inline]
     fn next(&mut self) -> Option<Index> {
-        step_last(&self.set, &mut self.cursor, &mut self.reads)
+        previous_index(&self.set, &mut self.cursor, &mut self.reads)
     }
 }

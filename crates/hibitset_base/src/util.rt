@@ -2,7 +2,7 @@
 ghost use Rattle.std.specs.Prelude.{◌≡◌, ℕ, ◌/◌, ◌%◌, ◌^◌, ◌≤◌, ◌<◌, MatchOption};
 ghost use Rattle.std.specs.Int.{bit_at};
 ghost use Rattle.std.specs.Int.RustNames.{count_ones};
-ghost use Rattle.hibitset_base.specs.Halving.{IsHalvingBit};
+ghost use Rattle.hibitset_base.specs.MiddleBit.{IsHalvingBit};
 
 /// An index: what a set has as its members, where it is below `MAX_EID`.
 pub type Index = u32;

@@ -1,7 +1,7 @@
 //! Sets that are made of other sets without copying. Each word is made of the operands' words when it is asked for.
 //!
-//! A bit above layer 0 may stand over a word that is 0 in `BitSetAnd`, `BitSetXor`, `BitSetNot` and whatever is built
-//! over them.
+//! A bit above layer 0 may be set over a zero word in `BitSetAnd`, `BitSetXor`, `BitSetNot` and whatever is built over
+//! them.
 ghost use Rattle.std.specs.Prelude.{◌≡◌, ℕ, Bool, true, ◌==◌, ◌&&◌, ◌||◌, not, bit_and, bit_or, IfOk, IsOk};
 ghost use Rattle.hibitset_base.specs.Sets.{SameSet, ClonesToSame};
 ghost use Rattle.hibitset_base.specs.Virtual.{differ, xor_word, not_word, all_ones, and_lawful, or_lawful, xor_lawful, not_lawful, all_lawful};
@@ -16,16 +16,17 @@ use std::alloc::AllocError;
 pub struct BitSetAnd<A: BitSetLike, B: BitSetLike>(pub A, pub B);
 
 impl<A: BitSetLike + Clone, B: BitSetLike + Clone> BitSetAnd<A, B> {
-    /// The same set over clones of the operands. It can't be refused memory where no clone of an operand can be.
+    /// The same set over clones of the operands. It can't fail where no clone of an operand can be.
     ///
     /// A clone of an operand is the same set.
     pub fn clone(&self) -> Result<Self, AllocError>
         requires first { ClonesToSame A.is_clone A.holds self.now.0 }
         requires second { ClonesToSame B.is_clone B.holds self.now.1 }
-        ensures same { IfOk result (λ copy. SameSet (⟦<Self as BitSetLike>⟧.holds self.now) (⟦<Self as BitSetLike>⟧.holds copy)) }
+        ensures same { IfOk result (λ copy. SameSet (⟦<Self as BitSetLike>⟧.holds self.now)
+            (⟦<Self as BitSetLike>⟧.holds copy)) }
         ensures first { IfOk result (λ copy. A.is_clone self.now.0 copy.0) }
         ensures second { IfOk result (λ copy. B.is_clone self.now.1 copy.1) }
-        ensures refused { A.is_infallible self.now.0 → B.is_infallible self.now.1 → IsOk result }
+        ensures succeeds { A.is_infallible self.now.0 → B.is_infallible self.now.1 → IsOk result }
     {
         Ok(BitSetAnd(self.0.clone()?, self.1.clone()?))
     }
@@ -79,16 +80,20 @@ impl<A: DrainableBitSet, B: DrainableBitSet> DrainableBitSet for BitSetAnd<A, B>
 
     ghost keeps_own = { λ s. (A.keeps_own s.0, B.keeps_own s.1) };
 
-    ghost keeps_both = { λ a b c first second. (A.keeps_both a.0 b.0 c.0 first.0 second.0, B.keeps_both a.1 b.1 c.1 first.1 second.1) };
+    ghost keeps_both = { λ a b c first second.
+        (A.keeps_both a.0 b.0 c.0 first.0 second.0, B.keeps_both a.1 b.1 c.1 first.1 second.1) };
 
     /// Takes an index out of both operands, if both have it. They keep their room.
     #[inline]
     fn remove(&mut self, i: Index) -> bool
         ensures was { result ≡ (A.holds self.old.0 i && B.holds self.old.1 i) }
-        ensures removed { (j : ℕ) → (A.holds self.new.0 j && B.holds self.new.1 j) ≡ (A.holds self.old.0 j && B.holds self.old.1 j && not (j == i)) }
+        ensures removed { (j : ℕ) → (A.holds self.new.0 j && B.holds self.new.1 j)
+            ≡ (A.holds self.old.0 j && B.holds self.old.1 j && not (j == i)) }
         ensures room { A.keeps_room self.old.0 self.new.0 × B.keeps_room self.old.1 self.new.1 }
-        ensures first { (j : ℕ) → A.holds self.new.0 j ≡ (A.holds self.old.0 j && not (result && j == i)) }
-        ensures second { (j : ℕ) → B.holds self.new.1 j ≡ (B.holds self.old.1 j && not (result && j == i)) }
+        ensures first { (j : ℕ) → A.holds self.new.0 j
+            ≡ (A.holds self.old.0 j && not (result && j == i)) }
+        ensures second { (j : ℕ) → B.holds self.new.1 j
+            ≡ (B.holds self.old.1 j && not (result && j == i)) }
     {
         if !self.contains(i) {
             return false;
@@ -104,16 +109,17 @@ impl<A: DrainableBitSet, B: DrainableBitSet> DrainableBitSet for BitSetAnd<A, B>
 pub struct BitSetOr<A: BitSetLike, B: BitSetLike>(pub A, pub B);
 
 impl<A: BitSetLike + Clone, B: BitSetLike + Clone> BitSetOr<A, B> {
-    /// The same set over clones of the operands. It can't be refused memory where no clone of an operand can be.
+    /// The same set over clones of the operands. It can't fail where no clone of an operand can be.
     ///
     /// A clone of an operand is the same set.
     pub fn clone(&self) -> Result<Self, AllocError>
         requires first { ClonesToSame A.is_clone A.holds self.now.0 }
         requires second { ClonesToSame B.is_clone B.holds self.now.1 }
-        ensures same { IfOk result (λ copy. SameSet (⟦<Self as BitSetLike>⟧.holds self.now) (⟦<Self as BitSetLike>⟧.holds copy)) }
+        ensures same { IfOk result (λ copy. SameSet (⟦<Self as BitSetLike>⟧.holds self.now)
+            (⟦<Self as BitSetLike>⟧.holds copy)) }
         ensures first { IfOk result (λ copy. A.is_clone self.now.0 copy.0) }
         ensures second { IfOk result (λ copy. B.is_clone self.now.1 copy.1) }
-        ensures refused { A.is_infallible self.now.0 → B.is_infallible self.now.1 → IsOk result }
+        ensures succeeds { A.is_infallible self.now.0 → B.is_infallible self.now.1 → IsOk result }
     {
         Ok(BitSetOr(self.0.clone()?, self.1.clone()?))
     }
@@ -167,13 +173,15 @@ impl<A: DrainableBitSet, B: DrainableBitSet> DrainableBitSet for BitSetOr<A, B> 
 
     ghost keeps_own = { λ s. (A.keeps_own s.0, B.keeps_own s.1) };
 
-    ghost keeps_both = { λ a b c first second. (A.keeps_both a.0 b.0 c.0 first.0 second.0, B.keeps_both a.1 b.1 c.1 first.1 second.1) };
+    ghost keeps_both = { λ a b c first second.
+        (A.keeps_both a.0 b.0 c.0 first.0 second.0, B.keeps_both a.1 b.1 c.1 first.1 second.1) };
 
     /// Takes an index out of each operand that has it. They keep their room.
     #[inline]
     fn remove(&mut self, i: Index) -> bool
         ensures was { result ≡ (A.holds self.old.0 i || B.holds self.old.1 i) }
-        ensures removed { (j : ℕ) → (A.holds self.new.0 j || B.holds self.new.1 j) ≡ ((A.holds self.old.0 j || B.holds self.old.1 j) && not (j == i)) }
+        ensures removed { (j : ℕ) → (A.holds self.new.0 j || B.holds self.new.1 j)
+            ≡ ((A.holds self.old.0 j || B.holds self.old.1 j) && not (j == i)) }
         ensures room { A.keeps_room self.old.0 self.new.0 × B.keeps_room self.old.1 self.new.1 }
         ensures first { (j : ℕ) → A.holds self.new.0 j ≡ (A.holds self.old.0 j && not (j == i)) }
         ensures second { (j : ℕ) → B.holds self.new.1 j ≡ (B.holds self.old.1 j && not (j == i)) }
@@ -189,16 +197,17 @@ impl<A: DrainableBitSet, B: DrainableBitSet> DrainableBitSet for BitSetOr<A, B> 
 pub struct BitSetXor<A: BitSetLike, B: BitSetLike>(pub A, pub B);
 
 impl<A: BitSetLike + Clone, B: BitSetLike + Clone> BitSetXor<A, B> {
-    /// The same set over clones of the operands. It can't be refused memory where no clone of an operand can be.
+    /// The same set over clones of the operands. It can't fail where no clone of an operand can be.
     ///
     /// A clone of an operand is the same set.
     pub fn clone(&self) -> Result<Self, AllocError>
         requires first { ClonesToSame A.is_clone A.holds self.now.0 }
         requires second { ClonesToSame B.is_clone B.holds self.now.1 }
-        ensures same { IfOk result (λ copy. SameSet (⟦<Self as BitSetLike>⟧.holds self.now) (⟦<Self as BitSetLike>⟧.holds copy)) }
+        ensures same { IfOk result (λ copy. SameSet (⟦<Self as BitSetLike>⟧.holds self.now)
+            (⟦<Self as BitSetLike>⟧.holds copy)) }
         ensures first { IfOk result (λ copy. A.is_clone self.now.0 copy.0) }
         ensures second { IfOk result (λ copy. B.is_clone self.now.1 copy.1) }
-        ensures refused { A.is_infallible self.now.0 → B.is_infallible self.now.1 → IsOk result }
+        ensures succeeds { A.is_infallible self.now.0 → B.is_infallible self.now.1 → IsOk result }
     {
         Ok(BitSetXor(self.0.clone()?, self.1.clone()?))
     }
@@ -253,14 +262,15 @@ impl<A: BitSetLike, B: BitSetLike> BitSetLike for BitSetXor<A, B> {
 pub struct BitSetNot<A: BitSetLike>(pub A);
 
 impl<A: BitSetLike + Clone> BitSetNot<A> {
-    /// The same set over a clone of the operand. It can't be refused memory where no clone of the operand can be.
+    /// The same set over a clone of the operand. It can't fail where no clone of the operand can be.
     ///
     /// A clone of the operand is the same set.
     pub fn clone(&self) -> Result<Self, AllocError>
         requires { ClonesToSame A.is_clone A.holds self.now.0 }
-        ensures same { IfOk result (λ copy. SameSet (⟦<Self as BitSetLike>⟧.holds self.now) (⟦<Self as BitSetLike>⟧.holds copy)) }
+        ensures same { IfOk result (λ copy. SameSet (⟦<Self as BitSetLike>⟧.holds self.now)
+            (⟦<Self as BitSetLike>⟧.holds copy)) }
         ensures operand { IfOk result (λ copy. A.is_clone self.now.0 copy.0) }
-        ensures refused { A.is_infallible self.now.0 → IsOk result }
+        ensures succeeds { A.is_infallible self.now.0 → IsOk result }
     {
         Ok(BitSetNot(self.0.clone()?))
     }
@@ -314,7 +324,7 @@ impl<A: BitSetLike> BitSetLike for BitSetNot<A> {
 pub struct BitSetAll;
 
 impl BitSetAll {
-    /// The same set. It can't be refused memory.
+    /// The same set. It can't fail.
     pub fn clone(&self) -> Result<Self, AllocError>
         ensures { IsOk result }
     {

@@ -1,8 +1,8 @@
 //! Kernels over the public calls of `hibitset` and `hibitset_store`, for a driver in Rust that measures them.
 //!
-//! Each makes its sets of the indices that it is given, does its work `times` times, and answers a sum of what came
+//! Each makes its sets of the indices that it is given, does its work `times` times, and returns a sum of what came
 //! out, by which the driver compares it with the same kernel over another crate. Nothing else is promised of the sum.
-//! Indices out of range are left out. Where memory is refused the sum is `u64::MAX`.
+//! Indices out of range are left out. If an allocation fails, the sum is `u64::MAX`.
 #![tactic(auto)]
 
 mod atomic;

@@ -1,7 +1,7 @@
 //! The shared set: what is timed of it, on one thread and on all processors.
 ghost use Rattle.std.specs.Prelude.{IfOk};
 ghost use Rattle.std.specs.Thread.{IsSync};
-ghost use Rattle.hibitset_atomic.specs.Seats.{Came};
+ghost use Rattle.hibitset_atomic.specs.Seats.{BelongsTo};
 
 use crate::clock::{median, nanoseconds};
 use crate::sets::{SEED, next};
@@ -50,8 +50,8 @@ type Times = [u64; 8];
 
 // The sum of what a walk over the shared set gives.
 fn shared_sum(set: &SharedBitSet, seat: &mut Seat) -> u64
-    requires { Came set.now seat.old }
-    ensures { Came set.now seat.new }
+    requires { BelongsTo set.now seat.old }
+    ensures { BelongsTo set.now seat.new }
 {
     let mut sum = 0u64;
     for id in set.walk(seat) {
@@ -71,8 +71,8 @@ fn settled_sum(set: &AtomicBitSet) -> u64 {
 
 // Adds each index.
 fn add_each(set: &SharedBitSet, seat: Seat, list: &[Index]) -> Done
-    requires { Came set.now seat }
-    ensures { Came set.now result.seat }
+    requires { BelongsTo set.now seat }
+    ensures { BelongsTo set.now result.seat }
 {
     let mut seat = seat;
     let mut falses = 0u64;
@@ -86,8 +86,8 @@ fn add_each(set: &SharedBitSet, seat: Seat, list: &[Index]) -> Done
 
 // Asks for each index.
 fn ask_each(set: &SharedBitSet, seat: Seat, list: &[Index]) -> Done
-    requires { Came set.now seat }
-    ensures { Came set.now result.seat }
+    requires { BelongsTo set.now seat }
+    ensures { BelongsTo set.now result.seat }
 {
     let mut seat = seat;
     let mut falses = 0u64;
@@ -101,8 +101,8 @@ fn ask_each(set: &SharedBitSet, seat: Seat, list: &[Index]) -> Done
 
 // Asks for all indices, one turn after another.
 fn ask_in_turns(set: &SharedBitSet, seat: Seat, list: &[Index]) -> Done
-    requires { Came set.now seat }
-    ensures { Came set.now result.seat }
+    requires { BelongsTo set.now seat }
+    ensures { BelongsTo set.now result.seat }
 {
     let mut seat = seat;
     let mut falses = 0u64;
@@ -116,8 +116,8 @@ fn ask_in_turns(set: &SharedBitSet, seat: Seat, list: &[Index]) -> Done
 
 // The work in the calling thread.
 fn alone(set: &SharedBitSet, seat: Seat, list: &[Index], work: Work) -> Done
-    requires { Came set.now seat }
-    ensures { Came set.now result.seat }
+    requires { BelongsTo set.now seat }
+    ensures { BelongsTo set.now result.seat }
 {
     match work {
         Work::Add => add_each(set, seat, list),
@@ -134,8 +134,8 @@ fn spread<R: Threads + Sync>(
     work: Work,
     threads: usize,
 ) -> Done
-    requires { Came set.now seat }
-    ensures { Came set.now result.seat }
+    requires { BelongsTo set.now seat }
+    ensures { BelongsTo set.now result.seat }
 {
     if threads < 2 {
         return alone(set, seat, list, work);
@@ -149,12 +149,12 @@ fn spread<R: Threads + Sync>(
     let at = (list.len() / threads).saturating_mul(half).min(list.len());
     let (low, high) = list.split_at(at);
     let front = move || -> Done
-        requires { IsSync R.row × Came set.now theirs }
-        ensures { Came set.entry.now result.seat }
+        requires { IsSync R.row × BelongsTo set.now theirs }
+        ensures { BelongsTo set.entry.now result.seat }
     { spread(rt, set, theirs, low, work, half) };
     let back = move || -> Done
-        requires { IsSync R.row × Came set.now mine }
-        ensures { Came set.entry.now result.seat }
+        requires { IsSync R.row × BelongsTo set.now mine }
+        ensures { BelongsTo set.entry.now result.seat }
     { spread(rt, set, mine, high, work, rest) };
     let (one, two) = thread::join(rt, front, back);
     Done {
@@ -173,8 +173,8 @@ fn timed<R: Clock + Threads + Sync>(
     threads: usize,
     falses: usize,
 ) -> anyhow::Result<(Seat, u64)>
-    requires { Came set.now seat }
-    ensures { IfOk result (λ r. Came set.now r.0) }
+    requires { BelongsTo set.now seat }
+    ensures { IfOk result (λ r. BelongsTo set.now r.0) }
 {
     let start = Instant::now(rt)?;
     let done = spread(rt, set, seat, list, work, threads);

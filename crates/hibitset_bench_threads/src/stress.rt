@@ -1,7 +1,7 @@
 //! Rounds of additions to shared sets from all processors, each compared with a plain set.
 ghost use Rattle.std.specs.Prelude.{◌<◌, IfOk, IfSome};
 ghost use Rattle.std.specs.Thread.{IsSync};
-ghost use Rattle.hibitset_atomic.specs.Seats.{Came};
+ghost use Rattle.hibitset_atomic.specs.Seats.{BelongsTo};
 
 use crate::sets::{SEED, next};
 use anyhow::bail;
@@ -103,8 +103,8 @@ impl Plan {
 
 // Divides the seat, or joins it where it is divided. The newer of two seats is the one that adds.
 fn turn(set: &SharedBitSet, hand: Hand) -> Hand
-    requires { Came set.now hand.seat × IfSome hand.spare (λ s. Came set.now s) }
-    ensures { Came set.now result.seat × IfSome result.spare (λ s. Came set.now s) }
+    requires { BelongsTo set.now hand.seat × IfSome hand.spare (λ s. BelongsTo set.now s) }
+    ensures { BelongsTo set.now result.seat × IfSome result.spare (λ s. BelongsTo set.now s) }
 {
     let Hand { seat, spare } = hand;
     if let Some(spare) = spare {
@@ -127,8 +127,8 @@ fn turn(set: &SharedBitSet, hand: Hand) -> Hand
 
 // One seat again.
 fn joined(set: &SharedBitSet, hand: Hand) -> Seat
-    requires { Came set.now hand.seat × IfSome hand.spare (λ s. Came set.now s) }
-    ensures { Came set.now result }
+    requires { BelongsTo set.now hand.seat × IfSome hand.spare (λ s. BelongsTo set.now s) }
+    ensures { BelongsTo set.now result }
 {
     let Hand { seat, spare } = hand;
     let Some(spare) = spare else {
@@ -169,8 +169,8 @@ impl Walks {
 
     // Walks over the shared set, while others add: the walk has to ascend, and to give all that the thread has added.
     fn walk(&mut self, set: &SharedBitSet, seat: &mut Seat) -> Result<(), AllocError>
-        requires { Came set.now seat.old }
-        ensures { Came set.now seat.new }
+        requires { BelongsTo set.now seat.old }
+        ensures { BelongsTo set.now seat.new }
     {
         let mut from = 0u32;
         let mut met = 0u64;
@@ -207,8 +207,8 @@ fn add_all(
     plan: Plan,
     thread: u32,
 ) -> Result<Done, AllocError>
-    requires { Came set.now seat }
-    ensures { IfOk result (λ done. Came set.now done.seat) }
+    requires { BelongsTo set.now seat }
+    ensures { IfOk result (λ done. BelongsTo set.now done.seat) }
 {
     let mut walks = Walks::new(alloc);
     let mut hand = Hand { seat, spare: None };
@@ -264,8 +264,8 @@ fn on_threads<R: Threads + Sync>(
     first: u32,
     count: u32,
 ) -> Result<Done, AllocError>
-    requires { Came set.now seat }
-    ensures { IfOk result (λ done. Came set.now done.seat) }
+    requires { BelongsTo set.now seat }
+    ensures { IfOk result (λ done. BelongsTo set.now done.seat) }
 {
     if count < 2 {
         meet(gate, all);
@@ -279,12 +279,12 @@ fn on_threads<R: Threads + Sync>(
     let rest = count - half;
     let middle = first.wrapping_add(half);
     let front = move || -> Result<Done, AllocError>
-        requires { IsSync R.row × Came set.now theirs }
-        ensures { IfOk result (λ done. Came set.entry.now done.seat) }
+        requires { IsSync R.row × BelongsTo set.now theirs }
+        ensures { IfOk result (λ done. BelongsTo set.entry.now done.seat) }
     { on_threads(rt, set, alloc, theirs, plan, gate, all, first, half) };
     let back = move || -> Result<Done, AllocError>
-        requires { IsSync R.row × Came set.now mine }
-        ensures { IfOk result (λ done. Came set.entry.now done.seat) }
+        requires { IsSync R.row × BelongsTo set.now mine }
+        ensures { IfOk result (λ done. BelongsTo set.entry.now done.seat) }
     { on_threads(rt, set, alloc, mine, plan, gate, all, middle, rest) };
     let (one, two) = thread::join(rt, front, back);
     let one = one?;

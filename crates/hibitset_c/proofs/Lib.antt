@@ -1,9 +1,9 @@
-mod Came
-mod Emptiness
-mod Handles
-mod KeptHandles
-mod Lengths
+mod BelongsToLemmas
+mod EmptinessLemmas
+mod HandleLemmas
+mod KeptHandleLemmas
+mod LengthLemmas
 mod ListLemmas
-mod NoMembers
-mod RawBoxes
-mod Streams
+mod NoMemberLemmas
+mod RawBoxLemmas
+mod StreamLemmas

@@ -4,7 +4,7 @@ use Rattle.std.specs.List.{All}
 use Rattle.std.proofs.lemmas.Bool.{or_cases, eqb-true}
 use Rattle.std.proofs.lemmas.List.{take_more, take-take, get_or-take, length-take-le}
 use Rattle.std.proofs.lemmas.List.Elements.{All-take, All-get_or, Contains-append_left, Contains-push, Contains-push_cases}
-use Rattle.hibitset_base.proofs.Building.{or_true}
+use Rattle.hibitset_base.proofs.ErrorLemmas.{or_true}
 use Rattle.hibitset_c.specs.List.{AddsFirst}
 
 pub adds_none : (list : List ℕ) (old : ℕ → Bool) → AddsFirst list 0 old old

@@ -1,6 +1,6 @@
 -- What a contract sees of an atomic set that C keeps.
 use Rattle.std.specs.Prelude.{◌≡◌, ℕ, ◌/◌, Bool, true, false, Option, None, Some}
-use Rattle.hibitset_atomic.specs.AtomicBitSet.{has as atomic_has, topped_word, LacksBlock as LacksItsBlock, HasAllRoom as HasRoomForAll}
+use Rattle.hibitset_atomic.specs.AtomicBitSet.{has as atomic_has, topped_word, NeedsAllocation as LacksItsBlock, AllBlocksReserved as HasRoomForAll}
 use Rattle.hibitset_c.specs.declared.atomic_set.AtomicSet.{AtomicSet}
 use Rattle.hibitset_c.specs.declared.kept.Kept.{Kept}
 use Rattle.hibitset_c.specs.declared.kept.Kept.TheVariants.{Alone, Seated, Nothing}
@@ -16,8 +16,8 @@ abbrev pub has : AtomicSet → ℕ → Bool
 has set = has_in set.handle.kept
 
 -- some member lies in the same 4,096 indices
-abbrev pub HasNear : AtomicSet → ℕ → Type 0
-HasNear set i = (j : ℕ) × (j / 4096 ≡ i / 4096) × (has set j ≡ true)
+abbrev pub SharesBlockWithMember : AtomicSet → ℕ → Type 0
+SharesBlockWithMember set i = (j : ℕ) × (j / 4096 ≡ i / 4096) × (has set j ≡ true)
 
 abbrev pub word_in : Option Kept → ℕ → ℕ → ℕ
 word_in None l p = 0
@@ -36,8 +36,8 @@ LacksBlockIn (Some (Seated m)) i = Unit {0}
 LacksBlockIn (Some Nothing) i = Unit {0}
 
 -- The block of 4,096 indices that has the number is not made, so that an addition there needs memory.
-abbrev pub LacksBlock : AtomicSet → ℕ → Type 0
-LacksBlock set = LacksBlockIn set.handle.kept
+abbrev pub NeedsAllocation : AtomicSet → ℕ → Type 0
+NeedsAllocation set = LacksBlockIn set.handle.kept
 
 abbrev pub HasAllRoomIn : Option Kept → Type 0
 HasAllRoomIn None = ⊥
@@ -46,8 +46,8 @@ HasAllRoomIn (Some (Seated m)) = ⊥
 HasAllRoomIn (Some Nothing) = ⊥
 
 -- No addition needs memory.
-abbrev pub HasAllRoom : AtomicSet → Type 0
-HasAllRoom set = HasAllRoomIn set.handle.kept
+abbrev pub AllBlocksReserved : AtomicSet → Type 0
+AllBlocksReserved set = HasAllRoomIn set.handle.kept
 
 -- there is no set, and so no block of memory
 abbrev pub OwnsNoMemory : AtomicSet → Type 0

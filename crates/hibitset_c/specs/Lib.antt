@@ -1,9 +1,9 @@
 pub mod Atomic
 pub mod Buffer
 pub mod Handle
-pub mod Kept
-pub mod KeptLending
-pub mod Lending
+pub mod KeptSet
+pub mod KeptLoan
+pub mod SetLoan
 pub mod List
 pub mod Member
 pub mod Roaring

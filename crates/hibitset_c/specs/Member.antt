@@ -1,10 +1,10 @@
 -- What a contract sees of a seat beside its set.
 use Rattle.std.specs.Prelude.{◌≡◌, ◌⊎◌, ℕ, ◌-◌, ◌/◌, Bool, true, [], Contains}
-use Rattle.hibitset_atomic.specs.AtomicBitSet.{has as atomic_has, HasAllRoom}
-use Rattle.hibitset_atomic.specs.Seats.{IsOld, Known, weight_of, reports_of, HasAllReports}
-use Rattle.hibitset_atomic.specs.declared.shared.parts.Seat.{Seat}
-use Rattle.hibitset_atomic.specs.declared.shared.parts.SharedBitSet.{SharedBitSet}
-use Rattle.hibitset_atomic.specs.declared.shared.sizes.TheConstants.{SHARES}
+use Rattle.hibitset_atomic.specs.AtomicBitSet.{has as atomic_has, AllBlocksReserved}
+use Rattle.hibitset_atomic.specs.Seats.{IsOld, IsKnown, weight_of, reports_of, HasAllReports}
+use Rattle.hibitset_atomic.specs.declared.shared.types.Seat.{Seat}
+use Rattle.hibitset_atomic.specs.declared.shared.types.SharedBitSet.{SharedBitSet}
+use Rattle.hibitset_atomic.specs.declared.shared.layout.TheConstants.{SHARES}
 use Rattle.hibitset_c.specs.Shared.{set_of}
 use Rattle.hibitset_c.specs.declared.member.Member.{Member}
 use Rattle.hibitset_c.specs.declared.member.Divided.{Divided}
@@ -16,7 +16,7 @@ use Rattle.hibitset_c.specs.declared.member.Settled.TheVariants.{Alone, Shared a
 pub record Keeps (old new : Member) : Type 0 where
   pub set : set_of new.set ≡ set_of old.set
   pub weight : weight_of new.seat ≡ weight_of old.seat
-  pub known : (i : ℕ) → Known old.seat i → Known new.seat i
+  pub known : (i : ℕ) → IsKnown old.seat i → IsKnown new.seat i
 
 -- It is the same seat of the same set.
 pub record IsSame (old new : Member) : Type 0 where
@@ -28,7 +28,7 @@ pub record AreHalves (old first second : Member) : Type 0 where
   pub sets : (set_of first.set ≡ set_of old.set) × (set_of second.set ≡ set_of old.set)
   pub weights : (weight_of first.seat ≡ weight_of old.seat - weight_of old.seat / 2) × (weight_of second.seat ≡ weight_of old.seat / 2)
   pub reports : (reports_of first.seat ≡ reports_of old.seat) × (reports_of second.seat ≡ [])
-  pub known : (i : ℕ) → Known old.seat i → Known first.seat i × Known second.seat i
+  pub known : (i : ℕ) → IsKnown old.seat i → IsKnown first.seat i × IsKnown second.seat i
 
 abbrev pub DividesTo : Member → Divided → Type 0
 DividesTo old (Two first second) = AreHalves old first second
@@ -38,12 +38,12 @@ DividesTo old (NoMemoryToDivide m) = IsSame old m
 -- The set has exactly the old indices and those that some seat reported; with a whole seat, its own.
 pub record EndsAs (set : SharedBitSet) (seat : Seat) (members : ℕ → Bool) : Type 0 where
   pub old : (i : ℕ) → IsOld set i → members i ≡ true
-  pub known : (i : ℕ) → Known seat i → members i ≡ true
+  pub known : (i : ℕ) → IsKnown seat i → members i ≡ true
   pub reported : (i : ℕ) → Contains (reports_of seat) i → members i ≡ true
   pub all : HasAllReports set seat members
   pub whole : weight_of seat ≡ SHARES → (i : ℕ) → members i ≡ true → IsOld set i ⊎ Contains (reports_of seat) i
 
 abbrev pub SettlesTo : Member → Settled → Type 0
-SettlesTo old (Alone set) = EndsAs (set_of old.set) old.seat (atomic_has set) × HasAllRoom set
+SettlesTo old (Alone set) = EndsAs (set_of old.set) old.seat (atomic_has set) × AllBlocksReserved set
 SettlesTo old (SharedStill m) = IsSame old m
 SettlesTo old (NoMemoryToSettle m) = IsSame old m

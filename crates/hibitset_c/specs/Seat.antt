@@ -1,8 +1,8 @@
 -- What a contract sees of a seat that C keeps.
 use Rattle.std.specs.Prelude.{◌≡◌, ℕ, ◌-◌, ◌/◌, Bool, List, [], Option, None, Some, is_some}
-use Rattle.hibitset_atomic.specs.Seats.{IsOld as IsOldOf, Known as KnownTo, weight_of as weight, reports_of as reports, loads_by as loads, exchanges_by as exchanges}
-use Rattle.hibitset_atomic.specs.declared.shared.parts.Seat.{Seat}
-use Rattle.hibitset_atomic.specs.declared.shared.parts.SharedBitSet.{SharedBitSet}
+use Rattle.hibitset_atomic.specs.Seats.{IsOld as IsOldOf, IsKnown as KnownTo, weight_of as weight, reports_of as reports, loads_by as loads, exchanges_by as exchanges}
+use Rattle.hibitset_atomic.specs.declared.shared.types.Seat.{Seat}
+use Rattle.hibitset_atomic.specs.declared.shared.types.SharedBitSet.{SharedBitSet}
 use Rattle.hibitset_c.specs.Shared.{set_of as set_in}
 use Rattle.hibitset_c.specs.declared.held_seat.HeldSeat.{HeldSeat}
 use Rattle.hibitset_c.specs.declared.kept.Kept.{Kept}
@@ -46,8 +46,8 @@ abbrev pub IsOld : HeldSeat → ℕ → Type 0
 IsOld h i = Holds h (λ set seat. IsOldOf set i)
 
 -- the seat has seen all four bits of the index set
-abbrev pub Known : HeldSeat → ℕ → Type 0
-Known h i = Holds h (λ set seat. KnownTo seat i)
+abbrev pub IsKnown : HeldSeat → ℕ → Type 0
+IsKnown h i = Holds h (λ set seat. KnownTo seat i)
 
 abbrev pub weight_at : Option Seat → ℕ
 weight_at None = 0
@@ -84,7 +84,7 @@ exchanges_by h = exchanges_at (seat_of h)
 pub record Keeps (old new : HeldSeat) : Type 0 where
   pub set : set_of new ≡ set_of old
   pub weight : weight_of new ≡ weight_of old
-  pub known : (i : ℕ) → Known old i → Known new i
+  pub known : (i : ℕ) → IsKnown old i → IsKnown new i
 
 -- It is the same seat of the same set, or none still.
 pub record IsSame (old new : HeldSeat) : Type 0 where
@@ -96,4 +96,4 @@ pub record AreHalves (old first second : HeldSeat) : Type 0 where
   pub sets : (set_of first ≡ set_of old) × (set_of second ≡ set_of old)
   pub weights : (weight_of first ≡ weight_of old - weight_of old / 2) × (weight_of second ≡ weight_of old / 2)
   pub reports : (reports_of first ≡ reports_of old) × (reports_of second ≡ [])
-  pub known : (i : ℕ) → Known old i → Known first i × Known second i
+  pub known : (i : ℕ) → IsKnown old i → IsKnown first i × IsKnown second i

@@ -1,7 +1,7 @@
 -- What a contract sees of a set that C lends.
 use Rattle.std.specs.Prelude.{ℕ, Bool, List}
 use Rattle.hibitset_base.specs.Sets.{IsLawful}
-use Rattle.hibitset_base.specs.Stored.{summed_lawful}
+use Rattle.hibitset_base.specs.StoredWords.{summed_lawful}
 use Rattle.hibitset_base.specs.Words.{word_at, holds_at}
 use Rattle.hibitset_base.specs.declared.util.TheConstants.{LAYERS}
 use Rattle.hibitset.specs.Layers.{piled}

@@ -1,6 +1,6 @@
 -- What a contract sees of a shared set, as a seat keeps it.
 use Rattle.std.specs.Arc.{arc_value}
-use Rattle.hibitset_atomic.specs.declared.shared.parts.SharedBitSet.{SharedBitSet}
+use Rattle.hibitset_atomic.specs.declared.shared.types.SharedBitSet.{SharedBitSet}
 use Rattle.hibitset_c.specs.declared.shared.Shared.{Shared}
 use Rattle.hibitset_c.specs.declared.shared.Shared.TheVariants.{Sole, Common}
 

@@ -6,7 +6,7 @@ ghost use Rattle.hibitset_base.specs.First.{HasNone, IsFirst, IsLast};
 ghost use Rattle.hibitset_base.specs.Members.{members, members_below};
 ghost use Rattle.hibitset_base.specs.declared.util.TheConstants.{LAYERS, MAX_EID};
 ghost use Rattle.hibitset_atomic.specs.declared.atomic.TheConstants.{ATOMIC_MAX_EID};
-ghost use Rattle.hibitset_c.specs.Atomic.{has, word_of, HasNear, LacksBlock, HasAllRoom, OwnsNoMemory, IsSame};
+ghost use Rattle.hibitset_c.specs.Atomic.{has, word_of, SharesBlockWithMember, NeedsAllocation, AllBlocksReserved, OwnsNoMemory, IsSame};
 ghost use Rattle.hibitset_c.specs.Buffer.{Fills};
 ghost use Rattle.hibitset_c.specs.declared.status.TheConstants.{OK, PRESENT, NO_MEMORY, OUT_OF_RANGE};
 
@@ -37,12 +37,14 @@ pub extern "C" fn hibitset_atomic_add(alloc: Global, set: &mut AtomicSet, index:
     ensures status { result ≤ OUT_OF_RANGE }
 
     // When a block has to be allocated, and which are made.
-    ensures near { HasNear set.old index → result ≢ NO_MEMORY }
-    ensures lacking { result ≡ NO_MEMORY → LacksBlock set.old index }
-    ensures room { HasAllRoom set.old → result ≢ NO_MEMORY × HasAllRoom set.new }
-    ensures keeps { (i : ℕ) → LacksBlock set.new i → LacksBlock set.old i }
-    ensures most { (i : ℕ) → i / 4096 ≢ index / 4096 → LacksBlock set.old i → LacksBlock set.new i }
-    ensures stays { PRESENT < result → (i : ℕ) → LacksBlock set.old i → LacksBlock set.new i }
+    ensures near { SharesBlockWithMember set.old index → result ≢ NO_MEMORY }
+    ensures lacking { result ≡ NO_MEMORY → NeedsAllocation set.old index }
+    ensures room { AllBlocksReserved set.old → result ≢ NO_MEMORY × AllBlocksReserved set.new }
+    ensures keeps { (i : ℕ) → NeedsAllocation set.new i → NeedsAllocation set.old i }
+    ensures most { (i : ℕ) → i / 4096 ≢ index / 4096 → NeedsAllocation set.old i
+        → NeedsAllocation set.new i }
+    ensures stays { PRESENT < result → (i : ℕ) → NeedsAllocation set.old i
+        → NeedsAllocation set.new i }
 {
     if index as usize >= ATOMIC_MAX_EID {
         return OUT_OF_RANGE;
@@ -64,8 +66,8 @@ pub extern "C" fn hibitset_atomic_add(alloc: Global, set: &mut AtomicSet, index:
 pub extern "C" fn hibitset_atomic_remove(set: &mut AtomicSet, index: u32) -> bool
     ensures was_member { result ≡ has set.old index }
     ensures removed { (i : ℕ) → has set.new i ≡ (has set.old i && not (i == index)) }
-    ensures blocks { (i : ℕ) → LacksBlock set.new i ↔ LacksBlock set.old i }
-    ensures room { HasAllRoom set.old → HasAllRoom set.new }
+    ensures blocks { (i : ℕ) → NeedsAllocation set.new i ↔ NeedsAllocation set.old i }
+    ensures room { AllBlocksReserved set.old → AllBlocksReserved set.new }
 {
     if !set.made {
         return false;
@@ -95,8 +97,8 @@ pub extern "C" fn hibitset_atomic_contains(set: &mut AtomicSet, index: u32) -> b
 #[unsafe(no_mangle)]
 pub extern "C" fn hibitset_atomic_clear(set: &mut AtomicSet)
     ensures empty { (i : ℕ) → has set.new i ≡ false }
-    ensures blocks { (i : ℕ) → LacksBlock set.new i ↔ LacksBlock set.old i }
-    ensures room { HasAllRoom set.old → HasAllRoom set.new }
+    ensures blocks { (i : ℕ) → NeedsAllocation set.new i ↔ NeedsAllocation set.old i }
+    ensures room { AllBlocksReserved set.old → AllBlocksReserved set.new }
 {
     if set.made {
         let Kept::Alone(members) = set.handle.as_mut() else {
@@ -107,7 +109,7 @@ pub extern "C" fn hibitset_atomic_clear(set: &mut AtomicSet)
 }
 
 /// Returns how many members there are.
-#[tactic(auto, using(crate::proofs::Emptiness::len_none_at))]
+#[tactic(auto, using(crate::proofs::EmptinessLemmas::len_none_at))]
 #[unsafe(no_mangle)]
 pub extern "C" fn hibitset_atomic_len(set: &mut AtomicSet) -> usize
     ensures answer { result ≡ length (members_below MAX_EID (has set.old)) }
@@ -123,7 +125,7 @@ pub extern "C" fn hibitset_atomic_len(set: &mut AtomicSet) -> usize
 }
 
 /// Returns whether there is no member.
-#[tactic(auto, using(crate::proofs::Emptiness::none_at))]
+#[tactic(auto, using(crate::proofs::EmptinessLemmas::none_at))]
 #[unsafe(no_mangle)]
 pub extern "C" fn hibitset_atomic_is_empty(set: &mut AtomicSet) -> bool
     ensures answer { IsTrue result ↔ (members_below MAX_EID (has set.old) ≡ []) }
@@ -186,14 +188,15 @@ pub extern "C" fn hibitset_atomic_last(set: &mut AtomicSet, index: &mut u32) -> 
 
 /// Writes the members from `start` on into the buffer, ascending, until it is full or there are no more. Returns how
 /// many.
-#[tactic(auto, using(crate::proofs::Emptiness::fills_none_at))]
+#[tactic(auto, using(crate::proofs::EmptinessLemmas::fills_none_at))]
 #[unsafe(no_mangle)]
 pub extern "C" fn hibitset_atomic_next_many(
     set: &mut AtomicSet,
     start: u32,
     buffer: &mut [u32],
 ) -> usize
-    ensures answer { Fills (members (has set.old) start (MAX_EID - start)) buffer.old result buffer.new }
+    ensures answer { Fills (members (has set.old) start (MAX_EID - start)) buffer.old result
+        buffer.new }
     ensures same { IsSame set.old set.new }
 {
     if !set.made {

@@ -2,7 +2,7 @@
 #![tactic(auto)]
 
 ghost use Rattle.std.specs.Prelude.{◌≡◌, is_some};
-ghost use Rattle.hibitset_c.specs.Kept.{is_alone_at};
+ghost use Rattle.hibitset_c.specs.KeptSet.{is_alone_at};
 
 use crate::kept::Kept;
 use crate::kept_handle::KeptHandle;
@@ -26,8 +26,8 @@ pub struct AtomicSet {
 
 impl AtomicSet {
     ghost use Rattle.std.specs.Prelude.{◌↔◌, ℕ, true, false, Some};
-    ghost use Rattle.hibitset_c.specs.Atomic.{has, LacksBlock, HasAllRoom, OwnsNoMemory};
-    ghost use Rattle.hibitset_c.specs.Kept.{is_alone};
+    ghost use Rattle.hibitset_c.specs.Atomic.{has, NeedsAllocation, AllBlocksReserved, OwnsNoMemory};
+    ghost use Rattle.hibitset_c.specs.KeptSet.{is_alone};
 
     // Makes an empty set where there is none.
     #[inline(never)]
@@ -35,7 +35,7 @@ impl AtomicSet {
         requires { self.old.made ≡ false }
         ensures made { self.new.made ≡ result }
         ensures members { (i : ℕ) → has self.new i ≡ false }
-        ensures lacks { (i : ℕ) → LacksBlock self.new i }
+        ensures lacks { (i : ℕ) → NeedsAllocation self.new i }
     {
         let Ok(set) = AtomicBitSet::new(alloc) else {
             return false;
@@ -55,9 +55,9 @@ impl AtomicSet {
     pub(crate) fn make(&mut self, alloc: Global) -> bool
         ensures made { self.new.made ≡ result }
         ensures members { (i : ℕ) → has self.new i ≡ has self.old i }
-        ensures blocks { (i : ℕ) → LacksBlock self.new i ↔ LacksBlock self.old i }
-        ensures room { HasAllRoom self.old → (result ≡ true) × HasAllRoom self.new }
-        ensures err { result ≡ false → (i : ℕ) → LacksBlock self.old i }
+        ensures blocks { (i : ℕ) → NeedsAllocation self.new i ↔ NeedsAllocation self.old i }
+        ensures room { AllBlocksReserved self.old → (result ≡ true) × AllBlocksReserved self.new }
+        ensures err { result ≡ false → (i : ℕ) → NeedsAllocation self.old i }
         ensures empty { result ≡ false → (i : ℕ) → has self.old i ≡ false }
     {
         self.made || self.make_first(alloc)

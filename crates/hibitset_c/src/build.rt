@@ -4,7 +4,7 @@
 ghost use Rattle.std.specs.Prelude.{◌≡◌, ◌≢◌, ◌⊎◌, ◌↔◌, ℕ, ◌+◌, ◌-◌, ◌/◌, ◌^◌, ◌<◌, ◌≤◌, false, length, All, take};
 ghost use Rattle.hibitset_base.specs.declared.util.TheConstants.{LAYERS, MAX_EID};
 ghost use Rattle.hibitset.specs.BitSet.{has as bits_have, slice_len};
-ghost use Rattle.hibitset.specs.Numbers.{stands_in};
+ghost use Rattle.hibitset.specs.WordBits.{stands_in};
 ghost use Rattle.hibitset_c.specs.List.{AddsFirst, StopsAt};
 ghost use Rattle.hibitset_c.specs.Seen.{has as other_has};
 ghost use Rattle.hibitset_c.specs.Set.{has, layer0_len};
@@ -100,10 +100,12 @@ fn add_list(set: &mut BitSet, list: &[Index]) -> (usize, u32)
     ensures in_range { All (λ i. i < MAX_EID) (take result.0 list.now) }
     ensures all { result.1 ≡ OK → result.0 ≡ length list.now }
     ensures range { result.1 ≡ OUT_OF_RANGE → StopsAt list.now result.0 (λ i. MAX_EID ≤ i) }
-    ensures memory { result.1 ≡ NO_MEMORY → StopsAt list.now result.0 (λ i. (i < MAX_EID) × (slice_len set.new 0 ≤ i / 64)) }
+    ensures memory { result.1 ≡ NO_MEMORY
+        → StopsAt list.now result.0 (λ i. (i < MAX_EID) × (slice_len set.new 0 ≤ i / 64)) }
     ensures status { (result.1 ≡ OK) ⊎ (NO_MEMORY ≤ result.1) × (result.1 ≤ OUT_OF_RANGE) }
     ensures len_min { slice_len set.old 0 ≤ slice_len set.new 0 }
-    ensures len_max { (end : ℕ) → slice_len set.old 0 ≤ end → All (λ i. i / 64 < end) (take result.0 list.now) → slice_len set.new 0 ≤ end }
+    ensures len_max { (end : ℕ) → slice_len set.old 0 ≤ end
+        → All (λ i. i / 64 < end) (take result.0 list.now) → slice_len set.new 0 ≤ end }
 {
     let mut count = 0;
     while count < list.len() {
@@ -132,10 +134,12 @@ pub extern "C" fn hibitset_add_many(
     ensures in_range { All (λ i. i < MAX_EID) (take added.new indices.now) }
     ensures all { result ≡ OK → added.new ≡ length indices.now }
     ensures range { result ≡ OUT_OF_RANGE → StopsAt indices.now added.new (λ i. MAX_EID ≤ i) }
-    ensures memory { result ≡ NO_MEMORY → StopsAt indices.now added.new (λ i. (i < MAX_EID) × (layer0_len set.new ≤ i / 64)) }
+    ensures memory { result ≡ NO_MEMORY
+        → StopsAt indices.now added.new (λ i. (i < MAX_EID) × (layer0_len set.new ≤ i / 64)) }
     ensures status { (result ≡ OK) ⊎ (NO_MEMORY ≤ result) × (result ≤ OUT_OF_RANGE) }
     ensures len_min { layer0_len set.old ≤ layer0_len set.new }
-    ensures len_max { (end : ℕ) → layer0_len set.old ≤ end → All (λ i. i / 64 < end) (take added.new indices.now) → layer0_len set.new ≤ end }
+    ensures len_max { (end : ℕ) → layer0_len set.old ≤ end
+        → All (λ i. i / 64 < end) (take added.new indices.now) → layer0_len set.new ≤ end }
 {
     *added = 0;
     if indices.is_empty() {

@@ -2,10 +2,10 @@
 #![tactic(auto)]
 
 ghost use Rattle.std.specs.Prelude.{◌≡◌, ◌≢◌, ◌⊎◌, ◌↔◌, ℕ, ◌+◌, ◌-◌, ◌*◌, ◌/◌, ◌<◌, ◌≤◌, ◌==◌, ◌||◌, ◌&&◌, not, true, false, max};
-ghost use Rattle.hibitset_base.specs.Connectives.{is_member, IsDifference, IsExclusive, IsIntersection, IsUnion};
+ghost use Rattle.hibitset_base.specs.Connectives.{is_member, IsDifference, IsSymmetricDifference, IsIntersection, IsUnion};
 ghost use Rattle.hibitset_base.specs.declared.util.TheConstants.{MAX_EID};
-ghost use Rattle.hibitset.specs.Merging.{NoWordsFrom};
-ghost use Rattle.hibitset.specs.Numbers.{in_range};
+ghost use Rattle.hibitset.specs.Merge.{NoWordsFrom};
+ghost use Rattle.hibitset.specs.WordBits.{in_range};
 ghost use Rattle.hibitset_c.specs.Seen.{has as other_has, word_of as other_word};
 ghost use Rattle.hibitset_c.specs.Set.{has, layer0_len, OwnsNoMemory};
 ghost use Rattle.hibitset_c.specs.declared.status.TheConstants.{OK, PRESENT, NO_MEMORY, OUT_OF_RANGE};
@@ -133,7 +133,8 @@ pub extern "C" fn hibitset_free(alloc: Global, set: &mut Set)
 #[unsafe(no_mangle)]
 pub extern "C" fn hibitset_add_range(alloc: Global, set: &mut Set, start: u32, end: u32) -> u32
     ensures range { (result ≡ OUT_OF_RANGE) ↔ (MAX_EID < end) }
-    ensures added { result ≡ OK → (i : ℕ) → has set.new i ≡ (has set.old i || in_range start end i) }
+    ensures added { result ≡ OK → (i : ℕ)
+        → has set.new i ≡ (has set.old i || in_range start end i) }
     ensures err { result ≢ OK → (i : ℕ) → has set.new i ≡ has set.old i }
     ensures status { (result ≡ OK) ⊎ (NO_MEMORY ≤ result) × (result ≤ OUT_OF_RANGE) }
 
@@ -204,14 +205,16 @@ pub extern "C" fn hibitset_raw_andnot_assign(set: &mut Set, other: &Seen<'_>)
 /// Adds the members of the other set.
 #[unsafe(no_mangle)]
 pub extern "C" fn hibitset_raw_or_assign(alloc: Global, set: &mut Set, other: &Seen<'_>) -> u32
-    ensures members { result ≡ OK → IsUnion (has set.old) (is_member (other_has other.now)) (has set.new) }
+    ensures members { result ≡ OK → IsUnion (has set.old) (is_member (other_has other.now))
+        (has set.new) }
     ensures err { result ≢ OK → (i : ℕ) → has set.new i ≡ has set.old i }
     ensures status { (result ≡ OK) ⊎ (result ≡ NO_MEMORY) }
 
     // How many words there are, and when none has to be allocated.
     ensures succeeds { NoWordsFrom (other_word other.now) (layer0_len set.old) → result ≡ OK }
     ensures len_min { layer0_len set.old ≤ layer0_len set.new }
-    ensures len_max { (end : ℕ) → layer0_len set.old ≤ end → NoWordsFrom (other_word other.now) end → layer0_len set.new ≤ end }
+    ensures len_max { (end : ℕ) → layer0_len set.old ≤ end → NoWordsFrom (other_word other.now) end
+        → layer0_len set.new ≤ end }
     ensures err_len { result ≢ OK → layer0_len set.new ≡ layer0_len set.old }
 {
     if other.is_empty() {
@@ -232,14 +235,16 @@ pub extern "C" fn hibitset_raw_or_assign(alloc: Global, set: &mut Set, other: &S
 /// Adds the members of the other set that this one lacks, and removes those that both have.
 #[unsafe(no_mangle)]
 pub extern "C" fn hibitset_raw_xor_assign(alloc: Global, set: &mut Set, other: &Seen<'_>) -> u32
-    ensures members { result ≡ OK → IsExclusive (has set.old) (is_member (other_has other.now)) (has set.new) }
+    ensures members { result ≡ OK → IsSymmetricDifference (has set.old)
+        (is_member (other_has other.now)) (has set.new) }
     ensures err { result ≢ OK → (i : ℕ) → has set.new i ≡ has set.old i }
     ensures status { (result ≡ OK) ⊎ (result ≡ NO_MEMORY) }
 
     // How many words there are, and when none has to be allocated.
     ensures succeeds { NoWordsFrom (other_word other.now) (layer0_len set.old) → result ≡ OK }
     ensures len_min { layer0_len set.old ≤ layer0_len set.new }
-    ensures len_max { (end : ℕ) → layer0_len set.old ≤ end → NoWordsFrom (other_word other.now) end → layer0_len set.new ≤ end }
+    ensures len_max { (end : ℕ) → layer0_len set.old ≤ end → NoWordsFrom (other_word other.now) end
+        → layer0_len set.new ≤ end }
     ensures err_len { result ≢ OK → layer0_len set.new ≡ layer0_len set.old }
 {
     if other.is_empty() {

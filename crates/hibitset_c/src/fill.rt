@@ -25,7 +25,8 @@ pub(crate) fn fill<T: BitSetLike>(set: T, start: Index, buffer: &mut [Index]) ->
 // Writes the members before `end`, descending, until the buffer is full or there are no more. Returns how many.
 #[inline]
 pub(crate) fn fill_back<T: BitSetLike>(set: T, end: Index, buffer: &mut [Index]) -> usize
-    ensures { Fills (reverse (members_below (min end MAX_EID) (T.holds set))) buffer.old result buffer.new }
+    ensures { Fills (reverse (members_below (min end MAX_EID) (T.holds set))) buffer.old result
+        buffer.new }
 {
     let mut count = 0;
     for index in set.iter_rev_before(end) {

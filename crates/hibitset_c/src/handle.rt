@@ -26,7 +26,7 @@ impl Model for Handle {
 unsafe impl Send for Handle {}
 
 impl Handle {
-    ghost use Rattle.hibitset_c.specs.Lending.{LendsSet};
+    ghost use Rattle.hibitset_c.specs.SetLoan.{LendsSet};
 
     // Takes the set out.
     pub(crate) fn take(&mut self, alloc: Global) -> RawBox<BitSet, Global>

@@ -2,7 +2,7 @@
 #![tactic(auto)]
 
 ghost use Rattle.std.specs.Prelude.{◌≡◌, is_some};
-ghost use Rattle.hibitset_c.specs.Kept.{is_seated_at};
+ghost use Rattle.hibitset_c.specs.KeptSet.{is_seated_at};
 
 use crate::kept::Kept;
 use crate::kept_handle::KeptHandle;
@@ -25,7 +25,7 @@ pub struct HeldSeat {
 
 impl HeldSeat {
     ghost use Rattle.std.specs.Prelude.{true, None, Some};
-    ghost use Rattle.hibitset_c.specs.Kept.{is_seated};
+    ghost use Rattle.hibitset_c.specs.KeptSet.{is_seated};
 
     // Takes the seat out.
     pub(crate) fn take(&mut self, alloc: Global) -> Box<Kept, Global>

@@ -18,7 +18,7 @@ pub enum Kept {
 
 impl Kept {
     ghost use Rattle.std.specs.Prelude.{◌≡◌, ◌≢◌, ◌⊎◌, true, false};
-    ghost use Rattle.hibitset_c.specs.Kept.{is_alone, is_seated, Opens, Halves, HasOneShare, KeepsAll, Settles, IsSameSeat};
+    ghost use Rattle.hibitset_c.specs.KeptSet.{is_alone, is_seated, Opens, Halves, HasOneShare, KeepsAll, Settles, IsSameSeat};
     ghost use Rattle.hibitset_c.specs.declared.status.TheConstants.{OK, NO_MEMORY, SHARED, ONE_SHARE};
 
     // Shares the set. Returns false if an allocation failed.

@@ -26,7 +26,7 @@ impl Model for KeptHandle {
 unsafe impl Send for KeptHandle {}
 
 impl KeptHandle {
-    ghost use Rattle.hibitset_c.specs.KeptLending.{LendsKept};
+    ghost use Rattle.hibitset_c.specs.KeptLoan.{LendsKept};
 
     // Takes out what is kept.
     pub(crate) fn take(&mut self, alloc: Global) -> RawBox<Kept, Global>

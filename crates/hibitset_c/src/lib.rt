@@ -4,7 +4,7 @@
 //!
 //! C keeps each set in a struct of its own. A call that changes a set takes it as a `Set`, by `&mut`; a call that reads
 //! one takes the same bytes as a `Seen`, by `&`. A `Seen` is slices alone and owns nothing, so any number of threads
-//! may read a set at once. The empty set takes no memory.
+//! may read a set at once. The empty set does not allocate.
 //!
 //! An atomic set, and a seat of a shared one, are one pointer each in a struct of C's. Each call takes it by `&mut`,
 //! and the seats of one set own the set together.

@@ -1,7 +1,7 @@
 //! A seat beside the set that it came from.
 #![tactic(auto)]
 
-ghost use Rattle.hibitset_atomic.specs.Seats.{Came};
+ghost use Rattle.hibitset_atomic.specs.Seats.{BelongsTo};
 ghost use Rattle.hibitset_c.specs.Shared.{set_of};
 
 use crate::collect::collect;
@@ -14,7 +14,7 @@ use std::alloc::Global;
 pub struct Member {
     pub(crate) set: Shared,
     pub(crate) seat: Seat,
-    ghost came: { ∥ Came (set_of set) seat ∥₁ },
+    ghost came: { ∥ BelongsTo (set_of set) seat ∥₁ },
 }
 
 /// What comes of a seat that is divided.
@@ -38,14 +38,14 @@ pub(crate) enum Settled {
 impl Member {
     ghost use Rattle.std.specs.Prelude.{◌≡◌, ◌≢◌, ◌⊎◌, ℕ, ◌+◌, ◌<◌, ◌≤◌, ◌∷◌, true, false, Contains};
     ghost use Rattle.hibitset.specs.BitSet.{has as bits_have};
-    ghost use Rattle.hibitset_atomic.specs.Seats.{IsOld, Known, weight_of, reports_of, loads_by, exchanges_by};
+    ghost use Rattle.hibitset_atomic.specs.Seats.{IsOld, IsKnown, weight_of, reports_of, loads_by, exchanges_by};
     ghost use Rattle.hibitset_atomic.specs.declared.atomic.TheConstants.{ATOMIC_MAX_EID};
-    ghost use Rattle.hibitset_atomic.specs.declared.shared.sizes.TheConstants.{SHARES};
+    ghost use Rattle.hibitset_atomic.specs.declared.shared.layout.TheConstants.{SHARES};
     ghost use Rattle.hibitset_c.specs.Member.{Keeps, DividesTo, SettlesTo};
 
     // A shared set with its first seat.
     pub(crate) fn new(set: SharedBitSet, seat: Seat) -> Member
-        requires { Came set seat }
+        requires { BelongsTo set seat }
         ensures { (set_of result.set ≡ set) × (result.seat ≡ seat) }
     {
         Member {
@@ -55,37 +55,42 @@ impl Member {
     }
 
     // Adds an index. Returns whether it was there.
-    #[tactic(auto, using(crate::proofs::Came::came_at))]
+    #[tactic(auto, using(crate::proofs::BelongsToLemmas::came_at))]
     #[inline]
     pub(crate) fn add(&mut self, index: Index) -> bool
         requires { index < ATOMIC_MAX_EID }
         ensures keeps { Keeps self.old self.new }
-        ensures known { Known self.new.seat index }
+        ensures known { IsKnown self.new.seat index }
         ensures there { result ≡ true → reports_of self.new.seat ≡ reports_of self.old.seat }
-        ensures new { result ≡ false → (reports_of self.new.seat ≡ index ∷ reports_of self.old.seat) × ¬ IsOld (set_of self.old.set) index × ¬ Known self.old.seat index }
+        ensures new { result ≡ false → (reports_of self.new.seat ≡ index ∷ reports_of self.old.seat)
+            × ¬ IsOld (set_of self.old.set) index × ¬ IsKnown self.old.seat index }
         ensures once { result ≡ false → ¬ Contains (reports_of self.old.seat) index }
         ensures loads { loads_by self.new.seat ≤ loads_by self.old.seat + 7 }
         ensures exchanges { exchanges_by self.new.seat ≤ exchanges_by self.old.seat + 4 }
-        ensures still { IsOld (set_of self.old.set) index ⊎ Known self.old.seat index → (loads_by self.new.seat ≤ loads_by self.old.seat + 4) × (exchanges_by self.new.seat ≡ exchanges_by self.old.seat) }
+        ensures still { IsOld (set_of self.old.set) index ⊎ IsKnown self.old.seat index
+            → (loads_by self.new.seat ≤ loads_by self.old.seat + 4)
+            × (exchanges_by self.new.seat ≡ exchanges_by self.old.seat) }
     {
         self.set.as_set().add_atomic(&mut self.seat, index)
     }
 
     // Returns whether an index is there.
-    #[tactic(auto, using(crate::proofs::Came::came_at))]
+    #[tactic(auto, using(crate::proofs::BelongsToLemmas::came_at))]
     #[inline]
     pub(crate) fn contains(&mut self, index: Index) -> bool
         ensures keeps { Keeps self.old self.new }
         ensures reports { reports_of self.new.seat ≡ reports_of self.old.seat }
-        ensures yes { result ≡ true → (index < ATOMIC_MAX_EID) × Known self.new.seat index }
-        ensures no { result ≡ false → ¬ IsOld (set_of self.old.set) index × ¬ Known self.new.seat index }
-        ensures steps { (loads_by self.new.seat ≤ loads_by self.old.seat + 4) × (exchanges_by self.new.seat ≡ exchanges_by self.old.seat) }
+        ensures yes { result ≡ true → (index < ATOMIC_MAX_EID) × IsKnown self.new.seat index }
+        ensures no { result ≡ false → ¬ IsOld (set_of self.old.set) index
+            × ¬ IsKnown self.new.seat index }
+        ensures steps { (loads_by self.new.seat ≤ loads_by self.old.seat + 4)
+            × (exchanges_by self.new.seat ≡ exchanges_by self.old.seat) }
     {
         self.set.as_set().contains(&mut self.seat, index)
     }
 
     // Makes two seats of one.
-    #[tactic(auto, using(crate::proofs::Came::came_at))]
+    #[tactic(auto, using(crate::proofs::BelongsToLemmas::came_at))]
     pub(crate) fn divide(self, alloc: Global) -> Divided
         ensures { DividesTo self result }
     {
@@ -109,7 +114,7 @@ impl Member {
     }
 
     // The set held alone again, if this is the only seat left.
-    #[tactic(auto, using(crate::proofs::Came::came_at))]
+    #[tactic(auto, using(crate::proofs::BelongsToLemmas::came_at))]
     pub(crate) fn settle(self) -> Settled
         ensures { SettlesTo self result }
     {
@@ -125,13 +130,16 @@ impl Member {
     }
 
     // Adds to a set what a walk gives. Returns false if an allocation failed.
-    #[tactic(auto, using(crate::proofs::Came::came_at))]
+    #[tactic(auto, using(crate::proofs::BelongsToLemmas::came_at))]
     pub(crate) fn collect(&mut self, bits: &mut BitSet) -> bool
         ensures keeps { Keeps self.old self.new }
         ensures reports { reports_of self.new.seat ≡ reports_of self.old.seat }
         ensures stays { (i : ℕ) → bits_have bits.old i ≡ true → bits_have bits.new i ≡ true }
-        ensures found { (i : ℕ) → bits_have bits.new i ≡ true → (bits_have bits.old i ≡ true) ⊎ Known self.new.seat i }
-        ensures all { result ≡ true → (i : ℕ) → IsOld (set_of self.old.set) i ⊎ Known self.old.seat i → bits_have bits.new i ≡ true }
+        ensures found { (i : ℕ) → bits_have bits.new i ≡ true
+            → (bits_have bits.old i ≡ true) ⊎ IsKnown self.new.seat i }
+        ensures all { result ≡ true → (i : ℕ)
+            → IsOld (set_of self.old.set) i ⊎ IsKnown self.old.seat i
+            → bits_have bits.new i ≡ true }
     {
         collect(self.set.as_set(), &mut self.seat, bits)
     }

@@ -30,8 +30,10 @@ pub extern "C" fn hibitset_rank(set: &Seen<'_>, end: u32) -> usize
 /// Leaves the member at a position of the ascending list of all in `index`, and returns whether there is one.
 #[unsafe(no_mangle)]
 pub extern "C" fn hibitset_select(set: &Seen<'_>, at: usize, index: &mut u32) -> bool
-    ensures found { result ≡ true → slice_get (members_below MAX_EID (other_has set.now)) at ≡ Some index.new }
-    ensures none { result ≡ false → slice_get (members_below MAX_EID (other_has set.now)) at ≡ None }
+    ensures found { result ≡ true → slice_get (members_below MAX_EID (other_has set.now)) at
+        ≡ Some index.new }
+    ensures none { result ≡ false → slice_get (members_below MAX_EID (other_has set.now)) at
+        ≡ None }
     ensures stays { result ≡ false → index.new ≡ index.old }
 {
     match set.select(at) {
@@ -71,7 +73,8 @@ pub extern "C" fn hibitset_last_before(set: &Seen<'_>, end: u32, index: &mut u32
 /// many.
 #[unsafe(no_mangle)]
 pub extern "C" fn hibitset_prev_many(set: &Seen<'_>, end: u32, buffer: &mut [u32]) -> usize
-    ensures { Fills (reverse (members_below (min end MAX_EID) (other_has set.now))) buffer.old result buffer.new }
+    ensures { Fills (reverse (members_below (min end MAX_EID) (other_has set.now))) buffer.old
+        result buffer.new }
 {
     fill_back(*set, end, buffer)
 }
@@ -81,8 +84,10 @@ pub extern "C" fn hibitset_prev_many(set: &Seen<'_>, end: u32, buffer: &mut [u32
 pub extern "C" fn hibitset_pop_first(set: &mut Set, index: &mut u32) -> bool
     ensures found { result ≡ true → IsFirst MAX_EID (has set.old) index.new }
     ensures none { result ≡ false → HasNone MAX_EID (has set.old) }
-    ensures removed { result ≡ true → (i : ℕ) → has set.new i ≡ (has set.old i && not (i == index.new)) }
-    ensures stays { result ≡ false → (index.new ≡ index.old) × ((i : ℕ) → has set.new i ≡ has set.old i) }
+    ensures removed { result ≡ true → (i : ℕ)
+        → has set.new i ≡ (has set.old i && not (i == index.new)) }
+    ensures stays { result ≡ false → (index.new ≡ index.old)
+        × ((i : ℕ) → has set.new i ≡ has set.old i) }
     ensures length { layer0_len set.new ≡ layer0_len set.old }
 {
     if !set.made {
@@ -105,8 +110,10 @@ pub extern "C" fn hibitset_pop_first(set: &mut Set, index: &mut u32) -> bool
 pub extern "C" fn hibitset_pop_last(set: &mut Set, index: &mut u32) -> bool
     ensures found { result ≡ true → IsLast MAX_EID (has set.old) index.new }
     ensures none { result ≡ false → HasNone MAX_EID (has set.old) }
-    ensures removed { result ≡ true → (i : ℕ) → has set.new i ≡ (has set.old i && not (i == index.new)) }
-    ensures stays { result ≡ false → (index.new ≡ index.old) × ((i : ℕ) → has set.new i ≡ has set.old i) }
+    ensures removed { result ≡ true → (i : ℕ)
+        → has set.new i ≡ (has set.old i && not (i == index.new)) }
+    ensures stays { result ≡ false → (index.new ≡ index.old)
+        × ((i : ℕ) → has set.new i ≡ has set.old i) }
     ensures length { layer0_len set.new ≡ layer0_len set.old }
 {
     if !set.made {
@@ -128,7 +135,8 @@ pub extern "C" fn hibitset_pop_last(set: &mut Set, index: &mut u32) -> bool
 #[unsafe(no_mangle)]
 pub extern "C" fn hibitset_flip_range(alloc: Global, set: &mut Set, start: u32, end: u32) -> u32
     ensures range { (result ≡ OUT_OF_RANGE) ↔ (MAX_EID < end) }
-    ensures flipped { result ≡ OK → (i : ℕ) → has set.new i ≡ differ (has set.old i) (in_range start end i) }
+    ensures flipped { result ≡ OK → (i : ℕ)
+        → has set.new i ≡ differ (has set.old i) (in_range start end i) }
     ensures err { result ≢ OK → (i : ℕ) → has set.new i ≡ has set.old i }
     ensures status { (result ≡ OK) ⊎ (NO_MEMORY ≤ result) × (result ≤ OUT_OF_RANGE) }
 

@@ -32,7 +32,8 @@ pub extern "C" fn hibitset_is_subset(a: &Seen<'_>, b: &Seen<'_>) -> bool
 /// Returns whether the two have the same members.
 #[unsafe(no_mangle)]
 pub extern "C" fn hibitset_equals(a: &Seen<'_>, b: &Seen<'_>) -> bool
-    ensures { IsTrue result ↔ (IsSubset MAX_EID (has a.now) (has b.now) × IsSubset MAX_EID (has b.now) (has a.now)) }
+    ensures { IsTrue result ↔ (IsSubset MAX_EID (has a.now) (has b.now)
+        × IsSubset MAX_EID (has b.now) (has a.now)) }
 {
     a.layer0 == b.layer0 || a.is_subset(b) && b.is_subset(a)
 }
@@ -77,7 +78,8 @@ pub extern "C" fn hibitset_and_next_many(
     start: u32,
     buffer: &mut [u32],
 ) -> usize
-    ensures { Fills (members (λ i. has a.now i && has b.now i) start (MAX_EID - start)) buffer.old result buffer.new }
+    ensures { Fills (members (λ i. has a.now i && has b.now i) start (MAX_EID - start)) buffer.old
+        result buffer.new }
 {
     fill(BitSetAnd(*a, *b), start, buffer)
 }
@@ -90,7 +92,8 @@ pub extern "C" fn hibitset_or_next_many(
     start: u32,
     buffer: &mut [u32],
 ) -> usize
-    ensures { Fills (members (λ i. has a.now i || has b.now i) start (MAX_EID - start)) buffer.old result buffer.new }
+    ensures { Fills (members (λ i. has a.now i || has b.now i) start (MAX_EID - start)) buffer.old
+        result buffer.new }
 {
     fill(BitSetOr(*a, *b), start, buffer)
 }
@@ -103,7 +106,8 @@ pub extern "C" fn hibitset_xor_next_many(
     start: u32,
     buffer: &mut [u32],
 ) -> usize
-    ensures { Fills (members (λ i. differ (has a.now i) (has b.now i)) start (MAX_EID - start)) buffer.old result buffer.new }
+    ensures { Fills (members (λ i. differ (has a.now i) (has b.now i)) start (MAX_EID - start))
+        buffer.old result buffer.new }
 {
     fill(BitSetXor(*a, *b), start, buffer)
 }
@@ -116,7 +120,8 @@ pub extern "C" fn hibitset_andnot_next_many(
     start: u32,
     buffer: &mut [u32],
 ) -> usize
-    ensures { Fills (members (λ i. has a.now i && not (has b.now i)) start (MAX_EID - start)) buffer.old result buffer.new }
+    ensures { Fills (members (λ i. has a.now i && not (has b.now i)) start (MAX_EID - start))
+        buffer.old result buffer.new }
 {
     fill(BitSetAnd(*a, BitSetNot(*b)), start, buffer)
 }

@@ -96,7 +96,8 @@ pub extern "C" fn hibitset_next_many(set: &Seen<'_>, start: u32, buffer: &mut [u
 /// Writes the indices from `start` on that are in range and no members into the buffer, as `hibitset_next_many` does.
 #[unsafe(no_mangle)]
 pub extern "C" fn hibitset_not_next_many(set: &Seen<'_>, start: u32, buffer: &mut [u32]) -> usize
-    ensures { Fills (members (λ i. not (has set.now i)) start (MAX_EID - start)) buffer.old result buffer.new }
+    ensures { Fills (members (λ i. not (has set.now i)) start (MAX_EID - start)) buffer.old result
+        buffer.new }
 {
     fill(BitSetNot(*set), start, buffer)
 }

@@ -34,11 +34,13 @@ pub extern "C" fn hibitset_roaring_write(
     buffer: &mut [u8],
     taken: &mut usize,
 ) -> u32
-    ensures stream { result ≡ OK → IsCanonicalStream (other_has set.now) (take taken.new buffer.new) }
+    ensures stream { result ≡ OK → IsCanonicalStream (other_has set.now)
+        (take taken.new buffer.new) }
     ensures below { result ≡ OK → HasKeysBelow (take taken.new buffer.new) KEYS }
     ensures within { result ≡ OK → taken.new ≤ length buffer.old }
     ensures rest { result ≡ OK → drop taken.new buffer.new ≡ drop taken.new buffer.old }
-    ensures len { result ≢ NO_MEMORY → (bytes : List ℕ) → IsPlainStream (other_has set.now) bytes → length bytes ≡ taken.new }
+    ensures len { result ≢ NO_MEMORY → (bytes : List ℕ) → IsPlainStream (other_has set.now) bytes
+        → length bytes ≡ taken.new }
     ensures short { result ≡ SHORT_BUFFER → length buffer.old < taken.new }
     ensures err { result ≢ OK → buffer.new ≡ buffer.old }
     ensures memory { result ≡ NO_MEMORY → taken.new ≡ taken.old }
@@ -68,8 +70,10 @@ pub extern "C" fn hibitset_roaring_read_below(
     ensures below { result ≡ OK → HasKeysBelow bytes.now (min end KEYS) }
     ensures members { result ≡ OK → (i : ℕ) → has set.new i ≡ holds bytes.now i }
     ensures length { result ≡ OK → layer0_len set.new ≤ CONTAINER_WORDS * min end KEYS }
-    ensures least { result ≡ OK → (bound : ℕ) → HasKeysBelow bytes.now bound → layer0_len set.new ≤ CONTAINER_WORDS * bound }
-    ensures accepts { IsStream bytes.now → HasKeysBelow bytes.now (min end KEYS) → result ≢ MALFORMED }
+    ensures least { result ≡ OK → (bound : ℕ) → HasKeysBelow bytes.now bound
+        → layer0_len set.new ≤ CONTAINER_WORDS * bound }
+    ensures accepts { IsStream bytes.now → HasKeysBelow bytes.now (min end KEYS)
+        → result ≢ MALFORMED }
     ensures fault { result ≡ MALFORMED → HasFault bytes.now (min end KEYS) fault.new at.new }
     ensures stays { result ≢ MALFORMED → (fault.new ≡ fault.old) × (at.new ≡ at.old) }
     ensures err { result ≢ OK → (i : ℕ) → has set.new i ≡ has set.old i }
@@ -105,7 +109,8 @@ pub extern "C" fn hibitset_roaring_read(
     ensures stream { result ≡ OK → IsStream bytes.now }
     ensures below { result ≡ OK → HasKeysBelow bytes.now KEYS }
     ensures members { result ≡ OK → (i : ℕ) → has set.new i ≡ holds bytes.now i }
-    ensures least { result ≡ OK → (bound : ℕ) → HasKeysBelow bytes.now bound → layer0_len set.new ≤ CONTAINER_WORDS * bound }
+    ensures least { result ≡ OK → (bound : ℕ) → HasKeysBelow bytes.now bound
+        → layer0_len set.new ≤ CONTAINER_WORDS * bound }
     ensures accepts { IsStream bytes.now → HasKeysBelow bytes.now KEYS → result ≢ MALFORMED }
     ensures fault { result ≡ MALFORMED → HasFault bytes.now KEYS fault.new at.new }
     ensures stays { result ≢ MALFORMED → (fault.new ≡ fault.old) × (at.new ≡ at.old) }

@@ -3,11 +3,11 @@
 
 ghost use Rattle.std.specs.Prelude.{◌≡◌, ◌≢◌, ◌⊎◌, ◌↔◌, ℕ, ◌+◌, ◌<◌, ◌≤◌, ◌∷◌, true, false, Contains};
 ghost use Rattle.hibitset_atomic.specs.declared.atomic.TheConstants.{ATOMIC_MAX_EID};
-ghost use Rattle.hibitset_atomic.specs.declared.shared.sizes.TheConstants.{SHARES};
-ghost use Rattle.hibitset_c.specs.Atomic.{has, HasAllRoom, OwnsNoMemory, IsSame as IsSameSet};
-ghost use Rattle.hibitset_c.specs.Kept.{IsOpening};
+ghost use Rattle.hibitset_atomic.specs.declared.shared.layout.TheConstants.{SHARES};
+ghost use Rattle.hibitset_c.specs.Atomic.{has, AllBlocksReserved, OwnsNoMemory, IsSame as IsSameSet};
+ghost use Rattle.hibitset_c.specs.KeptSet.{IsOpening};
 ghost use Rattle.hibitset_c.specs.Member.{EndsAs};
-ghost use Rattle.hibitset_c.specs.Seat.{Holds, has_seat, set_of, IsOld, Known, weight_of, reports_of, loads_by, exchanges_by, Keeps, IsSame, AreHalves};
+ghost use Rattle.hibitset_c.specs.Seat.{Holds, has_seat, set_of, IsOld, IsKnown, weight_of, reports_of, loads_by, exchanges_by, Keeps, IsSame, AreHalves};
 ghost use Rattle.hibitset_c.specs.Set.{has as plain_has};
 ghost use Rattle.hibitset_c.specs.declared.status.TheConstants.{OK, PRESENT, NO_MEMORY, OUT_OF_RANGE, SHARED, ONE_SHARE, NO_SEAT};
 
@@ -57,15 +57,19 @@ pub extern "C" fn hibitset_seat_free(alloc: Global, seat: &mut HeldSeat)
 #[unsafe(no_mangle)]
 pub extern "C" fn hibitset_seat_add(seat: &mut HeldSeat, index: u32) -> u32
     ensures no_seat { (result ≡ NO_SEAT) ↔ (has_seat seat.old ≡ false) }
-    ensures range { (result ≡ OUT_OF_RANGE) ↔ (has_seat seat.old ≡ true) × (ATOMIC_MAX_EID ≤ index) }
+    ensures range { (result ≡ OUT_OF_RANGE)
+        ↔ (has_seat seat.old ≡ true) × (ATOMIC_MAX_EID ≤ index) }
     ensures keeps { Keeps seat.old seat.new }
-    ensures known { result ≤ PRESENT → Known seat.new index }
+    ensures known { result ≤ PRESENT → IsKnown seat.new index }
     ensures there { result ≢ OK → reports_of seat.new ≡ reports_of seat.old }
-    ensures new { result ≡ OK → (reports_of seat.new ≡ index ∷ reports_of seat.old) × ¬ IsOld seat.old index × ¬ Known seat.old index }
+    ensures new { result ≡ OK → (reports_of seat.new ≡ index ∷ reports_of seat.old)
+        × ¬ IsOld seat.old index × ¬ IsKnown seat.old index }
     ensures once { result ≡ OK → ¬ Contains (reports_of seat.old) index }
     ensures loads { loads_by seat.new ≤ loads_by seat.old + 7 }
     ensures exchanges { exchanges_by seat.new ≤ exchanges_by seat.old + 4 }
-    ensures still { IsOld seat.old index ⊎ Known seat.old index → (loads_by seat.new ≤ loads_by seat.old + 4) × (exchanges_by seat.new ≡ exchanges_by seat.old) }
+    ensures still { IsOld seat.old index ⊎ IsKnown seat.old index
+        → (loads_by seat.new ≤ loads_by seat.old + 4)
+        × (exchanges_by seat.new ≡ exchanges_by seat.old) }
     ensures status { (result ≤ PRESENT) ⊎ (result ≡ OUT_OF_RANGE) ⊎ (result ≡ NO_SEAT) }
 {
     if !seat.made {
@@ -83,11 +87,12 @@ pub extern "C" fn hibitset_seat_add(seat: &mut HeldSeat, index: u32) -> u32
 /// Returns whether an index is there, as far as the seat sees.
 #[unsafe(no_mangle)]
 pub extern "C" fn hibitset_seat_contains(seat: &mut HeldSeat, index: u32) -> bool
-    ensures yes { result ≡ true → (index < ATOMIC_MAX_EID) × Known seat.new index }
-    ensures no { result ≡ false → ¬ IsOld seat.old index × ¬ Known seat.new index }
+    ensures yes { result ≡ true → (index < ATOMIC_MAX_EID) × IsKnown seat.new index }
+    ensures no { result ≡ false → ¬ IsOld seat.old index × ¬ IsKnown seat.new index }
     ensures keeps { Keeps seat.old seat.new }
     ensures reports { reports_of seat.new ≡ reports_of seat.old }
-    ensures steps { (loads_by seat.new ≤ loads_by seat.old + 4) × (exchanges_by seat.new ≡ exchanges_by seat.old) }
+    ensures steps { (loads_by seat.new ≤ loads_by seat.old + 4)
+        × (exchanges_by seat.new ≡ exchanges_by seat.old) }
 {
     if !seat.made {
         return false;
@@ -123,9 +128,11 @@ pub extern "C" fn hibitset_seat_divide(
     ensures no_seat { (result ≡ NO_SEAT) ↔ (has_seat seat.old ≡ false) }
     ensures halves { result ≡ OK → AreHalves seat.old seat.new other.new }
     ensures one { result ≡ ONE_SHARE → weight_of seat.old ≡ 1 }
-    ensures err { result ≢ OK → Keeps seat.old seat.new × (reports_of seat.new ≡ reports_of seat.old) }
+    ensures err { result ≢ OK → Keeps seat.old seat.new
+        × (reports_of seat.new ≡ reports_of seat.old) }
     ensures stays { result ≢ OK → IsSame other.old other.new }
-    ensures status { (result ≡ OK) ⊎ (result ≡ NO_MEMORY) ⊎ (result ≡ ONE_SHARE) ⊎ (result ≡ NO_SEAT) }
+    ensures status { (result ≡ OK) ⊎ (result ≡ NO_MEMORY) ⊎ (result ≡ ONE_SHARE)
+        ⊎ (result ≡ NO_SEAT) }
 {
     if !seat.made {
         return NO_SEAT;
@@ -144,8 +151,10 @@ pub extern "C" fn hibitset_seat_divide(
 #[unsafe(no_mangle)]
 pub extern "C" fn hibitset_seat_collect(alloc: Global, seat: &mut HeldSeat, set: &mut Set) -> u32
     ensures no_seat { (result ≡ NO_SEAT) ↔ (has_seat seat.old ≡ false) }
-    ensures all { result ≡ OK → (i : ℕ) → IsOld seat.old i ⊎ Known seat.old i → plain_has set.new i ≡ true }
-    ensures found { (i : ℕ) → plain_has set.new i ≡ true → (plain_has set.old i ≡ true) ⊎ Known seat.new i }
+    ensures all { result ≡ OK → (i : ℕ) → IsOld seat.old i ⊎ IsKnown seat.old i
+        → plain_has set.new i ≡ true }
+    ensures found { (i : ℕ) → plain_has set.new i ≡ true
+        → (plain_has set.old i ≡ true) ⊎ IsKnown seat.new i }
     ensures stays { (i : ℕ) → plain_has set.old i ≡ true → plain_has set.new i ≡ true }
     ensures keeps { Keeps seat.old seat.new }
     ensures reports { reports_of seat.new ≡ reports_of seat.old }
@@ -176,7 +185,7 @@ pub extern "C" fn hibitset_seat_settle(
 ) -> u32
     ensures no_seat { (result ≡ NO_SEAT) ↔ (has_seat seat.old ≡ false) }
     ensures settled { result ≡ OK → Holds seat.old (λ shared s. EndsAs shared s (has set.new)) }
-    ensures room { result ≡ OK → HasAllRoom set.new }
+    ensures room { result ≡ OK → AllBlocksReserved set.new }
     ensures given_up { result ≡ OK → has_seat seat.new ≡ false }
     ensures err { result ≢ OK → IsSameSet set.old set.new }
     ensures stays { result ≢ OK → IsSame seat.old seat.new }

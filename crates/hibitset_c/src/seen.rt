@@ -2,7 +2,7 @@
 #![tactic(auto, unfolding(crate::specs::Seen::has, crate::specs::Seen::word_of))]
 
 ghost use Rattle.std.specs.Prelude.{◌≡◌, ℕ, ◌-◌, ◌^◌, ◌≤◌, get_or, length};
-ghost use Rattle.hibitset_base.specs.Words.{IsSummed, word_at};
+ghost use Rattle.hibitset_base.specs.Words.{SummariesExactEverywhere, word_at};
 ghost use Rattle.hibitset_base.specs.declared.util.TheConstants.{LAYERS};
 ghost use Rattle.hibitset.specs.Layers.{piled, IsFitted};
 
@@ -24,7 +24,8 @@ pub struct Seen<'a> {
     made: bool,
     ghost short: { length layer0.now ≤ 64 ^ (LAYERS - 1) },
     ghost fitted: { IsFitted LAYERS (piled layer0.now layer1.now layer2.now layer3.now top) },
-    ghost summed: { IsSummed LAYERS (word_at (piled layer0.now layer1.now layer2.now layer3.now top)) },
+    ghost summed: { SummariesExactEverywhere LAYERS
+        (word_at (piled layer0.now layer1.now layer2.now layer3.now top)) },
 }
 
 // The word at a position, 0 past the end.

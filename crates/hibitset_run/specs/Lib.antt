@@ -1,9 +1,9 @@
 pub mod Script
-pub mod Ended
+pub mod Outcome
 pub mod Parts
 pub mod Store
 pub mod Text
-pub mod Reading
+pub mod ScriptParser
 pub mod StoreText
-pub mod StoreReading
+pub mod StoreParser
 pub mod Program

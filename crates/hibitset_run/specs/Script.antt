@@ -89,7 +89,7 @@ answer_of reply.Done = done
 answer_of reply.OutOfRange = out_of_range
 answer_of reply.NoMemory = no_memory
 
--- what a command answers where it is not refused memory
+-- what a command answers where it does not fail to allocate
 abbrev pub answer : Command → Sets → Answer
 answer (command.Add slot id) sets = if nat_lt id MAX_EID then bool (sets slot id) else out_of_range
 answer (command.Remove slot id) sets = bool (nat_lt id MAX_EID && sets slot id)
@@ -104,7 +104,7 @@ answer (command.Same slot other) sets = bool (are_same (sets slot) (sets other))
 answer (command.Within slot other) sets = bool (is_within (sets slot) (sets other))
 answer (command.Split slot layers) sets = count (parts_in (unsplit_size layers) (members_of (sets slot)))
 
--- the sets after a command that is not refused memory
+-- the sets after a command that does not fail to allocate
 abbrev pub effect : Command → Sets → Sets
 effect (command.Add slot id) sets = if nat_lt id MAX_EID then with_set sets slot (λ i. sets slot i || i == id) else sets
 effect (command.Remove slot id) sets = with_set sets slot (λ i. sets slot i && not (i == id))
@@ -127,7 +127,7 @@ has_members set = nat_lt 0 (length (members_of set))
 abbrev pub is_past_all_words : (ℕ → Bool) → ℕ → Bool
 is_past_all_words set id = list_all (λ i. nat_lt (i / 64) (id / 64)) (members_of set)
 
--- The command may be refused memory: an `Add` of an index that is in range and past the words of all members, a `List`
+-- The command may fail to allocate: an `Add` of an index that is in range and past the words of all members, a `List`
 -- of a set with members, an `Or` or a `Xor` with another set that has members.
 abbrev pub may_lack_memory : Command → Sets → Bool
 may_lack_memory (command.Add slot id) sets = nat_lt id MAX_EID && is_past_all_words (sets slot) id
@@ -143,7 +143,7 @@ may_lack_memory (command.Same slot other) sets = false
 may_lack_memory (command.Within slot other) sets = false
 may_lack_memory (command.Split slot layers) sets = false
 
--- From the old sets the command gives this answer, and leaves the new sets. One that is refused memory changes nothing.
+-- From the old sets the command gives this answer, and leaves the new sets. One that fails to allocate changes nothing.
 abbrev pub IsStep : Command → Sets → Answer → Sets → Type 0
 IsStep command old no_memory new = IsTrue (may_lack_memory command old) × (new ≡ old)
 IsStep command old given new = (given ≡ answer command old) × (new ≡ effect command old)

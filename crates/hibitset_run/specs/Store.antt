@@ -10,7 +10,7 @@ use Rattle.hibitset_run.specs.declared.store.StoreCommand.TheVariants as command
 use Rattle.hibitset_run.specs.declared.store.StoreReply.{StoreReply}
 use Rattle.hibitset_run.specs.declared.store.StoreReply.TheVariants as reply
 use Rattle.hibitset_store.specs.Columns.{Map, value_of}
-use Rattle.hibitset_store.specs.Joins.{joined}
+use Rattle.hibitset_store.specs.Joins.{join_of}
 
 -- which of the two a side is
 abbrev pub side_number : Side → ℕ
@@ -42,29 +42,29 @@ answer_of (reply.Joined list) = joint list.items
 answer_of reply.OutOfRange = out_of_range
 answer_of reply.NoMemory = no_memory
 
--- what a command answers where it is not refused memory
+-- what a command answers where it does not fail to allocate
 abbrev pub answer : StoreCommand → Columns → Answer
 answer (command.Put side id new) columns = if nat_lt id MAX_EID then value (columns side id) else out_of_range
 answer (command.Get side id) columns = value (columns side id)
 answer (command.Take side id) columns = value (columns side id)
-answer (command.Join side other) columns = joint (joined (columns side) (columns other))
+answer (command.Join side other) columns = joint (join_of (columns side) (columns other))
 
--- the columns after a command that is not refused memory
+-- the columns after a command that does not fail to allocate
 abbrev pub effect : StoreCommand → Columns → Columns
 effect (command.Put side id new) columns = if nat_lt id MAX_EID then with_value columns side id (Some new) else columns
 effect (command.Get side id) columns = columns
 effect (command.Take side id) columns = with_value columns side id None
 effect (command.Join side other) columns = columns
 
--- The command may be refused memory: a `Put` of an index in range that has no value, a `Join` of columns with an index
+-- The command may fail to allocate: a `Put` of an index in range that has no value, a `Join` of columns with an index
 -- in common.
 abbrev pub may_lack_memory : StoreCommand → Columns → Bool
 may_lack_memory (command.Put side id new) columns = nat_lt id MAX_EID && not (is_some (columns side id))
 may_lack_memory (command.Get side id) columns = false
 may_lack_memory (command.Take side id) columns = false
-may_lack_memory (command.Join side other) columns = nat_lt 0 (length (joined (columns side) (columns other)))
+may_lack_memory (command.Join side other) columns = nat_lt 0 (length (join_of (columns side) (columns other)))
 
--- From the old columns the command gives this answer, and leaves the new columns. One that is refused memory changes
+-- From the old columns the command gives this answer, and leaves the new columns. One that fails to allocate changes
 -- nothing.
 abbrev pub IsStep : StoreCommand → Columns → Answer → Columns → Type 0
 IsStep command old no_memory new = IsTrue (may_lack_memory command old) × (new ≡ old)

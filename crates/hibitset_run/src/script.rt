@@ -99,14 +99,14 @@ pub enum Reply {
     Done,
     /// The index is not below `MAX_EID`, and nothing has changed.
     OutOfRange,
-    /// The command was refused memory, and nothing has changed.
+    /// The command failed to allocate, and nothing has changed.
     NoMemory,
 }
 
 /// Runs commands on eight sets, one after the other, and gives one reply a command, in order.
 ///
 /// The room for the replies is made first, and where it is refused nothing has changed; a run of no commands needs
-/// none. A command that is refused memory replies `NoMemory` and changes no set, and the run goes on. Four can be:
+/// none. A command that fails to allocate replies `NoMemory` and changes no set, and the run goes on. Four can be:
 /// `Add` of an index past the words of all members, `List` of a set with members, and `Or` and `Xor` with another set
 /// that has members.
 pub fn run(
@@ -116,7 +116,7 @@ pub fn run(
 ) -> Result<Vec<Reply>, AllocError>
     ensures run { IfOk result (λ replies.
         IsRun commands.now (sets_of sets.old) (map answer_of replies.items) (sets_of sets.new)) }
-    ensures refused { OnErr result (sets.new ≡ sets.old) }
+    ensures err { OnErr result (sets.new ≡ sets.old) }
     ensures none { commands.now ≡ [] → IsOk result }
 {
     let mut replies = Vec::with_capacity(alloc, commands.len())?;
@@ -149,7 +149,8 @@ fn step(alloc: Global, sets: &mut [BitSet; 8], command: Command) -> Reply
 
 // Puts an index into a set.
 fn add(sets: &mut [BitSet; 8], slot: Slot, id: Index) -> Reply
-    ensures { IsStep (Command.Add slot id) (sets_of sets.old) (answer_of result) (sets_of sets.new) }
+    ensures { IsStep (Command.Add slot id) (sets_of sets.old) (answer_of result)
+        (sets_of sets.new) }
 {
     if id as usize >= MAX_EID {
         return Reply::OutOfRange;
@@ -162,14 +163,16 @@ fn add(sets: &mut [BitSet; 8], slot: Slot, id: Index) -> Reply
 
 // Takes an index out of a set.
 fn remove(sets: &mut [BitSet; 8], slot: Slot, id: Index) -> Reply
-    ensures { IsStep (Command.Remove slot id) (sets_of sets.old) (answer_of result) (sets_of sets.new) }
+    ensures { IsStep (Command.Remove slot id) (sets_of sets.old) (answer_of result)
+        (sets_of sets.new) }
 {
     Reply::Bool(sets[slot.number()].remove(id))
 }
 
-// Tells whether an index is in a set.
+// Returns whether an index is in a set.
 fn has(sets: &[BitSet; 8], slot: Slot, id: Index) -> Reply
-    ensures { IsStep (Command.Has slot id) (sets_of sets.now) (answer_of result) (sets_of sets.now) }
+    ensures { IsStep (Command.Has slot id) (sets_of sets.now) (answer_of result)
+        (sets_of sets.now) }
 {
     Reply::Bool(sets[slot.number()].contains(id))
 }
@@ -187,7 +190,7 @@ fn list(alloc: Global, sets: &[BitSet; 8], slot: Slot) -> Reply
 // The indices of a set, ascending. `collect` would make a request that is refused once more.
 fn indices_of(alloc: Global, set: &BitSet) -> Result<Vec<Index>, AllocError>
     ensures indices { IfOk result (λ indices. indices.items ≡ members_below MAX_EID (has set.now)) }
-    ensures refused { OnErr result (0 < length (members_below MAX_EID (has set.now))) }
+    ensures err { OnErr result (0 < length (members_below MAX_EID (has set.now))) }
 {
     let mut indices = Vec::new(alloc);
     for index in set.iter() {

@@ -1,7 +1,7 @@
 //! A store: commands on two columns of values by index.
 ghost use Rattle.std.specs.Prelude.{◌≡◌, ◌<◌, [], length, map, IfOk, IsOk, OnErr};
 ghost use Rattle.hibitset_store.specs.Columns.{value_of};
-ghost use Rattle.hibitset_store.specs.Joins.{joined};
+ghost use Rattle.hibitset_store.specs.Joins.{join_of};
 ghost use Rattle.hibitset_run.specs.Store.{IsRun, IsStep, answer_of, columns_of, side_number};
 
 mod text;
@@ -50,14 +50,14 @@ pub enum StoreReply {
     Joined(Vec<(Index, u32, u32)>),
     /// The index is not below `MAX_EID`, and nothing has changed.
     OutOfRange,
-    /// The command was refused memory, and nothing has changed.
+    /// The command failed to allocate, and nothing has changed.
     NoMemory,
 }
 
 /// Runs commands on two columns, one after the other, and gives one reply a command, in order.
 ///
 /// The room for the replies is made first, and where it is refused nothing has changed; a run of no commands needs
-/// none. A command that is refused memory replies `NoMemory` and changes no column, and the run goes on. Two can be:
+/// none. A command that fails to allocate replies `NoMemory` and changes no column, and the run goes on. Two can be:
 /// `Put` of an index that has no value, and `Join` of columns that have an index in common.
 pub fn run(
     alloc: Global,
@@ -65,8 +65,9 @@ pub fn run(
     commands: &[StoreCommand],
 ) -> Result<Vec<StoreReply>, AllocError>
     ensures run { IfOk result (λ replies.
-        IsRun commands.now (columns_of columns.old) (map answer_of replies.items) (columns_of columns.new)) }
-    ensures refused { OnErr result (columns.new ≡ columns.old) }
+        IsRun commands.now (columns_of columns.old) (map answer_of replies.items)
+        (columns_of columns.new)) }
+    ensures err { OnErr result (columns.new ≡ columns.old) }
     ensures none { commands.now ≡ [] → IsOk result }
 {
     let mut replies = Vec::with_capacity(alloc, commands.len())?;
@@ -91,7 +92,8 @@ fn step(alloc: Global, columns: &mut [Column<u32>; 2], command: StoreCommand) ->
 
 // Gives an index a value.
 fn put(columns: &mut [Column<u32>; 2], side: Side, id: Index, value: u32) -> StoreReply
-    ensures { IsStep (StoreCommand.Put side id value) (columns_of columns.old) (answer_of result) (columns_of columns.new) }
+    ensures { IsStep (StoreCommand.Put side id value) (columns_of columns.old) (answer_of result)
+        (columns_of columns.new) }
 {
     if id as usize >= MAX_EID {
         return StoreReply::OutOfRange;
@@ -102,23 +104,26 @@ fn put(columns: &mut [Column<u32>; 2], side: Side, id: Index, value: u32) -> Sto
     }
 }
 
-// Answers the value of an index.
+// Returns the value of an index.
 fn get(columns: &[Column<u32>; 2], side: Side, id: Index) -> StoreReply
-    ensures { IsStep (StoreCommand.Get side id) (columns_of columns.now) (answer_of result) (columns_of columns.now) }
+    ensures { IsStep (StoreCommand.Get side id) (columns_of columns.now) (answer_of result)
+        (columns_of columns.now) }
 {
     StoreReply::Value(columns[side.number()].get(id).copied())
 }
 
 // Takes the value of an index out.
 fn take(columns: &mut [Column<u32>; 2], side: Side, id: Index) -> StoreReply
-    ensures { IsStep (StoreCommand.Take side id) (columns_of columns.old) (answer_of result) (columns_of columns.new) }
+    ensures { IsStep (StoreCommand.Take side id) (columns_of columns.old) (answer_of result)
+        (columns_of columns.new) }
 {
     StoreReply::Value(columns[side.number()].remove(id))
 }
 
 // Lists the indices that two columns have, which may be the same one, with both values.
 fn join_two(alloc: Global, columns: &[Column<u32>; 2], side: Side, other: Side) -> StoreReply
-    ensures { IsStep (StoreCommand.Join side other) (columns_of columns.now) (answer_of result) (columns_of columns.now) }
+    ensures { IsStep (StoreCommand.Join side other) (columns_of columns.now) (answer_of result)
+        (columns_of columns.now) }
 {
     match list_of(alloc, &columns[side.number()], &columns[other.number()]) {
         Ok(list) => StoreReply::Joined(list),
@@ -132,8 +137,10 @@ fn list_of(
     first: &Column<u32>,
     second: &Column<u32>,
 ) -> Result<Vec<(Index, u32, u32)>, AllocError>
-    ensures pairs { IfOk result (λ list. list.items ≡ joined (value_of first.now) (value_of second.now)) }
-    ensures refused { OnErr result (0 < length (joined (value_of first.now) (value_of second.now))) }
+    ensures pairs { IfOk result (λ list. list.items
+        ≡ join_of (value_of first.now) (value_of second.now)) }
+    ensures err { OnErr result (0 < length
+        (join_of (value_of first.now) (value_of second.now))) }
 {
     let mut list = Vec::new(alloc);
     for (id, a, b) in join(first, second) {

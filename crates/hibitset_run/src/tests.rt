@@ -12,7 +12,8 @@ use std::test::Fail;
 
 // Runs a script that lies in memory: how it may end, and what comes behind the output then, is known.
 fn run_in_memory(alloc: Global, script: &str, output: &mut Vec<u8>) -> Ended
-    ensures { EndsScript (lines_of script.now) result (Some output.old.items) (Some output.new.items) }
+    ensures { EndsScript (lines_of script.now) result (Some output.old.items)
+        (Some output.new.items) }
 {
     run_text(alloc, &mut script.as_bytes(), output)
 }

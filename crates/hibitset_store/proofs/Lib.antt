@@ -1,8 +1,8 @@
-pub mod Paging
-pub mod Making
-mod Moving
-pub mod Sizing
-pub mod Filling
-pub mod Joining
-pub mod Bounding
+pub mod PageLemmas
+pub mod NewPageLemmas
+mod MoveLemmas
+pub mod CapacityLemmas
+pub mod FillLemmas
+pub mod JoinLemmas
+pub mod ReadBoundLemmas
 pub mod CallerLemmas

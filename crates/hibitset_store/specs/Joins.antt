@@ -27,8 +27,8 @@ module _ {V W : Type 0} where
   AreInBoth first second = All (λ i. in_both first second i ≡ true)
 
   -- the join: the indices that both maps have, ascending, each with its two values
-  abbrev pub joined : Map V → Map W → List (ℕ × V × W)
-  joined first second = pairs first second (members_below MAX_EID (in_both first second))
+  abbrev pub join_of : Map V → Map W → List (ℕ × V × W)
+  join_of first second = pairs first second (members_below MAX_EID (in_both first second))
 
   -- the join, restricted to the indices that a set holds
   abbrev pub joined_within : Map V → Map W → (ℕ → Bool) → List (ℕ × V × W)

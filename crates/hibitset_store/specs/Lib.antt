@@ -1,10 +1,10 @@
 pub mod Pages
-pub mod Filling
+pub mod EmptySlots
 pub mod Columns
-pub mod Room
+pub mod Capacity
 pub mod Joins
 pub mod Masks
 pub mod Reads
 pub mod Walks
-pub mod Lending
-pub mod PageLending
+pub mod ColumnLoan
+pub mod PageLoan

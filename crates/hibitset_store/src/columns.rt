@@ -1,12 +1,12 @@
 //! Values by index, beside the set of the indices that have one.
-#![tactic(auto, unfolding(crate::specs::Columns::value_of, crate::specs::Pages::IsLaidOut, crate::specs::Room::places, crate::specs::Room::table_len, crate::specs::Room::list_len, crate::specs::Room::words_len))]
+#![tactic(auto, unfolding(crate::specs::Columns::value_of, crate::specs::Pages::IsPageTable, crate::specs::Capacity::slots, crate::specs::Capacity::table_len, crate::specs::Capacity::list_len, crate::specs::Capacity::words_len))]
 
 ghost use Rattle.std.specs.Prelude.{◌≡◌, ℕ, ◌*◌, ◌/◌, ◌<◌, ◌≤◌, true, Some, None, ◌↔◌, IsTrue, length, IfOk, IfErr, IsOk, IsSome, OnOk, OnErr, MatchOption};
 ghost use Rattle.std.specs.Borrow.{sem};
 ghost use Rattle.std.specs.Option.{is_some, option_copied_mut};
 ghost use Rattle.hibitset.specs.BitSet.{has, members_of, slice_len};
 ghost use Rattle.hibitset_base.specs.declared.util.TheConstants.{MAX_EID};
-ghost use Rattle.hibitset_store.specs.Pages.{Covers, IsLaidOut, IsLaidOut-prop};
+ghost use Rattle.hibitset_store.specs.Pages.{Covers, IsPageTable, IsPageTable-prop};
 
 use crate::pages::Pages;
 use hibitset::{BitSet, BitSetLike, Index};
@@ -14,8 +14,8 @@ use std::alloc::Global;
 
 /// A finite map from indices below `MAX_EID` to values, with the set of its keys.
 ///
-/// Values lie in pages of 64 places, and the page of an index is made whole when one of its indices first gets a value.
-/// Each call on one index looks at one word of the keys, at one entry of the table of pages and at one place, at most.
+/// Values lie in pages of 64 slots, and the page of an index is made whole when one of its indices first gets a value.
+/// Each call on one index looks at one word of the keys, at one entry of the table of pages and at one slot, at most.
 ///
 /// A page takes 512 bytes for values of four bytes, and the table four bytes for each 64 indices up to the highest key,
 /// 67 MB at 2^30, beside the words of the set of keys, 136 MB there. All pages lie in one list, which doubles when it
@@ -24,9 +24,9 @@ use std::alloc::Global;
 /// indices 0 to 99,999 about 1 MB.
 ///
 /// Pages that are made one after the other from index 0 on lie in the list as a flat one would have them, and a call on
-/// an index there looks at its place at once. Others lie behind, in the order in which they were made; but where the
+/// an index there looks at its slot at once. Others lie behind, in the order in which they were made; but where the
 /// list is full, a quarter of the table's pages lie behind and it goes over no more than 2^21 indices, it is laid out
-/// anew, with places for all pages of the table. There are at most four times as many places as those of the pages
+/// anew, with slots for all pages of the table. There are at most four times as many slots as those of the pages
 /// made, and room for up to twice as many.
 #[derive(Drop)]
 pub struct Column<V: Drop> {
@@ -34,20 +34,20 @@ pub struct Column<V: Drop> {
     pages: Pages<V>,
     count: usize,
     ghost covers: { Covers mask pages },
-    ghost laid_out: { IsLaidOut pages } by { IsLaidOut-prop pages },
+    ghost laid_out: { IsPageTable pages } by { IsPageTable-prop pages },
     ghost counts: { count ≡ length (members_of mask) },
 }
 
 impl<V: Drop> Column<V> {
     ghost use Rattle.hibitset_store.specs.Columns.{IsWith, keys_of, value_of};
-    ghost use Rattle.hibitset_store.specs.Lending.{LendsValue};
-    ghost use Rattle.hibitset_store.specs.Room.{HasRoom, KeepsRoom, MakesRoom, list_len, made_pages, places, table_len, words_len};
-    ghost use Rattle.hibitset_store.specs.declared.pages.TheConstants.{PAGE, SPARSEST};
+    ghost use Rattle.hibitset_store.specs.ColumnLoan.{LendsValue};
+    ghost use Rattle.hibitset_store.specs.Capacity.{HasRoom, KeepsRoom, MakesRoom, list_len, made_pages, slots, table_len, words_len};
+    ghost use Rattle.hibitset_store.specs.declared.pages.TheConstants.{PAGE, MAX_SLOTS_PER_MADE_SLOT};
 
-    /// The empty map, which takes no memory until the first `insert`.
+    /// The empty map, which does not allocate until the first `insert`.
     pub fn new(alloc: Global) -> Column<V>
         ensures empty { (i : ℕ) → value_of result i ≡ None }
-        ensures pages { (p : ℕ) → places result p ≡ 0 }
+        ensures pages { (p : ℕ) → slots result p ≡ 0 }
         ensures table { table_len result ≡ 0 }
         ensures list { list_len result ≡ 0 }
         ensures words { words_len result ≡ 0 }
@@ -77,7 +77,7 @@ impl<V: Drop> Column<V> {
         self.count
     }
 
-    /// Tells whether there is no key.
+    /// Returns whether there is no key.
     #[inline]
     pub fn is_empty(&self) -> bool
         ensures { IsTrue result ↔ ((i : ℕ) → value_of self.now i ≡ None) }
@@ -88,7 +88,8 @@ impl<V: Drop> Column<V> {
     /// The value of an index.
     #[inline]
     pub fn get(&self, id: Index) -> Option<&V>
-        ensures { MatchOption result (value_of self.now id ≡ None) (λ value. value_of self.now id ≡ Some value.now) }
+        ensures { MatchOption result (value_of self.now id ≡ None)
+            (λ value. value_of self.now id ≡ Some value.now) }
     {
         self.pages.get(id)
     }
@@ -115,23 +116,24 @@ impl<V: Drop> Column<V> {
     /// Gives an index below `MAX_EID` a value, and gives back the value that it had. Refused memory, it hands the value
     /// back, and no value has changed.
     ///
-    /// It needs no memory where the index has room: where the page of the index is made and the mask has its word, as
+    /// It does not allocate where the index has room: where the page of the index is made and the mask has its word, as
     /// where it has a value or had one before `remove`. Else it makes that page, and the table of pages and the mask as
     /// long as the index needs and no longer.
     #[inline]
     pub fn insert(&mut self, id: Index, value: V) -> Result<Option<V>, V>
         requires { id < MAX_EID }
         ensures was { IfOk result (λ was. was ≡ value_of self.old id) }
-        ensures inserted { OnOk result (IsWith (value_of self.old) id (Some value) (value_of self.new)) }
-        ensures back { IfErr result (λ back. back ≡ value) }
-        ensures refused { OnErr result ((i : ℕ) → value_of self.new i ≡ value_of self.old i) }
-        ensures room { IsSome (value_of self.old id) → IsOk result }
+        ensures inserted { OnOk result (IsWith (value_of self.old) id (Some value)
+            (value_of self.new)) }
+        ensures value_returned { IfErr result (λ back. back ≡ value) }
+        ensures err { OnErr result ((i : ℕ) → value_of self.new i ≡ value_of self.old i) }
+        ensures succeeds { IsSome (value_of self.old id) → IsOk result }
         ensures ready { HasRoom self.old id → IsOk result }
         ensures unused { HasRoom self.old id → KeepsRoom self.old self.new }
         ensures over { IsSome (value_of self.old id) → KeepsRoom self.old self.new }
         ensures made { OnOk result (HasRoom self.new id) }
         ensures most { MakesRoom id self.old self.new }
-        ensures list { list_len self.new ≤ SPARSEST * (PAGE * made_pages self.new) }
+        ensures list { list_len self.new ≤ MAX_SLOTS_PER_MADE_SLOT * (PAGE * made_pages self.new) }
         ensures stays { OnErr result (words_len self.new ≡ words_len self.old) }
     {
         if self.mask.contains(id) {
@@ -149,8 +151,8 @@ impl<V: Drop> Column<V> {
         ensures inserted { IsWith (value_of self.old) id (Some value) (value_of self.new) }
         ensures keeps { KeepsRoom self.old self.new }
     {
-        let place = self.pages.place_of_some(id);
-        self.pages.put(place, Some(value))
+        let slot = self.pages.slot_of_key(id);
+        self.pages.swap_value(slot, Some(value))
     }
 
     // Gives an index below `MAX_EID` its first value. Refused memory, it hands the value back, and no value has
@@ -159,23 +161,24 @@ impl<V: Drop> Column<V> {
     fn insert_new(&mut self, id: Index, value: V) -> Result<(), V>
         requires below { id < MAX_EID }
         requires none { value_of self.old id ≡ None }
-        ensures inserted { OnOk result (IsWith (value_of self.old) id (Some value) (value_of self.new)) }
-        ensures back { IfErr result (λ back. back ≡ value) }
-        ensures refused { OnErr result ((i : ℕ) → value_of self.new i ≡ value_of self.old i) }
+        ensures inserted { OnOk result (IsWith (value_of self.old) id (Some value)
+            (value_of self.new)) }
+        ensures value_returned { IfErr result (λ back. back ≡ value) }
+        ensures err { OnErr result ((i : ℕ) → value_of self.new i ≡ value_of self.old i) }
         ensures ready { HasRoom self.old id → IsOk result }
         ensures unused { HasRoom self.old id → KeepsRoom self.old self.new }
         ensures made { OnOk result (HasRoom self.new id) }
         ensures most { MakesRoom id self.old self.new }
         ensures stays { OnErr result (words_len self.new ≡ words_len self.old) }
     {
-        let Ok(place) = self.pages.make_place(id, &self.mask) else {
+        let Ok(slot) = self.pages.make_slot(id, &self.mask) else {
             return Err(value);
         };
         let Ok(_) = self.mask.add(id) else {
             return Err(value);
         };
         self.count += 1;
-        self.pages.put(place, Some(value));
+        self.pages.swap_value(slot, Some(value));
         Ok(())
     }
 
@@ -187,19 +190,19 @@ impl<V: Drop> Column<V> {
         ensures keeps { KeepsRoom self.old self.new }
         ensures room { IsSome result → HasRoom self.new id }
     {
-        let place = self.pages.place(id);
+        let slot = self.pages.slot(id);
         if !self.mask.remove(id) {
             return None;
         }
         self.count -= 1;
-        self.pages.put(place, None)
+        self.pages.swap_value(slot, None)
     }
 
-    /// Takes all values out. It takes no memory, and keeps that of the pages, the table and the mask for what is to
+    /// Takes all values out. It does not allocate, and keeps that of the pages, the table and the mask for what is to
     /// come, but no contract says that it is enough.
     pub fn clear(&mut self)
         ensures empty { (i : ℕ) → value_of self.new i ≡ None }
-        ensures pages { (p : ℕ) → places self.new p ≡ 0 }
+        ensures pages { (p : ℕ) → slots self.new p ≡ 0 }
         ensures table { table_len self.new ≡ 0 }
         ensures list { list_len self.new ≡ 0 }
         ensures words { words_len self.new ≡ 0 }

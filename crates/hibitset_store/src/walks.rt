@@ -32,9 +32,11 @@ fn next_pair<'a, S: BitSetLike, V: Drop, W: Drop>(
     second: &'a Column<W>,
 ) -> Option<(Index, &'a V, &'a W)>
     requires { AreInBoth (value_of first.now) (value_of second.now) (items_left S.holds walk.old) }
-    ensures step { YieldsFirstBy seen (λ walk. pairs (value_of first.now) (value_of second.now) (items_left S.holds walk)) walk.old result walk.new }
+    ensures step { YieldsFirstBy seen (λ walk. pairs (value_of first.now) (value_of second.now)
+        (items_left S.holds walk)) walk.old result walk.new }
     ensures reads { GoesOnReading S.word walk.old walk.new }
-    ensures keys { AreInBoth (value_of first.now) (value_of second.now) (items_left S.holds walk.new) }
+    ensures keys { AreInBoth (value_of first.now) (value_of second.now)
+        (items_left S.holds walk.new) }
 {
     let id = walk.next()?;
     Some(pair_at(first, second, id))
@@ -47,7 +49,9 @@ fn next_entry<'a, V: Drop>(
     column: &'a Column<V>,
 ) -> Option<(Index, &'a V)>
     requires { AreKeys (value_of column.now) (items_left (λ set. has set.now) walk.old) }
-    ensures step { YieldsFirstBy entry_seen (λ walk. entries (value_of column.now) (items_left (λ set. has set.now) walk)) walk.old result walk.new }
+    ensures step { YieldsFirstBy entry_seen
+        (λ walk. entries (value_of column.now) (items_left (λ set. has set.now) walk)) walk.old
+        result walk.new }
     ensures reads { GoesOnReading (λ set. word_of set.now) walk.old walk.new }
     ensures keys { AreKeys (value_of column.now) (items_left (λ set. has set.now) walk.new) }
 {
@@ -61,7 +65,8 @@ pub struct Join<'a, V: Drop, W: Drop> {
     pub(crate) walk: BitIter<BitSetAnd<&'a BitSet, &'a BitSet>>,
     pub(crate) first: &'a Column<V>,
     pub(crate) second: &'a Column<W>,
-    ghost keyed: { AreInBoth (value_of first.now) (value_of second.now) (items_left in_masks walk) },
+    ghost keyed: { AreInBoth (value_of first.now) (value_of second.now)
+        (items_left in_masks walk) },
 }
 
 impl<'a, V: Drop, W: Drop> Iterator for Join<'a, V, W> {
@@ -85,7 +90,8 @@ pub struct JoinMasked<'a, V: Drop, W: Drop, M: BitSetLike> {
     pub(crate) walk: BitIter<BitSetAnd<BitSetAnd<&'a BitSet, &'a BitSet>, M>>,
     pub(crate) first: &'a Column<V>,
     pub(crate) second: &'a Column<W>,
-    ghost keyed: { AreInBoth (value_of first.now) (value_of second.now) (items_left (in_three M.holds) walk) },
+    ghost keyed: { AreInBoth (value_of first.now) (value_of second.now)
+        (items_left (in_three M.holds) walk) },
 }
 
 impl<'a, V: Drop, W: Drop, M: BitSetLike> Iterator for JoinMasked<'a, V, W, M> {

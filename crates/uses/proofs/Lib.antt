@@ -1,5 +1,5 @@
-mod Bounding
-pub mod Listing
-mod Running
-mod Weighing
-mod Working
+mod BudgetLemmas
+pub mod ListLemmas
+mod FreeRunLemmas
+mod WeightLemmas
+mod WorkerLemmas

@@ -8,7 +8,7 @@ use Rattle.hibitset_base.specs.declared.iter.BitIter.{BitIter}
 use Rattle.hibitset_base.specs.declared.parallel.BitProducer.{BitProducer}
 use Rattle.hibitset_base.specs.declared.virt.BitSetAnd.{BitSetAnd}
 use Rattle.hibitset.specs.BitSet.{has, members_of}
-use Rattle.hibitset.specs.Laws.{intersected}
+use Rattle.hibitset.specs.Laws.{intersection_word}
 use Rattle.hibitset.specs.declared.set.BitSet.{BitSet}
 
 -- what two sets have in common, by reference
@@ -20,7 +20,7 @@ abbrev pub is_in_both : Both → ℕ → Bool
 is_in_both both i = has both.0.now i && has both.1.now i
 
 abbrev pub words_in_both : Both → ℕ → ℕ → ℕ
-words_in_both both = intersected both.0.now both.1.now
+words_in_both both = intersection_word both.0.now both.1.now
 
 -- four words for each member of the smaller set, and one
 abbrev pub budget : BitSet → BitSet → ℕ

@@ -17,12 +17,12 @@ abbrev pub IsWhy : ℕ → List ℕ → BuildError → Type 0
 IsWhy range list (OutOfRange place index) = (index ≡ slice_index list place) × (range ≤ index)
 IsWhy range list (Memory place) = slice_index list place < range
 
--- where memory was refused, the set has no room for the index
+-- if an allocation failed, the set has no room for the index
 abbrev pub LacksRoom : (ℕ → Type 0) → List ℕ → BuildError → Type 0
 LacksRoom lacks list (OutOfRange place index) = Unit {0}
 LacksRoom lacks list (Memory place) = lacks (slice_index list place)
 
--- where memory was refused, the index lies apart from each before it
+-- if an allocation failed, the index lies apart from each before it
 abbrev pub LiesApartIn : (ℕ → ℕ → Type 0) → List ℕ → BuildError → Type 0
 LiesApartIn apart list (OutOfRange place index) = Unit {0}
 LiesApartIn apart list (Memory place) = (k : ℕ) → k < place → apart (slice_index list k) (slice_index list place)
@@ -33,7 +33,7 @@ abbrev pub IsWhyFrom : ℕ → ℕ → BuildError → Type 0
 IsWhyFrom range start (OutOfRange place index) = (index ≡ start + place) × (range ≤ index)
 IsWhyFrom range start (Memory place) = start + place < range
 
--- where memory was refused, the index is the first of all, or the first of a word
+-- if an allocation failed, the index is the first of all, or the first of a word
 abbrev pub BeginsWord : ℕ → BuildError → Type 0
 BeginsWord start (OutOfRange place index) = Unit {0}
 BeginsWord start (Memory place) = (place ≡ 0) ⊎ ((start + place) % 64 ≡ 0)

@@ -1,7 +1,7 @@
 //! Walks over what two sets have in common, and how many words they read.
 ghost use Rattle.std.specs.Prelude.{◌≡◌, ◌⊎◌, ℕ, ◌+◌, ◌-◌, ◌≤◌, ◌&&◌, ◌++◌, All};
 ghost use Rattle.hibitset_base.specs.Members.{members, members_below};
-ghost use Rattle.hibitset_base.specs.Splits.{part_reads, part_items, other_items};
+ghost use Rattle.hibitset_base.specs.Splits.{part_reads, part_items, items_of_second};
 ghost use Rattle.hibitset_base.specs.Walk.{words_ahead, items_left};
 ghost use Rattle.hibitset_base.specs.declared.util.TheConstants.{MAX_EID};
 ghost use Rattle.hibitset.specs.BitSet.{has};
@@ -17,9 +17,11 @@ pub type Both<'a> = BitSetAnd<&'a BitSet, &'a BitSet>;
 /// smaller one, and one. Where one of the two has no index from `end` on, no word ahead of the walk begins at `end` or
 /// after it.
 pub fn in_both<'a>(a: &'a BitSet, b: &'a BitSet) -> BitIter<Both<'a>>
-    ensures items { items_left is_in_both result ≡ members_below MAX_EID (λ i. has a.now i && has b.now i) }
+    ensures items { items_left is_in_both result
+        ≡ members_below MAX_EID (λ i. has a.now i && has b.now i) }
     ensures few { reads_in_all result ≤ budget a.now b.now }
-    ensures within { (end : ℕ) → EndsBy a.now end ⊎ EndsBy b.now end → All (BeginsBefore end) (words_ahead words_in_both result) }
+    ensures within { (end : ℕ) → EndsBy a.now end ⊎ EndsBy b.now end
+        → All (BeginsBefore end) (words_ahead words_in_both result) }
 {
     laws();
     (a & b).into_iter()
@@ -32,7 +34,8 @@ pub fn in_both_from<'a>(
     b: &'a BitSet,
     start: Index,
 ) -> (BitIter<Both<'a>>, BitIter<Both<'a>>)
-    ensures items { items_left is_in_both result.1 ≡ members (λ i. has a.now i && has b.now i) start (MAX_EID - start) }
+    ensures items { items_left is_in_both result.1
+        ≡ members (λ i. has a.now i && has b.now i) start (MAX_EID - start) }
     ensures fewer { reads_in_all result.1 ≤ reads_in_all result.0 }
     ensures ahead { words_ahead words_in_both result.1 ≡ ahead_after start result.0 }
     ensures few { reads_in_all result.1 ≤ budget a.now b.now }
@@ -46,8 +49,10 @@ pub fn in_both_from<'a>(
 pub fn halves<'a>(
     both: &'a Both<'a>,
 ) -> (BitProducer<'a, Both<'a>>, Option<BitProducer<'a, Both<'a>>>)
-    ensures items { part_items is_in_both result.0 ++ other_items is_in_both result.1 ≡ members_below MAX_EID (is_in_both both.now) }
-    ensures few { part_reads_in_all result.0 + other_reads_in_all result.1 ≤ budget both.now.0.now both.now.1.now }
+    ensures items { part_items is_in_both result.0 ++ items_of_second is_in_both result.1
+        ≡ members_below MAX_EID (is_in_both both.now) }
+    ensures few { part_reads_in_all result.0 + other_reads_in_all result.1
+        ≤ budget both.now.0.now both.now.1.now }
     ensures by_now { part_reads result.0 ≤ 4 }
 {
     laws();

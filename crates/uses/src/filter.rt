@@ -30,11 +30,11 @@ impl Tagged {
         }
     }
 
-    /// Makes a tag that no record has, and gives its number, the next one. Where memory is refused nothing changes.
+    /// Makes a tag that no record has, and gives its number, the next one. If an allocation fails, nothing changes.
     pub fn new_tag(&mut self) -> Result<usize, AllocError>
         ensures number { IfOk result (λ tag. tag ≡ tags_of self.old) }
         ensures count { OnOk result (tags_of self.new ≡ tags_of self.old + 1) }
-        ensures refused { OnErr result (tags_of self.new ≡ tags_of self.old) }
+        ensures err { OnErr result (tags_of self.new ≡ tags_of self.old) }
         ensures same { (t i : ℕ) → is_tagged self.new t i ≡ is_tagged self.old t i }
     {
         let tag = self.records.len();
@@ -43,13 +43,15 @@ impl Tagged {
         Ok(tag)
     }
 
-    /// Gives a record a tag, and tells whether it had it. Where memory is refused nothing changes.
+    /// Gives a record a tag, and returns whether it had it. If an allocation fails, nothing changes.
     pub fn tag(&mut self, id: Index, tag: usize) -> Result<bool, AllocError>
         requires tag { tag < tags_of self.old }
         requires id { id < MAX_EID }
         ensures was { IfOk result (λ was. was ≡ is_tagged self.old tag id) }
-        ensures tagged { OnOk result ((t i : ℕ) → is_tagged self.new t i ≡ (is_tagged self.old t i || (t == tag && i == id))) }
-        ensures refused { OnErr result ((t i : ℕ) → is_tagged self.new t i ≡ is_tagged self.old t i) }
+        ensures tagged { OnOk result ((t i : ℕ)
+            → is_tagged self.new t i ≡ (is_tagged self.old t i || (t == tag && i == id))) }
+        ensures err { OnErr result ((t i : ℕ)
+            → is_tagged self.new t i ≡ is_tagged self.old t i) }
         ensures count { tags_of self.new ≡ tags_of self.old }
     {
         self.records[tag].add(id)
@@ -60,7 +62,8 @@ impl Tagged {
         requires first { first < tags_of self.now }
         requires second { second < tags_of self.now }
         requires without { without < tags_of self.now }
-        ensures { ⟦<Wanted<'static> as BitSetLike>⟧.holds result ≡ is_wanted self.now first second without }
+        ensures { ⟦<Wanted<'static> as BitSetLike>⟧.holds result
+            ≡ is_wanted self.now first second without }
     {
         &self.records[first] & &self.records[second] & !&self.records[without]
     }
@@ -70,7 +73,8 @@ impl Tagged {
         requires first { first < tags_of self.now }
         requires second { second < tags_of self.now }
         requires without { without < tags_of self.now }
-        ensures { result ≡ length (members_below MAX_EID (is_wanted self.now first second without)) }
+        ensures { result ≡ length (members_below MAX_EID
+            (is_wanted self.now first second without)) }
     {
         self.wanted(first, second, without).len()
     }
@@ -87,7 +91,9 @@ impl Tagged {
         requires second { second < tags_of self.now }
         requires without { without < tags_of self.now }
         ensures ascending { IfOk result (λ found. IsStrictlyIncreasing found.items) }
-        ensures found { IfOk result (λ found. (i : ℕ) → Contains found.items i ↔ ((i < MAX_EID) × (is_wanted self.now first second without i ≡ true))) }
+        ensures found { IfOk result (λ found. (i : ℕ)
+            → Contains found.items i ↔ ((i < MAX_EID)
+            × (is_wanted self.now first second without i ≡ true))) }
     {
         self.wanted(first, second, without).to_vec(alloc)
     }
@@ -100,20 +106,23 @@ impl Tagged {
         &self.records[tag]
     }
 
-    /// Takes a tag from the records that are not in `kept`. It takes no memory.
+    /// Takes a tag from the records that are not in `kept`. It does not allocate.
     pub fn narrow(&mut self, tag: usize, kept: &BitSet)
         requires { tag < tags_of self.old }
-        ensures narrowed { (t i : ℕ) → is_tagged self.new t i ≡ (is_tagged self.old t i && (not (t == tag) || has kept.now i)) }
+        ensures narrowed { (t i : ℕ) → is_tagged self.new t i
+            ≡ (is_tagged self.old t i && (not (t == tag) || has kept.now i)) }
         ensures count { tags_of self.new ≡ tags_of self.old }
     {
         self.records[tag] &= kept;
     }
 
-    /// Gives a tag to the records in `more`. Where memory is refused nothing changes.
+    /// Gives a tag to the records in `more`. If an allocation fails, nothing changes.
     pub fn widen(&mut self, tag: usize, more: &BitSet) -> Result<(), AllocError>
         requires { tag < tags_of self.old }
-        ensures widened { OnOk result ((t i : ℕ) → is_tagged self.new t i ≡ (is_tagged self.old t i || (t == tag && has more.now i))) }
-        ensures refused { OnErr result ((t i : ℕ) → is_tagged self.new t i ≡ is_tagged self.old t i) }
+        ensures widened { OnOk result ((t i : ℕ)
+            → is_tagged self.new t i ≡ (is_tagged self.old t i || (t == tag && has more.now i))) }
+        ensures err { OnErr result ((t i : ℕ)
+            → is_tagged self.new t i ≡ is_tagged self.old t i) }
         ensures count { tags_of self.new ≡ tags_of self.old }
     {
         laws();

@@ -2,7 +2,7 @@
 ghost use Rattle.std.specs.Prelude.{◌≡◌, ◌⊎◌, ℕ, ◌+◌, ◌<◌, ◌≤◌, ◌==◌, ◌||◌, ◌&&◌, not, true, false, IfOk, OnErr, MatchOption};
 ghost use Rattle.hibitset_base.specs.First.{IsFirst, HasNone};
 ghost use Rattle.hibitset_base.specs.declared.util.TheConstants.{MAX_EID};
-ghost use Rattle.hibitset.specs.Numbers.{in_range};
+ghost use Rattle.hibitset.specs.WordBits.{in_range};
 
 use hibitset::{BitSet, BitSetLike, Index, MAX_EID};
 use std::alloc::{AllocError, Global};
@@ -25,22 +25,23 @@ impl Ids {
         }
     }
 
-    /// Tells whether an identifier is in use.
+    /// Returns whether an identifier is in use.
     pub fn is_used(&self, id: Index) -> bool
         ensures { result ≡ in_use self.now id }
     {
         self.used.contains(id)
     }
 
-    /// Gives the lowest free identifier, which is in use from then on, or `None` where all are in use. Where memory is
-    /// refused nothing changes. To find it, the words of all identifiers before it are read, since a complement has
+    /// Gives the lowest free identifier, which is in use from then on, or `None` where all are in use. If an allocation
+    /// fails, nothing changes. To find it, the words of all identifiers before it are read, since a complement has
     /// every summary bit; no contract says how many these are.
     pub fn alloc(&mut self) -> Result<Option<Index>, AllocError>
-        ensures lowest { IfOk result (λ given. MatchOption given (HasNone MAX_EID (is_free self.old)) (IsFirst MAX_EID (is_free self.old))) }
+        ensures lowest { IfOk result (λ given. MatchOption given
+            (HasNone MAX_EID (is_free self.old)) (IsFirst MAX_EID (is_free self.old))) }
         ensures taken { IfOk result (λ given. MatchOption given
             ((i : ℕ) → in_use self.new i ≡ in_use self.old i)
             (λ id. (i : ℕ) → in_use self.new i ≡ (in_use self.old i || i == id))) }
-        ensures refused { OnErr result ((i : ℕ) → in_use self.new i ≡ in_use self.old i) }
+        ensures err { OnErr result ((i : ℕ) → in_use self.new i ≡ in_use self.old i) }
     {
         let Some(id) = (!&self.used).first() else {
             return Ok(None);
@@ -66,7 +67,8 @@ impl Ids {
     // Where the first run of so many free identifiers begins.
     fn first_run(&self, count: Index) -> Option<Index>
         requires { 0 < count }
-        ensures { MatchOption result (HasNoRun (in_use self.now) count) (IsFirstRun (in_use self.now) count) }
+        ensures { MatchOption result (HasNoRun (in_use self.now) count)
+            (IsFirstRun (in_use self.now) count) }
     {
         let mut from = 0;
         while let Some(start) = self.used.first_gap(from) {
@@ -80,15 +82,17 @@ impl Ids {
     }
 
     /// Gives the first run of so many free identifiers, at least one, which are in use from then on, by where it
-    /// begins, or `None` where there is none. Where memory is refused nothing changes. Runs in use, and free ones that
+    /// begins, or `None` where there is none. If an allocation fails, nothing changes. Runs in use, and free ones that
     /// are too short, are passed by whole words.
     pub fn alloc_run(&mut self, count: Index) -> Result<Option<Index>, AllocError>
         requires { 0 < count }
-        ensures first { IfOk result (λ given. MatchOption given (HasNoRun (in_use self.old) count) (IsFirstRun (in_use self.old) count)) }
+        ensures first { IfOk result (λ given. MatchOption given (HasNoRun (in_use self.old) count)
+            (IsFirstRun (in_use self.old) count)) }
         ensures taken { IfOk result (λ given. MatchOption given
             ((i : ℕ) → in_use self.new i ≡ in_use self.old i)
-            (λ start. (i : ℕ) → in_use self.new i ≡ (in_use self.old i || in_range start (start + count) i))) }
-        ensures refused { OnErr result ((i : ℕ) → in_use self.new i ≡ in_use self.old i) }
+            (λ start. (i : ℕ) → in_use self.new i
+            ≡ (in_use self.old i || in_range start (start + count) i))) }
+        ensures err { OnErr result ((i : ℕ) → in_use self.new i ≡ in_use self.old i) }
     {
         let Some(start) = self.first_run(count) else {
             return Ok(None);
@@ -104,7 +108,7 @@ impl Ids {
         self.used.remove_range(start, end)
     }
 
-    /// Takes an identifier back, and tells whether it was in use.
+    /// Takes an identifier back, and returns whether it was in use.
     pub fn free(&mut self, id: Index) -> bool
         ensures was { result ≡ in_use self.old id }
         ensures freed { (i : ℕ) → in_use self.new i ≡ (in_use self.old i && not (i == id)) }

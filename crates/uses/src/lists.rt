@@ -12,7 +12,8 @@ use std::alloc::Global;
 /// those of all before it.
 pub fn set_of(alloc: Global, list: &[Index]) -> Result<BitSet, BuildError>
     ensures members { IfOk result (λ set. (i : ℕ) → (has set i ≡ true) ↔ Contains list.now i) }
-    ensures short { IfOk result (λ set. (l end : ℕ) → l < LAYERS - 1 → ((i : ℕ) → Contains list.now i → i / 64 < 64 ^ l * end) → slice_len set l ≤ end) }
+    ensures short { IfOk result (λ set. (l end : ℕ) → l < LAYERS - 1
+        → ((i : ℕ) → Contains list.now i → i / 64 < 64 ^ l * end) → slice_len set l ≤ end) }
     ensures in_range { IfOk result (λ _. InRangeBefore MAX_EID list.now (length list.now)) }
     ensures place { IfErr result (λ error. place_of error < length list.now) }
     ensures before { IfErr result (λ error. InRangeBefore MAX_EID list.now (place_of error)) }
@@ -26,8 +27,10 @@ pub fn set_of(alloc: Global, list: &[Index]) -> Result<BitSet, BuildError>
 /// Where one is refused, the error tells its place: it is the first out of range, or one for which there was no memory,
 /// and then it is `start`, or the first index of a word.
 pub fn set_of_range(alloc: Global, start: Index, end: Index) -> Result<BitSet, BuildError>
-    ensures members { IfOk result (λ set. (i : ℕ) → (has set i ≡ true) ↔ ((start ≤ i) × (i < end))) }
-    ensures short { IfOk result (λ set. (l : ℕ) → l < LAYERS - 1 → (n : ℕ) → end ≤ 64 ^ (l + 1) * n → slice_len set l ≤ n) }
+    ensures members { IfOk result (λ set. (i : ℕ)
+        → (has set i ≡ true) ↔ ((start ≤ i) × (i < end))) }
+    ensures short { IfOk result (λ set. (l : ℕ) → l < LAYERS - 1 → (n : ℕ) → end ≤ 64 ^ (l + 1) * n
+        → slice_len set l ≤ n) }
     ensures in_range { IfOk result (λ _. start < end → end ≤ MAX_EID) }
     ensures place { IfErr result (λ error. start + place_of error < end) }
     ensures before { IfErr result (λ error. (k : ℕ) → k < place_of error → start + k < MAX_EID) }
@@ -40,9 +43,12 @@ pub fn set_of_range(alloc: Global, start: Index, end: Index) -> Result<BitSet, B
 /// Adds the indices of a list to a set. Where one is refused, those before it are added: it is the first out of range,
 /// or one for which there was no memory, and then the set has no word for it.
 pub fn add_all(set: &mut BitSet, list: &[Index]) -> Result<(), BuildError>
-    ensures added { OnOk result ((i : ℕ) → (has set.new i ≡ true) ↔ ((has set.old i ≡ true) ⊎ Contains list.now i)) }
+    ensures added { OnOk result ((i : ℕ)
+        → (has set.new i ≡ true) ↔ ((has set.old i ≡ true) ⊎ Contains list.now i)) }
     ensures in_range { OnOk result (InRangeBefore MAX_EID list.now (length list.now)) }
-    ensures some { IfErr result (λ error. (i : ℕ) → (has set.new i ≡ true) ↔ ((has set.old i ≡ true) ⊎ Contains (take (place_of error) list.now) i)) }
+    ensures some { IfErr result (λ error. (i : ℕ)
+        → (has set.new i ≡ true) ↔ ((has set.old i ≡ true)
+        ⊎ Contains (take (place_of error) list.now) i)) }
     ensures place { IfErr result (λ error. place_of error < length list.now) }
     ensures before { IfErr result (λ error. InRangeBefore MAX_EID list.now (place_of error)) }
     ensures why { IfErr result (IsWhy MAX_EID list.now) }

@@ -25,30 +25,33 @@ impl Pages {
         }
     }
 
-    /// Tells whether a page is to be written.
+    /// Returns whether a page is to be written.
     pub fn is_dirty(&self, page: Index) -> bool
         ensures { result ≡ is_dirty self.now page }
     {
         self.dirty.contains(page)
     }
 
-    /// Marks a page, and tells whether it was dirty. Where memory is refused nothing changes.
+    /// Marks a page, and returns whether it was dirty. If an allocation fails, nothing changes.
     pub fn mark(&mut self, page: Index) -> Result<bool, AllocError>
         requires { page < MAX_EID }
         ensures was { IfOk result (λ was. was ≡ is_dirty self.old page) }
-        ensures marked { OnOk result ((i : ℕ) → is_dirty self.new i ≡ (is_dirty self.old i || i == page)) }
-        ensures refused { OnErr result ((i : ℕ) → is_dirty self.new i ≡ is_dirty self.old i) }
+        ensures marked { OnOk result ((i : ℕ)
+            → is_dirty self.new i ≡ (is_dirty self.old i || i == page)) }
+        ensures err { OnErr result ((i : ℕ) → is_dirty self.new i ≡ is_dirty self.old i) }
     {
         self.dirty.add(page)
     }
 
-    /// Moves all dirty pages to the end of `out`, in ascending order. Room for them is made first, so that where memory
-    /// is refused nothing changes.
+    /// Moves all dirty pages to the end of `out`, in ascending order. Room for them is made first, so that if an
+    /// allocation fails nothing changes.
     pub fn flush(&mut self, out: &mut Vec<Index>) -> Result<(), AllocError>
-        ensures flushed { OnOk result (out.new.items ≡ out.old.items ++ members_below MAX_EID (is_dirty self.old)) }
+        ensures flushed { OnOk result (out.new.items
+            ≡ out.old.items ++ members_below MAX_EID (is_dirty self.old)) }
         ensures clean { OnOk result ((page : ℕ) → is_dirty self.new page ≡ false) }
         ensures kept { OnErr result (out.new.items ≡ out.old.items) }
-        ensures still_dirty { OnErr result ((page : ℕ) → is_dirty self.new page ≡ is_dirty self.old page) }
+        ensures still_dirty { OnErr result
+            ((page : ℕ) → is_dirty self.new page ≡ is_dirty self.old page) }
     {
         laws();
         out.reserve(self.dirty.len())?;

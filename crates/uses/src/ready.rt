@@ -31,14 +31,15 @@ impl Ready {
         })
     }
 
-    /// Makes a task ready, and tells whether it was. Below the limit it can't be refused memory, at any time; where it
-    /// is refused nothing changes.
+    /// Makes a task ready, and returns whether it was. Below the limit it can't fail, at any time; where it is refused
+    /// nothing changes.
     pub fn wake(&mut self, task: Index) -> Result<bool, AllocError>
         requires { task < MAX_EID }
         ensures was { IfOk result (λ was. was ≡ is_ready self.old task) }
-        ensures woken { OnOk result ((i : ℕ) → is_ready self.new i ≡ (is_ready self.old i || i == task)) }
-        ensures refused { OnErr result ((i : ℕ) → is_ready self.new i ≡ is_ready self.old i) }
-        ensures room { task < limit_of self.old → IsOk result }
+        ensures woken { OnOk result ((i : ℕ)
+            → is_ready self.new i ≡ (is_ready self.old i || i == task)) }
+        ensures err { OnErr result ((i : ℕ) → is_ready self.new i ≡ is_ready self.old i) }
+        ensures succeeds { task < limit_of self.old → IsOk result }
         ensures limit { limit_of self.new ≡ limit_of self.old }
     {
         self.tasks.add(task)
@@ -46,7 +47,8 @@ impl Ready {
 
     /// Takes the first task that is ready, or none where none is.
     pub fn next_ready(&mut self) -> Option<Index>
-        ensures first { MatchOption result (HasNone MAX_EID (is_ready self.old)) (IsFirst MAX_EID (is_ready self.old)) }
+        ensures first { MatchOption result (HasNone MAX_EID (is_ready self.old))
+            (IsFirst MAX_EID (is_ready self.old)) }
         ensures taken { MatchOption result
             ((i : ℕ) → is_ready self.new i ≡ is_ready self.old i)
             (λ task. (i : ℕ) → is_ready self.new i ≡ (is_ready self.old i && not (i == task))) }
@@ -69,7 +71,8 @@ impl Ready {
     /// Takes the first ready task from `start` on, or none where none is ready there. A caller that goes on after the
     /// task that it was given, and from 0 where it was given none, gives each task its turn.
     pub fn next_from(&mut self, start: Index) -> Option<Index>
-        ensures first { MatchOption result (HasNone MAX_EID (is_ready_from start self.old)) (IsFirst MAX_EID (is_ready_from start self.old)) }
+        ensures first { MatchOption result (HasNone MAX_EID (is_ready_from start self.old))
+            (IsFirst MAX_EID (is_ready_from start self.old)) }
         ensures taken { MatchOption result
             ((i : ℕ) → is_ready self.new i ≡ is_ready self.old i)
             (λ task. (i : ℕ) → is_ready self.new i ≡ (is_ready self.old i && not (i == task))) }

@@ -19,7 +19,8 @@ pub fn median(found: &BitSet) -> Option<Index>
 
 /// The position of a row in the list, if it was found.
 pub fn position_of(found: &BitSet, row: Index) -> Option<usize>
-    ensures { MatchOption result (has found.now row ≡ false) (λ position. slice_get (members_of found.now) position ≡ Some row) }
+    ensures { MatchOption result (has found.now row ≡ false)
+        (λ position. slice_get (members_of found.now) position ≡ Some row) }
 {
     if !found.contains(row) {
         return None;
@@ -34,7 +35,8 @@ pub fn page_from(
     row: Index,
     count: usize,
 ) -> Result<Vec<Index>, AllocError>
-    ensures { IfOk result (λ page. page.items ≡ take count (members (has found.now) row (MAX_EID - row))) }
+    ensures { IfOk result (λ page. page.items
+        ≡ take count (members (has found.now) row (MAX_EID - row))) }
 {
     found.iter_from(row).take(count).collect(alloc)
 }
@@ -62,7 +64,8 @@ fn last_rows(
     row: Index,
     count: usize,
 ) -> Result<Vec<Index>, AllocError>
-    ensures { IfOk result (λ rows. rows.items ≡ take count (reverse (members_below (min row MAX_EID) (has found.now)))) }
+    ensures { IfOk result (λ rows. rows.items
+        ≡ take count (reverse (members_below (min row MAX_EID) (has found.now)))) }
 {
     found.iter_rev_before(row).take(count).collect(alloc)
 }
@@ -74,7 +77,9 @@ pub fn page_before(
     row: Index,
     count: usize,
 ) -> Result<Vec<Index>, AllocError>
-    ensures { IfOk result (λ page. page.items ≡ drop (length (members_below (min row MAX_EID) (has found.now)) - count) (members_below (min row MAX_EID) (has found.now))) }
+    ensures { IfOk result (λ page. page.items
+        ≡ drop (length (members_below (min row MAX_EID) (has found.now)) - count)
+        (members_below (min row MAX_EID) (has found.now))) }
 {
     let mut page = last_rows(alloc, found, row, count)?;
     page.reverse();
@@ -111,7 +116,8 @@ pub fn both_within(
     start: Index,
     end: Index,
 ) -> Result<Vec<Index>, AllocError>
-    ensures { IfOk result (λ rows. rows.items ≡ members (λ i. has a.now i && has b.now i) start (min end MAX_EID - start)) }
+    ensures { IfOk result (λ rows. rows.items
+        ≡ members (λ i. has a.now i && has b.now i) start (min end MAX_EID - start)) }
 {
     let range = BitSetRange { start, end };
     (a & b & range).to_vec(alloc)
@@ -126,7 +132,8 @@ fn version_of(versions: &[u32], row: Index) -> u32
 
 /// Leaves out the rows that have not changed since a version.
 pub fn keep_changed(found: &mut BitSet, versions: &[u32], since: u32)
-    ensures { (i : ℕ) → has found.new i ≡ (has found.old i && nat_le since (slice_index versions.now i)) }
+    ensures { (i : ℕ) → has found.new i
+        ≡ (has found.old i && nat_le since (slice_index versions.now i)) }
 {
     laws();
     found.retain(|row| version_of(versions, row) >= since);

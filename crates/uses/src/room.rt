@@ -1,4 +1,4 @@
-//! Additions that need no memory.
+//! Additions that do not allocate.
 ghost use Rattle.std.specs.Prelude.{◌≡◌, ℕ, ◌/◌, ◌<◌, ◌==◌, ◌||◌, true, length, slice_index, IfOk};
 ghost use Rattle.hibitset_base.specs.declared.util.TheConstants.{MAX_EID};
 ghost use Rattle.hibitset.specs.BitSet.{has, word_of, slice_len};
@@ -8,7 +8,7 @@ use hibitset::laws::atomic_laws;
 use hibitset::{AtomicBitSet, BitSet, Index};
 use std::alloc::{AllocError, Global};
 
-/// A copy with one index more, for which the set has a word: only the copy itself can be refused memory, and it has as
+/// A copy with one index more, for which the set has a word: only the copy itself can fail to allocate, and it has as
 /// many words.
 pub fn with_one_more(set: &BitSet, id: Index) -> Result<BitSet, AllocError>
     requires id { id < MAX_EID }
@@ -22,8 +22,11 @@ pub fn with_one_more(set: &BitSet, id: Index) -> Result<BitSet, AllocError>
 
 /// The words of the two lowest layers, which are saved from a copy, so that the set can be changed meanwhile.
 pub fn saved(alloc: Global, set: &BitSet) -> Result<(Vec<usize>, Vec<usize>), AllocError>
-    ensures lengths { IfOk result (λ saved. (length saved.0.items ≡ slice_len set.now 0) × (length saved.1.items ≡ slice_len set.now 1)) }
-    ensures words { IfOk result (λ saved. (p : ℕ) → (slice_index saved.0.items p ≡ word_of set.now 0 p) × (slice_index saved.1.items p ≡ word_of set.now 1 p)) }
+    ensures lengths { IfOk result (λ saved. (length saved.0.items ≡ slice_len set.now 0)
+        × (length saved.1.items ≡ slice_len set.now 1)) }
+    ensures words { IfOk result (λ saved. (p : ℕ)
+        → (slice_index saved.0.items p ≡ word_of set.now 0 p)
+        × (slice_index saved.1.items p ≡ word_of set.now 1 p)) }
 {
     let copy = set.clone()?;
     let members = copy.layer0_as_slice().to_vec(alloc)?;
@@ -31,7 +34,7 @@ pub fn saved(alloc: Global, set: &BitSet) -> Result<(Vec<usize>, Vec<usize>), Al
     Ok((members, summaries))
 }
 
-/// Adds an index that lies in the same 4,096 indices as a member, and tells whether it was there.
+/// Adds an index that lies in the same 4,096 indices as a member, and returns whether it was there.
 pub fn add_beside(set: &mut AtomicBitSet, member: Index, id: Index) -> bool
     requires member { has_atomic set.old member ≡ true }
     requires beside { member / 4096 ≡ id / 4096 }

@@ -1,13 +1,13 @@
 //! Identifiers that many threads take from one set, none of them twice.
 ghost use Rattle.std.specs.Prelude.{◌≡◌, ◌⊎◌, ℕ, ◌+◌, ◌<◌, ◌≤◌, ◌∷◌, [], true, Contains, IfSome, IfNone, length, reverse};
 ghost use Rattle.hibitset_atomic.specs.declared.atomic.TheConstants.{ATOMIC_MAX_EID};
-ghost use Rattle.hibitset_atomic.specs.Seats.{IsOld, Came, Known, weight_of, reports_of};
+ghost use Rattle.hibitset_atomic.specs.Seats.{IsOld, BelongsTo, IsKnown, weight_of, reports_of};
 
 use hibitset::{ATOMIC_MAX_EID, Index, Seat, SharedBitSet};
 use std::alloc::Global;
 
-/// The identifiers that a thread took, in the order in which it took them, with its seat, and whether it was refused
-/// memory for more.
+/// The identifiers that a thread took, in the order in which it took them, with its seat, and whether it failed to
+/// allocate for more.
 #[derive(Drop)]
 pub struct Taken {
     pub seat: Seat,
@@ -22,15 +22,18 @@ pub struct Taken {
 /// then on. No two seats that are joined have a report in common, as `join` says, so no other of them is given it,
 /// whatever the threads do.
 pub fn take_fresh(set: &SharedBitSet, seat: &mut Seat, start: Index, tries: u32) -> Option<Index>
-    requires { Came set.now seat.old }
-    ensures came { Came set.now seat.new × (weight_of seat.new ≡ weight_of seat.old) }
-    ensures known { (i : ℕ) → Known seat.old i → Known seat.new i }
-    ensures within { IfSome result (λ id. (start ≤ id) × (id < start + tries) × (id < ATOMIC_MAX_EID)) }
-    ensures fresh { IfSome result (λ id. ¬ IsOld set.now id × ¬ Known seat.old id × ¬ Contains (reports_of seat.old) id) }
+    requires { BelongsTo set.now seat.old }
+    ensures came { BelongsTo set.now seat.new × (weight_of seat.new ≡ weight_of seat.old) }
+    ensures known { (i : ℕ) → IsKnown seat.old i → IsKnown seat.new i }
+    ensures within { IfSome result (λ id. (start ≤ id) × (id < start + tries)
+        × (id < ATOMIC_MAX_EID)) }
+    ensures fresh { IfSome result (λ id. ¬ IsOld set.now id × ¬ IsKnown seat.old id
+        × ¬ Contains (reports_of seat.old) id) }
     ensures given { IfSome result (λ id. reports_of seat.new ≡ id ∷ reports_of seat.old) }
-    ensures first { IfSome result (λ id. (i : ℕ) → start ≤ i → i ≤ id → Known seat.new i) }
+    ensures first { IfSome result (λ id. (i : ℕ) → start ≤ i → i ≤ id → IsKnown seat.new i) }
     ensures none { IfNone result (reports_of seat.new ≡ reports_of seat.old) }
-    ensures all { IfNone result ((i : ℕ) → start ≤ i → i < start + tries → i < ATOMIC_MAX_EID → Known seat.new i) }
+    ensures all { IfNone result ((i : ℕ) → start ≤ i → i < start + tries → i < ATOMIC_MAX_EID
+        → IsKnown seat.new i) }
 {
     let end = start.saturating_add(tries).min(ATOMIC_MAX_EID as Index);
     for id in start..end {
@@ -41,15 +44,16 @@ pub fn take_fresh(set: &SharedBitSet, seat: &mut Seat, start: Index, tries: u32)
     None
 }
 
-// Takes so many fresh identifiers into a list, or fewer where no more are found, or where memory is refused, which it
+// Takes so many fresh identifiers into a list, or fewer where no more are found, or if an allocation fails, which it
 // tells.
 fn take_into(set: &SharedBitSet, seat: &mut Seat, ids: &mut Vec<Index>, count: usize) -> bool
-    requires came { Came set.now seat.old }
+    requires came { BelongsTo set.now seat.old }
     requires none { (reports_of seat.old ≡ []) × (ids.old.items ≡ []) }
-    ensures came { Came set.now seat.new × (weight_of seat.new ≡ weight_of seat.old) }
+    ensures came { BelongsTo set.now seat.new × (weight_of seat.new ≡ weight_of seat.old) }
     ensures taken { reports_of seat.new ≡ reverse ids.new.items }
     ensures count { length ids.new.items ≤ count }
-    ensures short { (length ids.new.items ≡ count) ⊎ (result ≡ true) ⊎ ((i : ℕ) → i < ATOMIC_MAX_EID → Known seat.new i) }
+    ensures short { (length ids.new.items ≡ count) ⊎ (result ≡ true)
+        ⊎ ((i : ℕ) → i < ATOMIC_MAX_EID → IsKnown seat.new i) }
 {
     let mut start = 0;
     for _ in 0..count {
@@ -69,11 +73,12 @@ fn take_into(set: &SharedBitSet, seat: &mut Seat, ids: &mut Vec<Index>, count: u
 /// `refused` tells, and where each index below `ATOMIC_MAX_EID` is there, as the seat then knows. Room is made before
 /// one is taken, so that none is lost.
 pub fn take_many(alloc: Global, set: &SharedBitSet, seat: Seat, count: usize) -> Taken
-    requires { Came set.now seat × (reports_of seat ≡ []) }
-    ensures came { Came set.now result.seat × (weight_of result.seat ≡ weight_of seat) }
+    requires { BelongsTo set.now seat × (reports_of seat ≡ []) }
+    ensures came { BelongsTo set.now result.seat × (weight_of result.seat ≡ weight_of seat) }
     ensures taken { reports_of result.seat ≡ reverse result.ids.items }
     ensures count { length result.ids.items ≤ count }
-    ensures short { (length result.ids.items ≡ count) ⊎ (result.refused ≡ true) ⊎ ((i : ℕ) → i < ATOMIC_MAX_EID → Known result.seat i) }
+    ensures short { (length result.ids.items ≡ count) ⊎ (result.refused ≡ true)
+        ⊎ ((i : ℕ) → i < ATOMIC_MAX_EID → IsKnown result.seat i) }
 {
     let mut seat = seat;
     let mut ids = Vec::new(alloc);

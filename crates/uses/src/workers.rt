@@ -2,9 +2,9 @@
 ghost use Rattle.std.specs.Prelude.{◌≡◌, ◌⊎◌, ◌↔◌, ℕ, ◌+◌, ◌<◌, [], true, All, Any, Contains, length, IfOk, IfErr};
 ghost use Rattle.std.specs.List.{sum_by, flat_map, AllZip};
 ghost use Rattle.hibitset_atomic.specs.declared.atomic.TheConstants.{ATOMIC_MAX_EID};
-ghost use Rattle.hibitset_atomic.specs.declared.shared.sizes.TheConstants.{SHARES};
+ghost use Rattle.hibitset_atomic.specs.declared.shared.layout.TheConstants.{SHARES};
 ghost use Rattle.hibitset_atomic.specs.AtomicBitSet.{has};
-ghost use Rattle.hibitset_atomic.specs.Seats.{IsOld, Came, Known, weight_of, reports_of};
+ghost use Rattle.hibitset_atomic.specs.Seats.{IsOld, BelongsTo, IsKnown, weight_of, reports_of};
 ghost use Rattle.uses.specs.Workers.{IsJob, IsWork, IsWorkOf, IsListed, IsNumberOfNew, IsLeft, list_of, seat_weight, new_reports};
 
 use hibitset::{ATOMIC_MAX_EID, AtomicBitSet, Index, Seat, SharedBitSet};
@@ -19,7 +19,7 @@ pub struct Added {
     pub new: usize,
 }
 
-/// Where memory was refused, and what is left then.
+/// If an allocation failed, and what is left then.
 #[derive(Drop)]
 pub enum Refused {
     /// When the set was to be shared: it is as it was.
@@ -46,11 +46,12 @@ struct Work {
 
 // Adds the indices of a list that lie in range, and counts those that the seat put in.
 fn add_list(set: &SharedBitSet, seat: &mut Seat, list: &[Index]) -> usize
-    requires { Came set.now seat.old × (reports_of seat.old ≡ []) }
-    ensures came { Came set.now seat.new × (weight_of seat.new ≡ weight_of seat.old) }
+    requires { BelongsTo set.now seat.old × (reports_of seat.old ≡ []) }
+    ensures came { BelongsTo set.now seat.new × (weight_of seat.new ≡ weight_of seat.old) }
     ensures new { result ≡ length (reports_of seat.new) }
-    ensures known { (i : ℕ) → Contains list.now i → i < ATOMIC_MAX_EID → Known seat.new i }
-    ensures reported { (i : ℕ) → Contains (reports_of seat.new) i → (i < ATOMIC_MAX_EID) × Contains list.now i }
+    ensures known { (i : ℕ) → Contains list.now i → i < ATOMIC_MAX_EID → IsKnown seat.new i }
+    ensures reported { (i : ℕ) → Contains (reports_of seat.new) i
+        → (i < ATOMIC_MAX_EID) × Contains list.now i }
 {
     let mut new = 0;
     for id in list {
@@ -78,13 +79,15 @@ fn jobs_of(
     lists: Vec<Vec<Index>>,
     alloc: Global,
 ) -> Result<(Seat, Vec<Job>), Seat>
-    requires seat { Came set.now seat × (reports_of seat ≡ []) }
+    requires seat { BelongsTo set.now seat × (reports_of seat ≡ []) }
     requires few { length lists.items < weight_of seat }
-    ensures back { IfErr result (λ s. s ≡ seat) }
-    ensures kept { IfOk result (λ r. Came set.now r.0 × (reports_of r.0 ≡ [])) }
+    ensures value_returned { IfErr result (λ s. s ≡ seat) }
+    ensures kept { IfOk result (λ r. BelongsTo set.now r.0 × (reports_of r.0 ≡ [])) }
     ensures jobs { IfOk result (λ r. All (IsJob set.now) r.1.items) }
-    ensures lists { IfOk result (λ r. flat_map list_of r.1.items ≡ flat_map (λ list. list.items) lists.items) }
-    ensures weight { IfOk result (λ r. weight_of r.0 + sum_by (λ job. weight_of job.seat) r.1.items ≡ weight_of seat) }
+    ensures lists { IfOk result (λ r. flat_map list_of r.1.items
+        ≡ flat_map (λ list. list.items) lists.items) }
+    ensures weight { IfOk result (λ r. weight_of r.0 + sum_by (λ job. weight_of job.seat) r.1.items
+        ≡ weight_of seat) }
 {
     let Ok(mut jobs) = Vec::with_capacity(alloc, lists.len()) else {
         return Err(seat);
@@ -121,11 +124,12 @@ fn run<R: Threads + Sync>(
 
 // The seat that stayed here and those of all workers, joined, and how many indices they put in.
 fn together(set: &SharedBitSet, kept: Seat, works: Vec<Work>) -> Work
-    requires kept { Came set.now kept × (reports_of kept ≡ []) }
+    requires kept { BelongsTo set.now kept × (reports_of kept ≡ []) }
     requires works { All (IsWork set.now) works.items }
-    ensures came { Came set.now result.seat }
+    ensures came { BelongsTo set.now result.seat }
     ensures weight { weight_of result.seat ≡ weight_of kept + sum_by seat_weight works.items }
-    ensures known { (i : ℕ) → Any (λ work. Known work.seat i) works.items → Known result.seat i }
+    ensures known { (i : ℕ) → Any (λ work. IsKnown work.seat i) works.items
+        → IsKnown result.seat i }
     ensures reports { reports_of result.seat ≡ flat_map new_reports works.items }
     ensures new { result.new ≡ length (reports_of result.seat) }
 {
@@ -142,7 +146,7 @@ fn together(set: &SharedBitSet, kept: Seat, works: Vec<Work>) -> Work
 /// Indices from `ATOMIC_MAX_EID` on are left out.
 ///
 /// The set has exactly its old members and the indices of the lists, whatever the threads do. A seat stays here while
-/// they work, so that the set can be settled where some of them were refused memory.
+/// they work, so that the set can be settled where some of them failed to allocate.
 pub fn add_lists<R: Threads + Sync>(
     rt: &R,
     alloc: Global,
@@ -150,8 +154,10 @@ pub fn add_lists<R: Threads + Sync>(
     lists: Vec<Vec<Index>>,
 ) -> Result<Added, Refused>
     requires { length lists.items < SHARES }
-    ensures members { IfOk result (λ added. (i : ℕ) → (has added.set i ≡ true) ↔ ((has set i ≡ true) ⊎ IsListed lists.items i)) }
-    ensures new { IfOk result (λ added. IsNumberOfNew (λ i. has set i ≡ true) (has added.set) added.new) }
+    ensures members { IfOk result (λ added. (i : ℕ)
+        → (has added.set i ≡ true) ↔ ((has set i ≡ true) ⊎ IsListed lists.items i)) }
+    ensures new { IfOk result (λ added. IsNumberOfNew (λ i. has set i ≡ true) (has added.set)
+        added.new) }
     ensures left { IfErr result (IsLeft (λ i. has set i ≡ true) (λ s. s ≡ set) lists.items) }
 {
     match set.share() {
@@ -168,9 +174,10 @@ fn add_shared<R: Threads + Sync>(
     seat: Seat,
     lists: Vec<Vec<Index>>,
 ) -> Result<Added, Refused>
-    requires seat { Came set seat × (reports_of seat ≡ []) × (weight_of seat ≡ SHARES) }
+    requires seat { BelongsTo set seat × (reports_of seat ≡ []) × (weight_of seat ≡ SHARES) }
     requires few { length lists.items < SHARES }
-    ensures members { IfOk result (λ added. (i : ℕ) → (has added.set i ≡ true) ↔ (IsOld set i ⊎ IsListed lists.items i)) }
+    ensures members { IfOk result (λ added. (i : ℕ)
+        → (has added.set i ≡ true) ↔ (IsOld set i ⊎ IsListed lists.items i)) }
     ensures new { IfOk result (λ added. IsNumberOfNew (IsOld set) (has added.set) added.new) }
     ensures left { IfErr result (IsLeft (IsOld set) (λ _. ⊥) lists.items) }
 {

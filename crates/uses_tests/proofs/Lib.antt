@@ -1,2 +1,2 @@
-mod Turning
-mod Walking
+mod TurnLemmas
+mod WorldWalkLemmas

@@ -2,8 +2,8 @@
 use Rattle.std.specs.Prelude.{◌≡◌, ◌⊎◌, ℕ, ◌/◌, Bool, true, List, [], ◌∷◌, Option, Some, None}
 use Rattle.hibitset_atomic.specs.declared.steps.state.World.{World}
 use Rattle.hibitset_base.specs.Places.{Place}
-use Rattle.hibitset_atomic.specs.Pasts.{Walk, is_there}
-use Rattle.hibitset_atomic.specs.Honest.{is_finished}
+use Rattle.hibitset_atomic.specs.History.{Walk, is_there}
+use Rattle.hibitset_atomic.specs.HistoryFacts.{is_finished}
 use Rattle.hibitset_atomic.specs.Worlds.{old_of, past_of, walk_in}
 
 -- the index is in the set: it was there at first, or a call has put it in

@@ -1,7 +1,7 @@
 //! Walks of seats that add in turn; what else is called, in modules of its own.
 ghost use Rattle.std.specs.Prelude.{◌≡◌, ◌<◌};
 ghost use Rattle.hibitset_atomic.specs.declared.atomic.TheConstants.{ATOMIC_MAX_EID};
-ghost use Rattle.hibitset_atomic.specs.Seats.{Came};
+ghost use Rattle.hibitset_atomic.specs.Seats.{BelongsTo};
 
 use hibitset::{AtomicBitSet, Index, Seat, SharedBitSet};
 use std::test::Fail;
@@ -17,8 +17,8 @@ mod workers;
 
 // Adds the indices below a count, and counts the answers false.
 fn add_below(set: &SharedBitSet, seat: &mut Seat, count: u32) -> u32
-    requires { Came set.now seat.old × (count < ATOMIC_MAX_EID) }
-    ensures { Came set.now seat.new }
+    requires { BelongsTo set.now seat.old × (count < ATOMIC_MAX_EID) }
+    ensures { BelongsTo set.now seat.new }
 {
     let mut new = 0u32;
     for id in 0..count {
@@ -31,8 +31,8 @@ fn add_below(set: &SharedBitSet, seat: &mut Seat, count: u32) -> u32
 
 // How many of these indices are found.
 fn found_of(set: &SharedBitSet, seat: &mut Seat, ids: &[Index]) -> usize
-    requires { Came set.now seat.old }
-    ensures { Came set.now seat.new }
+    requires { BelongsTo set.now seat.old }
+    ensures { BelongsTo set.now seat.new }
 {
     let mut found = 0usize;
     for id in ids {

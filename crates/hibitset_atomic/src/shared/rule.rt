@@ -7,53 +7,53 @@ use std::snapshot::Snapshot;
 pub struct FourLayers;
 
 impl TableRule<(), View, Snapshot<Vec<u64>>> for FourLayers {
-    ghost use Rattle.hibitset_atomic.specs.Rule.{Holds, opener};
+    ghost use Rattle.hibitset_atomic.specs.Rule.{Invariant, opening_view};
 
-    ghost holds = { λ k. Holds k.value.items };
+    ghost holds = { λ k. Invariant k.value.items };
 
-    ghost first = { λ k. opener k.value.items };
+    ghost first = { λ k. opening_view k.value.items };
 }
 
-pub struct Enters;
+pub struct FetchOrLayer0;
 
-impl Play<(), View> for Enters {
-    ghost use Rattle.hibitset_atomic.specs.Rule.{Entered};
+impl Play<(), View> for FetchOrLayer0 {
+    ghost use Rattle.hibitset_atomic.specs.Rule.{IsFetchOrLayer0};
 
-    ghost then = { Entered };
+    ghost then = { IsFetchOrLayer0 };
 }
 
-pub struct Marks;
+pub struct FetchOrSummary;
 
-impl Play<(), View> for Marks {
-    ghost use Rattle.hibitset_atomic.specs.Rule.{Marked};
+impl Play<(), View> for FetchOrSummary {
+    ghost use Rattle.hibitset_atomic.specs.Rule.{IsFetchOrSummary};
 
-    ghost then = { Marked };
+    ghost then = { IsFetchOrSummary };
 }
 
-pub struct Looks;
+pub struct Load;
 
-impl Play<(), View> for Looks {
-    ghost use Rattle.hibitset_atomic.specs.Rule.{Looked};
+impl Play<(), View> for Load {
+    ghost use Rattle.hibitset_atomic.specs.Rule.{IsLoad};
 
-    ghost then = { Looked };
+    ghost then = { IsLoad };
 }
 
-pub struct Halves;
+pub struct SplitSeat;
 
-impl Split<View> for Halves {
-    ghost use Rattle.hibitset_atomic.specs.Rule.{keeper, newcomer};
+impl Split<View> for SplitSeat {
+    ghost use Rattle.hibitset_atomic.specs.Rule.{first_half, second_half};
 
-    ghost left = { keeper };
+    ghost left = { first_half };
 
-    ghost right = { newcomer };
+    ghost right = { second_half };
 }
 
-pub struct Unites;
+pub struct JoinSeats;
 
-impl Join<View> for Unites {
-    ghost use Rattle.hibitset_atomic.specs.Rule.{together, nobody};
+impl Join<View> for JoinSeats {
+    ghost use Rattle.hibitset_atomic.specs.Rule.{joined_view, empty_view};
 
-    ghost both = { together };
+    ghost both = { joined_view };
 
-    ghost spent = { nobody };
+    ghost spent = { empty_view };
 }

@@ -3,19 +3,19 @@ ghost use Rattle.std.specs.Prelude.{◌≡◌, ◌⊎◌, ℕ, ◌+◌, ◌-◌,
 ghost use Rattle.std.specs.Iterator.{at_most};
 ghost use Rattle.std.specs.Int.{bit_at};
 ghost use Rattle.hibitset_base.specs.Places.{Place};
-ghost use Rattle.hibitset_base.specs.Cursor.{left, MayGoOn};
-ghost use Rattle.hibitset_base.specs.Reading.{depth};
+ghost use Rattle.hibitset_base.specs.Cursor.{cursor_places, CanContinueAt};
+ghost use Rattle.hibitset_base.specs.WordsRead.{depth};
 ghost use Rattle.hibitset_atomic.specs.Lists.{Has};
 ghost use Rattle.hibitset_atomic.specs.Levels.{first_mark};
 ghost use Rattle.hibitset_atomic.specs.declared.atomic.TheConstants.{ATOMIC_MAX_EID};
 ghost use Rattle.hibitset_atomic.specs.declared.layers.TheConstants.{ATOMIC_LAYERS};
-ghost use Rattle.hibitset_atomic.specs.Seats.{IsOld, Came, Known, weight_of, reports_of, loads_by, exchanges_by};
-ghost use Rattle.hibitset_atomic.specs.SharedWalk.{view_of, IsSure, Keeps, Goes, MayStand, set_of, seat_of, lender, loads_of, next_from, IsReady, IsDue, SharedSteps};
+ghost use Rattle.hibitset_atomic.specs.Seats.{IsOld, BelongsTo, IsKnown, weight_of, reports_of, loads_by, exchanges_by};
+ghost use Rattle.hibitset_atomic.specs.SharedWalk.{view_of, IsOldOrKnown, Keeps, LoadsTo, WalkInvariant, set_of, seat_of, lender, loads_of, next_from, IsReady, IsDue, SharedSteps};
 
 use crate::layers::ATOMIC_LAYERS;
-use crate::shared::parts::{Seat, SharedBitSet};
+use crate::shared::types::{Seat, SharedBitSet};
 use hibitset_base::cursor::Cursor;
-use hibitset_base::reads::Reads;
+use hibitset_base::read_count::Reads;
 use hibitset_base::util::Index;
 
 // The layers, and the root over them: one place, over the word of the highest layer.
@@ -29,7 +29,7 @@ pub(crate) const LEVELS: usize = ATOMIC_LAYERS + 1;
 /// nothing that was old or known lies before the last item without having been given.
 ///
 /// A step makes a few loads, each a sequentially consistent read of one word, and nothing else: at most four at the
-/// first `next`, at most three at each later one. It takes no memory, writes nothing to the set and waits for nobody.
+/// first `next`, at most three at each later one. It does not allocate, writes nothing to the set and waits for nobody.
 pub struct SharedWalk<'a> {
     pub(crate) seat: &'a mut Seat,
     pub(crate) set: &'a SharedBitSet,
@@ -55,7 +55,7 @@ impl Drop for SharedWalk<'_> {
 
 // Loads the word of a layer at a position. Each load of a walk is made here.
 #[inline]
-#[tactic(auto, unfolding(crate::specs::Seats::Came, crate::specs::Seats::Known, crate::specs::Seats::IsOld, crate::specs::Seats::weight_of, crate::specs::Seats::reports_of, crate::specs::Seats::loads_by, crate::specs::Seats::exchanges_by))]
+#[tactic(auto, unfolding(crate::specs::Seats::BelongsTo, crate::specs::Seats::IsKnown, crate::specs::Seats::IsOld, crate::specs::Seats::weight_of, crate::specs::Seats::reports_of, crate::specs::Seats::loads_by, crate::specs::Seats::exchanges_by))]
 fn load(
     set: &SharedBitSet,
     seat: &mut Seat,
@@ -63,18 +63,20 @@ fn load(
     layer: usize,
     position: u32,
 ) -> usize
-    requires came { Came set.now seat.old }
+    requires came { BelongsTo set.now seat.old }
     requires layer { layer < ATOMIC_LAYERS }
     requires position { position < 64 ^ (ATOMIC_LAYERS - 1 - layer) }
     ensures keeps { Keeps set.now seat.old seat.new }
     ensures some { Has (view_of seat.old).seen (first_mark (layer + 1) + position) → 0 < result }
-    ensures seen { (b : ℕ) → b < 64 → bit_at result b ≡ 1 → Has (view_of seat.new).seen (first_mark layer + (64 * position + b)) }
-    ensures due { (i : ℕ) → IsSure set.now seat.old i → i / 64 ^ (layer + 1) ≡ position → bit_at result (i / 64 ^ layer % 64) ≡ 1 }
+    ensures seen { (b : ℕ) → b < 64 → bit_at result b ≡ 1
+        → Has (view_of seat.new).seen (first_mark layer + (64 * position + b)) }
+    ensures due { (i : ℕ) → IsOldOrKnown set.now seat.old i → i / 64 ^ (layer + 1) ≡ position
+        → bit_at result (i / 64 ^ layer % 64) ≡ 1 }
     ensures reads { reads.new.count ≡ reads.old.count + 1 }
     ensures counted { loads_by seat.new ≡ loads_by seat.old + 1 }
 {
-    *reads = Reads::one_more(reads);
-    set.word(&mut seat.pass, layer, position) as usize
+    *reads = Reads::succ(reads);
+    set.load_word(&mut seat.pass, layer, position) as usize
 }
 
 // Loads the word under a place that was taken, and puts its bits in the place's stead.
@@ -87,31 +89,37 @@ fn descend(
     layer: usize,
     position: u32,
 )
-    requires came { Came set.now seat.old }
+    requires came { BelongsTo set.now seat.old }
     requires layer { layer ≤ ATOMIC_LAYERS }
     requires above { 0 < layer }
-    requires rest { MayGoOn cursor.old layer position }
-    requires stands { MayStand (view_of seat.old) reads.old.count ((record { layer = layer; position = position }) ∷ left cursor.old) }
-    ensures goes { Goes set.now seat.old seat.new reads.old.count ((record { layer = layer; position = position }) ∷ left cursor.old) reads.new.count (left cursor.new) }
-    ensures fewer { depth (left cursor.new) < layer }
+    requires rest { CanContinueAt cursor.old layer position }
+    requires stands { WalkInvariant (view_of seat.old) reads.old.count
+        ((record { layer = layer; position = position }) ∷ cursor_places cursor.old) }
+    ensures goes { LoadsTo set.now seat.old seat.new reads.old.count
+        ((record { layer = layer; position = position }) ∷ cursor_places cursor.old) reads.new.count
+        (cursor_places cursor.new) }
+    ensures fewer { depth (cursor_places cursor.new) < layer }
 {
     let word = load(set, seat, reads, layer - 1, position);
-    cursor.put(layer - 1, position, word);
+    cursor.push_bits(layer - 1, position, word);
 }
 
 // The first index that is left, which is taken.
 #[inline]
-fn step(
+fn next_index(
     set: &SharedBitSet,
     seat: &mut Seat,
     cursor: &mut Cursor<LEVELS>,
     reads: &mut Reads,
 ) -> Option<Index>
-    requires came { Came set.now seat.old }
-    requires stands { MayStand (view_of seat.old) reads.old.count (left cursor.old) }
-    ensures end { result ≡ None → (left cursor.new ≡ []) }
-    ensures goes { MatchOption result (Goes set.now seat.old seat.new reads.old.count (left cursor.old) reads.new.count (left cursor.new)) (λ i. Goes set.now seat.old seat.new reads.old.count (left cursor.old) reads.new.count ((record { layer = 0; position = i }) ∷ left cursor.new)) }
-    ensures before { IfSome result (λ i. MayGoOn cursor.new 0 i) }
+    requires came { BelongsTo set.now seat.old }
+    requires stands { WalkInvariant (view_of seat.old) reads.old.count (cursor_places cursor.old) }
+    ensures end { result ≡ None → (cursor_places cursor.new ≡ []) }
+    ensures goes { MatchOption result (LoadsTo set.now seat.old seat.new reads.old.count
+        (cursor_places cursor.old) reads.new.count (cursor_places cursor.new))
+        (λ i. LoadsTo set.now seat.old seat.new reads.old.count (cursor_places cursor.old)
+        reads.new.count ((record { layer = 0; position = i }) ∷ cursor_places cursor.new)) }
+    ensures before { IfSome result (λ i. CanContinueAt cursor.new 0 i) }
 {
     'places: while let Some((layer, position)) = cursor.take_lowest() {
         if layer == 0 {
@@ -131,11 +139,11 @@ impl SharedBitSet {
     #[inline]
     #[tactic(auto, unfolding(crate::specs::SharedWalk::set_of, crate::specs::SharedWalk::seat_of, crate::specs::SharedWalk::loads_of))]
     pub fn walk<'a>(&'a self, seat: &'a mut Seat) -> SharedWalk<'a>
-        requires { Came self.now seat.old }
+        requires { BelongsTo self.now seat.old }
         ensures same_reference { lender result ≡ seat.entry.ghost_name }
         ensures over { (set_of result ≡ self.now) × (seat_of result ≡ seat.old) }
         ensures ready { IsReady result }
-        ensures due { (i : ℕ) → IsOld self.now i ⊎ Known seat.old i → IsDue result i }
+        ensures due { (i : ℕ) → IsOld self.now i ⊎ IsKnown seat.old i → IsDue result i }
         ensures loads { loads_of result ≡ 0 }
     {
         SharedWalk {
@@ -159,6 +167,6 @@ impl<'a> Iterator for SharedWalk<'a> {
     #[inline]
     #[tactic(auto, unfolding(crate::specs::SharedWalk::set_of, crate::specs::SharedWalk::seat_of, crate::specs::SharedWalk::loads_of, crate::specs::SharedWalk::IsReady))]
     fn next(&mut self) -> Option<Index> {
-        step(self.set, self.seat, &mut self.cursor, &mut self.reads)
+        next_index(self.set, self.seat, &mut self.cursor, &mut self.reads)
     }
 }

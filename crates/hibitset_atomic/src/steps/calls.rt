@@ -22,7 +22,7 @@ pub struct Calls {
 }
 
 impl Calls {
-    ghost use Rattle.hibitset_atomic.specs.Kept.{call_in};
+    ghost use Rattle.hibitset_atomic.specs.CoreState.{call_in};
     ghost use Rattle.hibitset_atomic.specs.declared.steps.calls.Call.{Call};
 
     /// No call has begun.
@@ -43,8 +43,9 @@ impl Calls {
 
     /// Puts a call under a number. It can't be refused where a call stands there.
     pub(crate) fn put(&mut self, number: u32, call: Call) -> Result<(), AllocError>
-        ensures put { OnOk result ((c : ℕ) → call_in self.new c ≡ cond (number == c) (Some call) (call_in self.old c)) }
-        ensures refused { OnErr result ((c : ℕ) → call_in self.new c ≡ call_in self.old c) }
+        ensures put { OnOk result ((c : ℕ)
+            → call_in self.new c ≡ cond (number == c) (Some call) (call_in self.old c)) }
+        ensures err { OnErr result ((c : ℕ) → call_in self.new c ≡ call_in self.old c) }
         ensures there { IsSome (call_in self.old number) → IsOk result }
     {
         match self.map.insert(number, call) {
@@ -56,12 +57,13 @@ impl Calls {
     /// Puts a call in the place of one that stands there.
     pub(crate) fn set(&mut self, number: u32, call: Call)
         requires { IsSome (call_in self.old number) }
-        ensures { (c : ℕ) → call_in self.new c ≡ cond (number == c) (Some call) (call_in self.old c) }
+        ensures { (c : ℕ) → call_in self.new c
+            ≡ cond (number == c) (Some call) (call_in self.old c) }
     {
         self.put(number, call).unwrap();
     }
 
-    /// Tells whether every call has passed `layers` layers.
+    /// Returns whether every call has passed `layers` layers.
     pub(crate) fn all_passed(&self, layers: u32) -> bool
         ensures all { IsTrue result ↔ All (λ call. call.passed ≡ layers) (values self.now.map) }
         ensures ordered { IsOrdered nat_cmp self.now.map }

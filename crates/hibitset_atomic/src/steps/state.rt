@@ -2,7 +2,7 @@
 ghost use Rattle.std.specs.Prelude.{reverse};
 ghost use Rattle.hibitset_atomic.specs.AtomicBitSet.{has};
 ghost use Rattle.hibitset_atomic.specs.Layers.{layer_word};
-ghost use Rattle.hibitset_atomic.specs.Kept.{IsOfPast};
+ghost use Rattle.hibitset_atomic.specs.CoreState.{IsOfPast};
 ghost use Rattle.hibitset_atomic.specs.declared.layers.TheConstants.{ATOMIC_LAYERS};
 
 use crate::atomic::AtomicBitSet;
@@ -22,5 +22,6 @@ pub struct World {
     pub(crate) layers: Layers,
     pub(crate) calls: Calls,
     pub(crate) walks: Walks,
-    ghost of_past: { IsOfPast ATOMIC_LAYERS (has start.value) (reverse past.items) (layer_word layers) calls walks },
+    ghost of_past: { IsOfPast ATOMIC_LAYERS (has start.value) (reverse past.items)
+        (layer_word layers) calls walks },
 }

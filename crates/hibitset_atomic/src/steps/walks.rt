@@ -1,7 +1,7 @@
 //! The walks of a world, by their numbers.
 ghost use Rattle.std.specs.Prelude.{◌≡◌, ℕ, true, Option, Some, None, cond, ◌==◌, ◌*◌, ◌+◌, ◌-◌, ◌^◌, ◌≤◌, ◌<◌, ◌++◌, length, IsTrue, ◌↔◌, IsSome, IsOk, OnOk, OnErr, IfOk, [], ◌∷◌, MatchOption};
 ghost use Rattle.std.specs.Vec.{vec_capacity};
-ghost use Rattle.hibitset_base.specs.Cursor.{left};
+ghost use Rattle.hibitset_base.specs.Cursor.{cursor_places};
 ghost use Rattle.hibitset_base.specs.Places.{bits_from};
 ghost use Rattle.hibitset_atomic.specs.Ahead.{AllAbove};
 
@@ -17,7 +17,7 @@ pub(crate) struct Progress {
     pub(crate) items: Vec<Index>,
     pub(crate) is_new: bool,
     pub(crate) cursor: Cursor<ATOMIC_LAYERS>,
-    ghost above: { AllAbove (left cursor) },
+    ghost above: { AllAbove (cursor_places cursor) },
 }
 
 // Appends the positions of the bits of a word, where bit 0 is at `start`.
@@ -35,9 +35,9 @@ fn push_bits(items: &mut Vec<Index>, word: usize, start: Index)
 
 impl Progress {
     ghost use Rattle.hibitset_atomic.specs.Layers.{layer_word};
-    ghost use Rattle.hibitset_atomic.specs.LayerBits.{lit};
-    ghost use Rattle.hibitset_atomic.specs.Pasts.{read_first, top_word};
-    ghost use Rattle.hibitset_atomic.specs.Kept.{left_of, FirstWord};
+    ghost use Rattle.hibitset_atomic.specs.LayerBits.{layer_bit};
+    ghost use Rattle.hibitset_atomic.specs.History.{read_first, top_word};
+    ghost use Rattle.hibitset_atomic.specs.CoreState.{left_of, FirstWord};
 
     /// Nothing is read.
     pub(crate) fn new(alloc: Global) -> Progress
@@ -51,7 +51,7 @@ impl Progress {
         }
     }
 
-    /// Tells whether no word is left.
+    /// Returns whether no word is left.
     pub(crate) fn is_done(&self) -> bool
         ensures { IsTrue result ↔ (left_of self.now ≡ []) }
     {
@@ -60,11 +60,16 @@ impl Progress {
 
     /// Reads the next word. It answers the word, and whether none is left.
     pub(crate) fn read(&mut self, layers: &Layers) -> Result<(usize, bool), AllocError>
-        ensures items { OnOk result (self.new.items.items ≡ (read_first (lit (layer_word layers.now)) self.old.items.items 0 (left_of self.old)).items) }
-        ensures left { OnOk result (left_of self.new ≡ (read_first (lit (layer_word layers.now)) self.old.items.items 0 (left_of self.old)).left) }
+        ensures items { OnOk result (self.new.items.items
+            ≡ (read_first (layer_bit (layer_word layers.now)) self.old.items.items 0
+            (left_of self.old)).items) }
+        ensures left { OnOk result (left_of self.new
+            ≡ (read_first (layer_bit (layer_word layers.now)) self.old.items.items 0
+            (left_of self.old)).left) }
         ensures word { IfOk result (λ r. FirstWord (layer_word layers.now) (left_of self.old) r.0) }
         ensures ended { IfOk result (λ r. IsTrue r.1 ↔ (left_of self.new ≡ [])) }
-        ensures refused { OnErr result ((self.new.items.items ≡ self.old.items.items) × (left_of self.new ≡ left_of self.old)) }
+        ensures err { OnErr result ((self.new.items.items ≡ self.old.items.items)
+            × (left_of self.new ≡ left_of self.old)) }
     {
         self.items.reserve(64)?;
         if self.is_new {
@@ -81,7 +86,7 @@ impl Progress {
             push_bits(&mut self.items, word, position * 64);
             return Ok((word, self.cursor.is_done()));
         }
-        self.cursor.put(layer - 1, position, word);
+        self.cursor.push_bits(layer - 1, position, word);
         Ok((word, self.cursor.is_done()))
     }
 }
@@ -94,9 +99,9 @@ pub(crate) struct Walks {
 
 impl Walks {
     ghost use Rattle.hibitset_atomic.specs.Layers.{layer_word};
-    ghost use Rattle.hibitset_atomic.specs.LayerBits.{lit};
-    ghost use Rattle.hibitset_atomic.specs.Pasts.{top_word};
-    ghost use Rattle.hibitset_atomic.specs.Kept.{shown_in, read_shown, Told, Shown};
+    ghost use Rattle.hibitset_atomic.specs.LayerBits.{layer_bit};
+    ghost use Rattle.hibitset_atomic.specs.History.{top_word};
+    ghost use Rattle.hibitset_atomic.specs.CoreState.{shown_in, read_shown, Told, Shown};
 
     /// No walk has begun.
     pub(crate) fn new(alloc: Global) -> Walks
@@ -107,9 +112,11 @@ impl Walks {
         }
     }
 
-    /// Tells whether a walk has ended; none where the number is unknown.
+    /// Returns whether a walk has ended; none where the number is unknown.
     pub(crate) fn is_done(&self, number: u32) -> Option<bool>
-        ensures { MatchOption result (shown_in self.now number ≡ None) (λ done. (shown : Shown) × (shown_in self.now number ≡ Some shown) × (IsTrue done ↔ (shown.left ≡ []))) }
+        ensures { MatchOption result (shown_in self.now number ≡ None)
+            (λ done. (shown : Shown) × (shown_in self.now number ≡ Some shown)
+            × (IsTrue done ↔ (shown.left ≡ []))) }
     {
         match self.map.get(&number) {
             None => None,
@@ -119,7 +126,9 @@ impl Walks {
 
     /// The items of a walk so far.
     pub(crate) fn items(&self, number: u32) -> Option<&[Index]>
-        ensures { MatchOption result (shown_in self.now number ≡ None) (λ items. (shown : Shown) × (shown_in self.now number ≡ Some shown) × (shown.items ≡ items.now)) }
+        ensures { MatchOption result (shown_in self.now number ≡ None)
+            (λ items. (shown : Shown) × (shown_in self.now number ≡ Some shown)
+            × (shown.items ≡ items.now)) }
     {
         match self.map.get(&number) {
             None => None,
@@ -130,8 +139,11 @@ impl Walks {
     /// Begins a walk.
     pub(crate) fn open(&mut self, alloc: Global, number: u32) -> Result<(), AllocError>
         requires { shown_in self.old number ≡ None }
-        ensures opened { OnOk result ((w : ℕ) → shown_in self.new w ≡ cond (number == w) (Some (record { items = []; left = top_word ATOMIC_LAYERS ∷ [] })) (shown_in self.old w)) }
-        ensures refused { OnErr result ((w : ℕ) → shown_in self.new w ≡ shown_in self.old w) }
+        ensures opened { OnOk result ((w : ℕ)
+            → shown_in self.new w ≡ cond (number == w)
+            (Some (record { items = []; left = top_word ATOMIC_LAYERS ∷ [] }))
+            (shown_in self.old w)) }
+        ensures err { OnErr result ((w : ℕ) → shown_in self.new w ≡ shown_in self.old w) }
     {
         match self.map.insert(number, Progress::new(alloc)) {
             Ok(_) => Ok(()),
@@ -141,9 +153,13 @@ impl Walks {
 
     /// A walk reads its next word.
     pub(crate) fn read(&mut self, number: u32, layers: &Layers) -> Result<(usize, bool), AllocError>
-        ensures read { OnOk result ((w : ℕ) → shown_in self.new w ≡ cond (number == w) (read_shown (lit (layer_word layers.now)) (shown_in self.old w)) (shown_in self.old w)) }
-        ensures answer { IfOk result (λ r. Told (layer_word layers.now) (shown_in self.old number) (shown_in self.new number) r.0 r.1) }
-        ensures refused { OnErr result ((w : ℕ) → shown_in self.new w ≡ shown_in self.old w) }
+        ensures read { OnOk result ((w : ℕ)
+            → shown_in self.new w ≡ cond (number == w)
+            (read_shown (layer_bit (layer_word layers.now)) (shown_in self.old w))
+            (shown_in self.old w)) }
+        ensures answer { IfOk result (λ r. Told (layer_word layers.now) (shown_in self.old number)
+            (shown_in self.new number) r.0 r.1) }
+        ensures err { OnErr result ((w : ℕ) → shown_in self.new w ≡ shown_in self.old w) }
     {
         match self.map.get_mut(&number) {
             None => Ok((0, true)),

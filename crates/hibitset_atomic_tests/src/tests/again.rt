@@ -1,7 +1,7 @@
 //! Calls made a second time, with seats of any weight, and over many indices:
 //! none of them is refused, and all answer as the first ones do.
 ghost use Rattle.std.specs.Prelude.{◌≡◌, ◌<◌, IfSome};
-ghost use Rattle.hibitset_atomic.specs.Seats.{Came};
+ghost use Rattle.hibitset_atomic.specs.Seats.{BelongsTo};
 ghost use Rattle.hibitset_atomic.specs.declared.atomic.TheConstants.{ATOMIC_MAX_EID};
 
 use crate::tests::{assert_members, assert_new, set_of, settled, shared};
@@ -11,7 +11,7 @@ use hibitset_base::{BitSetLike, Index};
 use std::alloc::AllocError;
 use std::process::Abort;
 
-// A set that was shared, to which one index was added, and that is held alone again. None where memory was refused, or
+// A set that was shared, to which one index was added, and that is held alone again. None if an allocation failed, or
 // where the answer was not that the index is new.
 fn shared_and_settled(set: AtomicBitSet, id: Index) -> Option<AtomicBitSet>
     requires { id < ATOMIC_MAX_EID }
@@ -48,8 +48,8 @@ fn shared_again(rt: HostRuntime) -> Result<(), AllocError> {
 
 // A seat of all shares but one, and the seat of that one.
 fn all_but_one(set: &SharedBitSet, seat: Seat) -> Option<(Seat, Seat)>
-    requires { Came set.now seat }
-    ensures { IfSome result (λ seats. Came set.now seats.0 × Came set.now seats.1) }
+    requires { BelongsTo set.now seat }
+    ensures { IfSome result (λ seats. BelongsTo set.now seats.0 × BelongsTo set.now seats.1) }
 {
     let (mut first, rest) = set.divide(seat);
     let mut rest = rest?;
@@ -77,8 +77,8 @@ fn settled_with_all_shares_but_one(rt: HostRuntime) -> Result<(), AllocError> {
 
 // A seat of three shares: one of two, and half of another of two.
 fn three_shares(set: &SharedBitSet, seat: Seat) -> Option<Seat>
-    requires { Came set.now seat }
-    ensures { IfSome result (λ seat. Came set.now seat) }
+    requires { BelongsTo set.now seat }
+    ensures { IfSome result (λ seat. BelongsTo set.now seat) }
 {
     let mut first = seat;
     'halves: for _ in 0..14u32 {
@@ -114,7 +114,7 @@ fn index_of(call: u32) -> Index
     ATOMIC_MAX_EID as u32 - 1 - 16_777 * (999 - call)
 }
 
-// Tells whether an event is answered so.
+// Returns whether an event is answered so.
 fn replies(world: &mut World, event: Event, reply: Reply) -> bool {
     world.apply(event) == Ok(reply)
 }
@@ -128,7 +128,7 @@ fn read_to_the_end(world: &mut World, walk: u32) {
     }
 }
 
-// A walk that is read to its end. Tells whether it has exactly the indices of the calls.
+// A walk that is read to its end. Returns whether it has exactly the indices of the calls.
 fn walks_over_all(world: &mut World, walk: u32) -> bool {
     if !replies(world, Event::Open { walk }, Reply::Opened) {
         return false;

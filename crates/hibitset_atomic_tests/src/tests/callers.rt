@@ -1,9 +1,10 @@
 //! Callers of both forms of the set, who prove what their contracts say from the public clauses alone.
+//! The closure of each thread repeats the clauses of the other's, since those of a closure stand at it.
 ghost use Rattle.std.specs.Prelude.{◌≡◌, ℕ, ◌+◌, ◌/◌, ◌≤◌, ◌⊎◌, ◌↔◌, [], true, length, nat_eq, Contains, IfSome, IfOk, IfErr, ◌<◌};
 ghost use Rattle.hibitset_atomic.specs.declared.atomic.TheConstants.{ATOMIC_MAX_EID};
 ghost use Rattle.hibitset_atomic.specs.AtomicBitSet.{has};
 ghost use Rattle.std.specs.List.{IsDistinct};
-ghost use Rattle.hibitset_atomic.specs.Seats.{IsOld, Came, reports_of, loads_by, exchanges_by};
+ghost use Rattle.hibitset_atomic.specs.Seats.{IsOld, BelongsTo, reports_of, loads_by, exchanges_by};
 
 use crate::tests::list;
 use hibitset_atomic::laws::atomic_laws;
@@ -28,7 +29,7 @@ pub struct Added {
 pub struct ComesBack<'a>(&'a SharedBitSet);
 
 impl<'a> Promise<Added> for ComesBack<'a> {
-    ghost kept_by = { λ p r. Came p.0.now r.seat × (length (reports_of r.seat) ≡ r.new) };
+    ghost kept_by = { λ p r. BelongsTo p.0.now r.seat × (length (reports_of r.seat) ≡ r.new) };
 }
 
 /// The set afterwards, the seat as it was before it settled, and how many adds answered false.
@@ -41,9 +42,9 @@ pub struct Settled {
 
 // Adds each index below a bound, and counts the answers false.
 fn add_below(set: &SharedBitSet, seat: Seat, count: u32) -> Added
-    requires came { Came set.now seat × (reports_of seat ≡ []) }
+    requires came { BelongsTo set.now seat × (reports_of seat ≡ []) }
     requires count { count ≤ ATOMIC_MAX_EID }
-    ensures { Came set.now result.seat × (length (reports_of result.seat) ≡ result.new) }
+    ensures { BelongsTo set.now result.seat × (length (reports_of result.seat) ≡ result.new) }
 {
     let mut seat = seat;
     let mut new = 0;
@@ -63,34 +64,41 @@ fn on_two_threads<R: Threads + Wait + Sync>(
     b: Seat,
     count: u32,
 ) -> Option<(Added, Added)>
-    requires a { Came set.now a × (reports_of a ≡ []) }
-    requires b { Came set.now b × (reports_of b ≡ []) }
+    requires a { BelongsTo set.now a × (reports_of a ≡ []) }
+    requires b { BelongsTo set.now b × (reports_of b ≡ []) }
     requires count { count ≤ ATOMIC_MAX_EID }
-    ensures came { IfSome result (λ t. Came set.now t.0.seat × Came set.now t.1.seat) }
-    ensures new { IfSome result (λ t. (length (reports_of t.0.seat) ≡ t.0.new) × (length (reports_of t.1.seat) ≡ t.1.new)) }
+    ensures came { IfSome result (λ t. BelongsTo set.now t.0.seat × BelongsTo set.now t.1.seat) }
+    ensures new { IfSome result (λ t. (length (reports_of t.0.seat) ≡ t.0.new)
+        × (length (reports_of t.1.seat) ≡ t.1.new)) }
 {
     thread::scope(
         thread::scope_env(),
         rt,
         |scope| -> Option<(Added, Added)>
-            requires a { Came set.now a × (reports_of a ≡ []) }
-            requires b { Came set.now b × (reports_of b ≡ []) }
+            requires a { BelongsTo set.now a × (reports_of a ≡ []) }
+            requires b { BelongsTo set.now b × (reports_of b ≡ []) }
             requires count { count ≤ ATOMIC_MAX_EID }
-            ensures came { IfSome result (λ t. Came set.entry.now t.0.seat × Came set.entry.now t.1.seat) }
-            ensures new { IfSome result (λ t. (length (reports_of t.0.seat) ≡ t.0.new) × (length (reports_of t.1.seat) ≡ t.1.new)) }
+            ensures came { IfSome result (λ t. BelongsTo set.entry.now t.0.seat
+                × BelongsTo set.entry.now t.1.seat) }
+            ensures new { IfSome result (λ t. (length (reports_of t.0.seat) ≡ t.0.new)
+                × (length (reports_of t.1.seat) ≡ t.1.new)) }
         {
             let one = scope.spawn_with(
                 ComesBack(set),
                 move || -> Added
-                    requires { Came set.now a × (reports_of a ≡ []) × (count ≤ ATOMIC_MAX_EID) }
-                    ensures { Came set.entry.now result.seat × (length (reports_of result.seat) ≡ result.new) }
+                    requires { BelongsTo set.now a × (reports_of a ≡ [])
+                        × (count ≤ ATOMIC_MAX_EID) }
+                    ensures { BelongsTo set.entry.now result.seat
+                        × (length (reports_of result.seat) ≡ result.new) }
                 { add_below(set, a, count) },
             );
             let two = scope.spawn_with(
                 ComesBack(set),
                 move || -> Added
-                    requires { Came set.now b × (reports_of b ≡ []) × (count ≤ ATOMIC_MAX_EID) }
-                    ensures { Came set.entry.now result.seat × (length (reports_of result.seat) ≡ result.new) }
+                    requires { BelongsTo set.now b × (reports_of b ≡ [])
+                        × (count ≤ ATOMIC_MAX_EID) }
+                    ensures { BelongsTo set.entry.now result.seat
+                        × (length (reports_of result.seat) ≡ result.new) }
                 { add_below(set, b, count) },
             );
             Some((one.ok()?.join(rt), two.ok()?.join(rt)))
@@ -106,11 +114,12 @@ pub fn add_from_two<R: Threads + Wait + Sync>(
     seat: Seat,
     count: u32,
 ) -> Option<Settled>
-    requires came { Came set seat × (reports_of seat ≡ []) }
+    requires came { BelongsTo set seat × (reports_of seat ≡ []) }
     requires count { count ≤ ATOMIC_MAX_EID }
     ensures once { IfSome result (λ r. IsDistinct nat_eq (reports_of r.seat.value)) }
     ensures new { IfSome result (λ r. length (reports_of r.seat.value) ≡ r.new) }
-    ensures members { IfSome result (λ r. (i : ℕ) → (has r.set i ≡ true) ↔ (IsOld set i ⊎ Contains (reports_of r.seat.value) i)) }
+    ensures members { IfSome result (λ r. (i : ℕ)
+        → (has r.set i ≡ true) ↔ (IsOld set i ⊎ Contains (reports_of r.seat.value) i)) }
 {
     let (a, b) = set.divide(seat);
     let (one, two) = on_two_threads(rt, &set, a, b?, count)?;
@@ -134,11 +143,11 @@ pub fn settle_with(
     seat: Seat,
     id: Index,
 ) -> Result<AtomicBitSet, (SharedBitSet, Seat)>
-    requires came { Came set seat }
+    requires came { BelongsTo set seat }
     requires id { id < ATOMIC_MAX_EID }
     ensures added { IfOk result (λ r. has r id ≡ true) }
     ensures old { IfOk result (λ r. (i : ℕ) → IsOld set i → has r i ≡ true) }
-    ensures back { IfErr result (λ r. (r.0 ≡ set) × (r.1 ≡ seat)) }
+    ensures value_returned { IfErr result (λ r. (r.0 ≡ set) × (r.1 ≡ seat)) }
 {
     let mut set = set.settle(seat)?;
     set.remove(id);
@@ -149,9 +158,9 @@ pub fn settle_with(
 /// Adds an index twice. The second time it is read and nothing else, so there are no more exchanges than one add may
 /// make.
 pub fn add_again(set: &SharedBitSet, seat: &mut Seat, id: Index) -> bool
-    requires came { Came set.now seat.old }
+    requires came { BelongsTo set.now seat.old }
     requires id { id < ATOMIC_MAX_EID }
-    ensures came { Came set.now seat.new }
+    ensures came { BelongsTo set.now seat.new }
     ensures there { result ≡ true }
     ensures loads { loads_by seat.new ≤ loads_by seat.old + 11 }
     ensures exchanges { exchanges_by seat.new ≤ exchanges_by seat.old + 4 }

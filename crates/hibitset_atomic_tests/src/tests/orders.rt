@@ -73,7 +73,7 @@ impl Words {
         self.words.get(slot(layer, position)).copied().unwrap_or(0)
     }
 
-    // Sets a bit of a layer, and answers its word as it was.
+    // Sets a bit of a layer, and returns its word as it was.
     fn fetch_or(&mut self, layer: u8, bit: u32) -> usize {
         match self.words.get_mut(slot(layer, bit / 64)) {
             None => 0,
@@ -201,7 +201,7 @@ fn answers(world: &mut World, event: Event, wanted: Result<Reply, StepError>) ->
     world.apply(event) == wanted
 }
 
-// Plays one order of turns, the walk opened right before its first, and answers the model after it, or in what the
+// Plays one order of turns, the walk opened right before its first, and returns the model after it, or in what the
 // world differed from it.
 fn play(
     alloc: Global,
@@ -311,7 +311,7 @@ fn play_from(
     Ok(Ok(set))
 }
 
-// Plays the opening turns and then every order of the others, and answers how many orders there are, or the first in
+// Plays the opening turns and then every order of the others, and returns how many orders there are, or the first in
 // which the world differs from the model.
 fn play_all(
     alloc: Global,

@@ -1,9 +1,9 @@
 //! A set that seats add to, and what it is afterwards.
 ghost use Rattle.std.specs.Prelude.{◌≡◌, ◌+◌, ◌<◌, ◌≤◌, ◌++◌, All, length, IfSome};
 ghost use Rattle.std.specs.List.{sum_by, flat_map};
-ghost use Rattle.hibitset_atomic.specs.Seats.{Came, weight_of, reports_of};
+ghost use Rattle.hibitset_atomic.specs.Seats.{BelongsTo, weight_of, reports_of};
 ghost use Rattle.hibitset_atomic.specs.declared.atomic.TheConstants.{ATOMIC_MAX_EID};
-ghost use Rattle.hibitset_atomic.specs.declared.shared.sizes.TheConstants.{SHARES};
+ghost use Rattle.hibitset_atomic.specs.declared.shared.layout.TheConstants.{SHARES};
 
 use crate::tests::{
     assert_count, assert_members, assert_new, assert_sum, assert_words, set_of, settled, shared,
@@ -16,8 +16,8 @@ use std::process::Abort;
 // Adds each index below a bound twice and then asks for it, and counts the first answers false, the second ones true,
 // and the last ones true.
 fn add_twice(set: &SharedBitSet, seat: &mut Seat, count: u32) -> (u32, u32, u32)
-    requires { Came set.now seat.old × (count < ATOMIC_MAX_EID) }
-    ensures { Came set.now seat.new }
+    requires { BelongsTo set.now seat.old × (count < ATOMIC_MAX_EID) }
+    ensures { BelongsTo set.now seat.new }
 {
     let mut new = 0u32;
     let mut there = 0u32;
@@ -48,10 +48,10 @@ fn shared_adds(rt: HostRuntime) -> Result<(), AllocError> {
     Ok(())
 }
 
-// Divides a seat into two of this weight, and answers the first.
+// Divides a seat into two of this weight, and returns the first.
 fn halved(rt: &impl Abort, set: &SharedBitSet, seat: Seat, weight: u32) -> Seat
-    requires { Came set.now seat }
-    ensures { Came set.now result }
+    requires { BelongsTo set.now seat }
+    ensures { BelongsTo set.now result }
 {
     let (kept, given) = set.divide(seat);
     let Some(given) = given else {
@@ -63,8 +63,8 @@ fn halved(rt: &impl Abort, set: &SharedBitSet, seat: Seat, weight: u32) -> Seat
 
 // Sees that a seat has one share, which cannot be divided, and gives it back.
 fn undivided(rt: &impl Abort, set: &SharedBitSet, seat: Seat) -> Seat
-    requires { Came set.now seat }
-    ensures { Came set.now result }
+    requires { BelongsTo set.now seat }
+    ensures { BelongsTo set.now result }
 {
     assert!(rt; seat.weight() == 1);
     let (last, none) = set.divide(seat);
@@ -124,7 +124,7 @@ fn a_seat_that_is_dropped(rt: HostRuntime) -> Result<(), AllocError> {
     assert_members(&rt, &settled(&rt, set, a), &[5, 7, 9])
 }
 
-// The weights of n seats of a whole one, or none where memory was refused.
+// The weights of n seats of a whole one, or none if an allocation failed.
 fn weights_among(alloc: Global, n: usize) -> Option<Vec<u32>>
     requires { (0 < n) × (n ≤ SHARES) }
 {
@@ -176,9 +176,9 @@ fn divided_among_as_many_as_it_has_shares(rt: HostRuntime) -> Result<(), AllocEr
 
 // A seat, and others that are joined to it.
 fn joined(set: &SharedBitSet, first: Seat, others: Vec<Seat>) -> Seat
-    requires first { Came set.now first }
-    requires others { All (Came set.now) others.items }
-    ensures came { Came set.now result }
+    requires first { BelongsTo set.now first }
+    requires others { All (BelongsTo set.now) others.items }
+    ensures came { BelongsTo set.now result }
     ensures weight { weight_of result ≡ weight_of first + sum_by weight_of others.items }
     ensures reports { reports_of result ≡ reports_of first ++ flat_map reports_of others.items }
 {
@@ -191,9 +191,9 @@ fn joined(set: &SharedBitSet, first: Seat, others: Vec<Seat>) -> Seat
 
 // Divided and joined again, a seat has the weight and the reports that it had.
 fn divided_and_joined(set: &SharedBitSet, seat: Seat, n: usize, alloc: Global) -> Option<Seat>
-    requires came { Came set.now seat }
+    requires came { BelongsTo set.now seat }
     requires n { (0 < n) × (n ≤ weight_of seat) }
-    ensures came { IfSome result (λ joined. Came set.now joined) }
+    ensures came { IfSome result (λ joined. BelongsTo set.now joined) }
     ensures weight { IfSome result (λ joined. weight_of joined ≡ weight_of seat) }
     ensures reports { IfSome result (λ joined. reports_of joined ≡ reports_of seat) }
 {
@@ -206,8 +206,8 @@ fn divided_and_joined(set: &SharedBitSet, seat: Seat, n: usize, alloc: Global) -
 
 // Each seat adds an index below a thousand.
 fn add_with_each(set: &SharedBitSet, seats: &mut Vec<Seat>)
-    requires { All (Came set.now) seats.old.items }
-    ensures came { All (Came set.now) seats.new.items }
+    requires { All (BelongsTo set.now) seats.old.items }
+    ensures came { All (BelongsTo set.now) seats.new.items }
     ensures number { length seats.new.items ≡ length seats.old.items }
 {
     for place in 0..seats.len().min(1000) {
@@ -217,8 +217,8 @@ fn add_with_each(set: &SharedBitSet, seats: &mut Vec<Seat>)
 
 // A seat that was divided into five, each of which has added an index, and joined again.
 fn added_and_joined(rt: &(impl Abort + AllocGlobal), set: &SharedBitSet, seat: Seat) -> Seat
-    requires { Came set.now seat × (weight_of seat ≡ SHARES) }
-    ensures { Came set.now result }
+    requires { BelongsTo set.now seat × (weight_of seat ≡ SHARES) }
+    ensures { BelongsTo set.now result }
 {
     let Ok(mut seats) = set.divide_among(rt.alloc(), seat, 5) else {
         panic!(rt; "no memory")

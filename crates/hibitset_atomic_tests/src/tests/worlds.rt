@@ -29,7 +29,7 @@ fn assert_begins(rt: &impl Abort, world: &mut World, call: u32, id: Index) {
     assert_reply(rt, world, Event::Begin { call, id }, Reply::Begun);
 }
 
-// A call takes its first step, and tells whether the index was there.
+// A call takes its first step, and returns whether the index was there.
 fn assert_first(rt: &impl Abort, world: &mut World, call: u32, there: bool) {
     assert_reply(rt, world, Event::Step { call }, Reply::First { there });
 }

@@ -14,7 +14,7 @@ use std::sync::atomic::{AtomicUsize, Ordering};
 use std::thread::Threads;
 
 // No pool keeps threads, so each worker but one costs a new one, and there are no more than this.
-const MOST_WORKERS: usize = 32;
+const MAX_WORKERS: usize = 32;
 
 // An answer, and the number of the part that it is to.
 #[derive(Drop)]
@@ -32,7 +32,8 @@ fn work<P, U: Drop, F: Fn(&P) -> U>(
     f: &F,
 ) -> Result<Vec<Answer<U>>, AllocError>
     requires { All (λ p. (part : Bor P) → part.now ≡ p → F.pre f.now part) parts.now }
-    ensures { IfOk result (λ v. All (AnswersItsPart (λ part u. F.post f.now part u) parts.now) v.items) }
+    ensures { IfOk result (λ v. All (AnswersItsPart (λ part u. F.post f.now part u) parts.now)
+        v.items) }
 {
     let mut answers = Vec::with_capacity(alloc, parts.len())?;
     for _ in 0..parts.len() {
@@ -59,7 +60,8 @@ fn workers<R: Threads + Sync, P: Sync, U: Send + Drop, F: Fn(&P) -> U + Sync>(
     f: &F,
 ) -> Result<Vec<Answer<U>>, AllocError>
     requires { All (λ p. (part : Bor P) → part.now ≡ p → F.pre f.now part) parts.now }
-    ensures { IfOk result (λ v. All (AnswersItsPart (λ part u. F.post f.now part u) parts.now) v.items) }
+    ensures { IfOk result (λ v. All (AnswersItsPart (λ part u. F.post f.now part u) parts.now)
+        v.items) }
 {
     if count < 2 {
         return work(alloc, parts, next, f);
@@ -69,12 +71,16 @@ fn workers<R: Threads + Sync, P: Sync, U: Send + Drop, F: Fn(&P) -> U + Sync>(
     let (first, second) = join(
         rt,
         || -> Result<Vec<Answer<U>>, AllocError>
-            requires { IsSync R.row × IsSync P.row × IsSync F.row × IsSend U.row × All (λ p. (part : Bor P) → part.now ≡ p → F.pre f.now part) parts.now }
-            ensures { IfOk result (λ v. All (AnswersItsPart (λ part u. F.post f.entry.now part u) parts.entry.now) v.items) }
+            requires { IsSync R.row × IsSync P.row × IsSync F.row × IsSend U.row
+                × All (λ p. (part : Bor P) → part.now ≡ p → F.pre f.now part) parts.now }
+            ensures { IfOk result (λ v. All
+                (AnswersItsPart (λ part u. F.post f.entry.now part u) parts.entry.now) v.items) }
         { workers(rt, alloc, half, parts, next, f) },
         || -> Result<Vec<Answer<U>>, AllocError>
-            requires { IsSync R.row × IsSync P.row × IsSync F.row × IsSend U.row × All (λ p. (part : Bor P) → part.now ≡ p → F.pre f.now part) parts.now }
-            ensures { IfOk result (λ v. All (AnswersItsPart (λ part u. F.post f.entry.now part u) parts.entry.now) v.items) }
+            requires { IsSync R.row × IsSync P.row × IsSync F.row × IsSend U.row
+                × All (λ p. (part : Bor P) → part.now ≡ p → F.pre f.now part) parts.now }
+            ensures { IfOk result (λ v. All
+                (AnswersItsPart (λ part u. F.post f.entry.now part u) parts.entry.now) v.items) }
         { workers(rt, alloc, other_half, parts, next, f) },
     );
     let mut answers = first?;
@@ -85,7 +91,7 @@ fn workers<R: Threads + Sync, P: Sync, U: Send + Drop, F: Fn(&P) -> U + Sync>(
 
 // How many workers there are for so many parts.
 fn count_for<R: Threads>(rt: &R, parts: usize) -> usize {
-    current_num_threads(rt).min(MOST_WORKERS).min(parts)
+    current_num_threads(rt).min(MAX_WORKERS).min(parts)
 }
 
 // So many slots without an answer.
@@ -131,7 +137,8 @@ fn in_order<P, U: Drop, F: Fn(&P) -> U>(
     f: &F,
 ) -> Result<Vec<U>, AllocError>
     requires parts { All (λ p. (part : Bor P) → part.now ≡ p → F.pre f.now part) parts.now }
-    requires slots { (n : ℕ) (u : U) → SlotHas slots.items n u → AnswersPart (λ part u. F.post f.now part u) parts.now n u }
+    requires slots { (n : ℕ) (u : U) → SlotHas slots.items n u
+        → AnswersPart (λ part u. F.post f.now part u) parts.now n u }
     ensures { IfOk result (λ v. AnswersOf (λ part u. F.post f.now part u) parts.now v.items) }
 {
     let slots = slots.as_mut_slice();
@@ -147,7 +154,7 @@ fn in_order<P, U: Drop, F: Fn(&P) -> U>(
 }
 
 /// What `f` answers at each part, in order, from several threads.
-pub(super) fn each<R: Threads + Sync, P: Sync, U: Send + Drop, F: Fn(&P) -> U + Sync>(
+pub(super) fn map_parts<R: Threads + Sync, P: Sync, U: Send + Drop, F: Fn(&P) -> U + Sync>(
     rt: &R,
     alloc: Global,
     parts: &[P],

@@ -9,7 +9,8 @@ use std::mem;
 
 // Takes out of a set what is not in the other.
 pub(super) fn and(alloc: Global, sets: &mut [BitSet; 8], slot: Slot, other: Slot) -> Reply
-    ensures { IsStep (Command.And slot other) (sets_of sets.old) (answer_of result) (sets_of sets.new) }
+    ensures { IsStep (Command.And slot other) (sets_of sets.old) (answer_of result)
+        (sets_of sets.new) }
 {
     let place = slot.number();
     let other_place = other.number();
@@ -24,7 +25,8 @@ pub(super) fn and(alloc: Global, sets: &mut [BitSet; 8], slot: Slot, other: Slot
 
 // Puts into a set what is in the other.
 pub(super) fn or(alloc: Global, sets: &mut [BitSet; 8], slot: Slot, other: Slot) -> Reply
-    ensures { IsStep (Command.Or slot other) (sets_of sets.old) (answer_of result) (sets_of sets.new) }
+    ensures { IsStep (Command.Or slot other) (sets_of sets.old) (answer_of result)
+        (sets_of sets.new) }
 {
     let place = slot.number();
     let other_place = other.number();
@@ -45,7 +47,8 @@ pub(super) fn or(alloc: Global, sets: &mut [BitSet; 8], slot: Slot, other: Slot)
 
 // Puts into a set what is in the other alone, and takes out what is in both.
 pub(super) fn xor(alloc: Global, sets: &mut [BitSet; 8], slot: Slot, other: Slot) -> Reply
-    ensures { IsStep (Command.Xor slot other) (sets_of sets.old) (answer_of result) (sets_of sets.new) }
+    ensures { IsStep (Command.Xor slot other) (sets_of sets.old) (answer_of result)
+        (sets_of sets.new) }
 {
     let place = slot.number();
     let other_place = other.number();
@@ -65,16 +68,18 @@ pub(super) fn xor(alloc: Global, sets: &mut [BitSet; 8], slot: Slot, other: Slot
     }
 }
 
-// Tells whether two sets have the same indices.
+// Returns whether two sets have the same indices.
 pub(super) fn same(sets: &[BitSet; 8], slot: Slot, other: Slot) -> Reply
-    ensures { IsStep (Command.Same slot other) (sets_of sets.now) (answer_of result) (sets_of sets.now) }
+    ensures { IsStep (Command.Same slot other) (sets_of sets.now) (answer_of result)
+        (sets_of sets.now) }
 {
     Reply::Bool(sets[slot.number()] == sets[other.number()])
 }
 
-// Tells whether each index of a set is in the other.
+// Returns whether each index of a set is in the other.
 pub(super) fn within(sets: &[BitSet; 8], slot: Slot, other: Slot) -> Reply
-    ensures { IsStep (Command.Within slot other) (sets_of sets.now) (answer_of result) (sets_of sets.now) }
+    ensures { IsStep (Command.Within slot other) (sets_of sets.now) (answer_of result)
+        (sets_of sets.now) }
 {
     Reply::Bool(sets[other.number()].contains_set(&sets[slot.number()]))
 }

@@ -3,7 +3,7 @@ ghost use Rattle.hibitset_run.specs.declared.script.Command.{Command};
 ghost use Rattle.std.specs.Prelude.{◌≡◌, ℕ, List, IfOk, IfErr, None, Some};
 ghost use Rattle.std.specs.Option.{option_map};
 ghost use Rattle.hibitset_run.specs.Text.{IsLine, IsNumber, Reads, Say, digit_of, letter_of, lines_of};
-ghost use Rattle.hibitset_run.specs.Reading.{IsCut, IsLineFault, ReadsOf, text_of_name};
+ghost use Rattle.hibitset_run.specs.ScriptParser.{IsCut, IsLineFault, ReadsOf, text_of_name};
 
 use super::{Command, Ended, Layers, Slot};
 use hibitset::Index;

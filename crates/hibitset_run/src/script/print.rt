@@ -5,7 +5,7 @@ ghost use Rattle.std.specs.Fmt.{decimal};
 ghost use Rattle.std.specs.List.{join_by};
 ghost use Rattle.hibitset_run.specs.Script.{answer_of};
 ghost use Rattle.hibitset_run.specs.Text.{printed, reply_text};
-ghost use Rattle.hibitset_run.specs.Reading.{IsPrintFault, Moves, WritesFront};
+ghost use Rattle.hibitset_run.specs.ScriptParser.{IsPrintFault, Moves, WritesFront};
 
 use super::{Ended, Reply};
 use hibitset::Index;
@@ -21,7 +21,8 @@ pub(crate) trait Printed {
     ghost shown: { Self → List ℕ };
 
     fn put_line(&self, text: &mut String) -> Result<(), AllocError>
-        ensures { OnOk result (string_bytes text.new ≡ string_bytes text.old ++ (shown self.now ++ 10 ∷ [])) };
+        ensures { OnOk result (string_bytes text.new
+            ≡ string_bytes text.old ++ (shown self.now ++ 10 ∷ [])) };
 }
 
 // Writes one line a reply, in pieces. With no reply it makes no write.
@@ -30,8 +31,11 @@ pub(crate) fn print<W: Write, R: Printed>(
     writer: &mut W,
     replies: &[R],
 ) -> Result<(), Ended>
-    ensures ok { OnOk result (Appends (W.contents writer.old) (W.contents writer.new) (printed R.shown replies.now)) }
-    ensures err { IfErr result (λ fault. IsPrintFault fault × WritesFront (W.contents writer.old) (W.contents writer.new) (printed R.shown replies.now)) }
+    ensures ok { OnOk result (Appends (W.contents writer.old) (W.contents writer.new)
+        (printed R.shown replies.now)) }
+    ensures err { IfErr result (λ fault. IsPrintFault fault
+        × WritesFront (W.contents writer.old) (W.contents writer.new)
+        (printed R.shown replies.now)) }
 {
     let mut text = String::new(alloc);
     for reply in replies {
@@ -45,8 +49,10 @@ pub(crate) fn print<W: Write, R: Printed>(
 
 // Writes the text that is ready, where there is a piece of it.
 fn put_piece<W: Write>(writer: &mut W, text: &mut String) -> Result<(), Ended>
-    ensures ok { OnOk result (Moves (W.contents writer.old) (W.contents writer.new) (string_bytes text.old) (string_bytes text.new)) }
-    ensures err { IfErr result (λ fault. IsPrintFault fault × WritesFront (W.contents writer.old) (W.contents writer.new) (string_bytes text.old)) }
+    ensures ok { OnOk result (Moves (W.contents writer.old) (W.contents writer.new)
+        (string_bytes text.old) (string_bytes text.new)) }
+    ensures err { IfErr result (λ fault. IsPrintFault fault
+        × WritesFront (W.contents writer.old) (W.contents writer.new) (string_bytes text.old)) }
 {
     if text.len() < PIECE {
         return Ok(());
@@ -56,9 +62,11 @@ fn put_piece<W: Write>(writer: &mut W, text: &mut String) -> Result<(), Ended>
 
 // Writes the text that is ready, if there is any.
 fn put_out<W: Write>(writer: &mut W, text: &mut String) -> Result<(), Ended>
-    ensures ok { OnOk result (Appends (W.contents writer.old) (W.contents writer.new) (string_bytes text.old)) }
+    ensures ok { OnOk result (Appends (W.contents writer.old) (W.contents writer.new)
+        (string_bytes text.old)) }
     ensures empty { OnOk result (string_bytes text.new ≡ []) }
-    ensures err { IfErr result (λ fault. IsPrintFault fault × WritesFront (W.contents writer.old) (W.contents writer.new) (string_bytes text.old)) }
+    ensures err { IfErr result (λ fault. IsPrintFault fault
+        × WritesFront (W.contents writer.old) (W.contents writer.new) (string_bytes text.old)) }
 {
     if text.is_empty() {
         return Ok(());
@@ -74,7 +82,8 @@ fn put_out<W: Write>(writer: &mut W, text: &mut String) -> Result<(), Ended>
 //
 // `write_all` does not say what it wrote before it failed.
 fn put_bytes<W: Write>(writer: &mut W, bytes: &[u8]) -> bool
-    ensures all { result ≡ true → Appends (W.contents writer.old) (W.contents writer.new) bytes.now }
+    ensures all { result ≡ true → Appends (W.contents writer.old) (W.contents writer.new)
+        bytes.now }
     ensures front { WritesFront (W.contents writer.old) (W.contents writer.new) bytes.now }
 {
     let mut rest = bytes;
@@ -95,7 +104,8 @@ fn put_bytes<W: Write>(writer: &mut W, bytes: &[u8]) -> bool
 // failed, or takes no more.
 fn put_some<W: Write>(writer: &mut W, bytes: &[u8]) -> Option<usize>
     ensures within { IfSome result (λ count. count ≤ length bytes.now) }
-    ensures written { MatchOption result (Keeps (W.contents writer.old) (W.contents writer.new)) (λ count. Appends (W.contents writer.old) (W.contents writer.new) (take count bytes.now)) }
+    ensures written { MatchOption result (Keeps (W.contents writer.old) (W.contents writer.new))
+        (λ count. Appends (W.contents writer.old) (W.contents writer.new) (take count bytes.now)) }
 {
     match writer.write(bytes) {
         Ok(0) => None,
@@ -122,7 +132,8 @@ impl Printed for Reply {
 
 // Indices in decimal, parted by one space.
 fn put_indices(text: &mut String, indices: &[Index]) -> Result<(), AllocError>
-    ensures { OnOk result (string_bytes text.new ≡ string_bytes text.old ++ (join_by decimal (32 ∷ []) indices.now ++ 10 ∷ [])) }
+    ensures { OnOk result (string_bytes text.new
+        ≡ string_bytes text.old ++ (join_by decimal (32 ∷ []) indices.now ++ 10 ∷ [])) }
 {
     let mut space = "";
     for index in indices {

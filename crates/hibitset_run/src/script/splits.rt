@@ -10,7 +10,8 @@ use hibitset_base::BitProducer;
 
 // Tells how many parts a set has that split no further.
 pub(super) fn split(sets: &[BitSet; 8], slot: Slot, layers: Layers) -> Reply
-    ensures { IsStep (Command.Split slot layers) (sets_of sets.now) (answer_of result) (sets_of sets.now) }
+    ensures { IsStep (Command.Split slot layers) (sets_of sets.now) (answer_of result)
+        (sets_of sets.now) }
 {
     let set = &sets[slot.number()];
     Reply::Count(count_parts(BitProducer(set.iter(), layers.number())))

@@ -1,10 +1,10 @@
 //! A script as text: read, run and printed.
 ghost use Rattle.std.specs.Prelude.{◌≡◌, ◌++◌, ◌∷◌, false, List, ℕ, MatchOption, OnOk, IfOk, IfErr, IfSome, IsTrue, Some, codes};
 ghost use Rattle.std.specs.Io.KnownBytes.{Consumes, IsAtEnd};
-ghost use Rattle.hibitset_run.specs.Ended.{status_of, text_of};
+ghost use Rattle.hibitset_run.specs.Outcome.{status_of, text_of};
 ghost use Rattle.hibitset_run.specs.Script.{sets_of};
 ghost use Rattle.hibitset_run.specs.Text.{lines_of};
-ghost use Rattle.hibitset_run.specs.Reading.{IsReadFault};
+ghost use Rattle.hibitset_run.specs.ScriptParser.{IsReadFault};
 ghost use Rattle.hibitset_run.specs.Program.{Ends, EndsScript, is_store};
 ghost use Rattle.hibitset_run.specs.declared.script.text.Ended.TheVariants.{Done};
 ghost use Rattle.hibitset_run.specs.declared.script.Slot.{Slot};
@@ -25,7 +25,7 @@ pub enum Ended {
     Done,
     /// This line, counted from 1, is the first that is no command. Nothing was run.
     BadLine(usize),
-    /// Memory was refused, but not to a command, which replies that by itself. Commands may have been run, and a part
+    /// An allocation failed, but not to a command, which replies that by itself. Commands may have been run, and a part
     /// of the replies may be written.
     NoMemory,
     /// A read failed. Nothing was run.
@@ -68,7 +68,9 @@ impl fmt::Display for Ended {
 ///
 /// The first fault met ends it. Where a line is bad, nothing is run or written.
 pub fn run_text<R: Read, W: Write>(alloc: Global, reader: &mut R, writer: &mut W) -> Ended
-    ensures { IfSome (R.remaining reader.old) (λ input. EndsScript (lines_of input) result (W.contents writer.old) (W.contents writer.new)) }
+    ensures { IfSome (R.remaining reader.old)
+        (λ input. EndsScript (lines_of input) result (W.contents writer.old)
+        (W.contents writer.new)) }
 {
     match read_all(alloc, reader) {
         Ok(input) => run_input(alloc, &input, writer),
@@ -78,7 +80,8 @@ pub fn run_text<R: Read, W: Write>(alloc: Global, reader: &mut R, writer: &mut W
 
 // Runs what was read.
 fn run_input<W: Write>(alloc: Global, input: &[u8], writer: &mut W) -> Ended
-    ensures { EndsScript (lines_of input.now) result (W.contents writer.old) (W.contents writer.new) }
+    ensures { EndsScript (lines_of input.now) result (W.contents writer.old)
+        (W.contents writer.new) }
 {
     match store_lines(input) {
         Some(lines) => store::run_lines(alloc, lines, writer),
@@ -88,7 +91,8 @@ fn run_input<W: Write>(alloc: Global, input: &[u8], writer: &mut W) -> Ended
 
 // What follows the first line, where that is `store`: commands on two columns.
 fn store_lines(input: &[u8]) -> Option<&[u8]>
-    ensures { MatchOption result (is_store (lines_of input.now) ≡ false) (λ lines. lines_of input.now ≡ codes "store" ∷ lines_of lines.now) }
+    ensures { MatchOption result (is_store (lines_of input.now) ≡ false)
+        (λ lines. lines_of input.now ≡ codes "store" ∷ lines_of lines.now) }
 {
     let (first, rest) = cut(input, b'\n');
     if first != b"store".as_slice() {
@@ -136,7 +140,8 @@ fn no_sets(alloc: Global) -> [BitSet; 8]
 // The error of `read_to_end` would not tell a reader's want of memory, which is a failed read, from the want of room
 // for what it gave.
 fn read_all<R: Read>(alloc: Global, reader: &mut R) -> Result<Vec<u8>, Ended>
-    ensures ok { IfOk result (λ input. IfSome (R.remaining reader.old) (λ bytes. input.items ≡ bytes)) }
+    ensures ok { IfOk result (λ input. IfSome (R.remaining reader.old)
+        (λ bytes. input.items ≡ bytes)) }
     ensures err { IfErr result IsReadFault }
 {
     let mut input = Vec::new(alloc);
@@ -149,9 +154,10 @@ fn read_all<R: Read>(alloc: Global, reader: &mut R) -> Result<Vec<u8>, Ended>
     Err(Ended::InputFailed)
 }
 
-// Reads once, and tells whether the reader has ended.
+// Reads once, and returns whether the reader has ended.
 fn read_some<R: Read>(reader: &mut R, input: &mut Vec<u8>) -> Result<bool, Ended>
-    ensures ok { OnOk result ((bytes : List ℕ) × (input.new.items ≡ input.old.items ++ bytes) × Consumes (R.remaining reader.old) (R.remaining reader.new) bytes) }
+    ensures ok { OnOk result ((bytes : List ℕ) × (input.new.items ≡ input.old.items ++ bytes)
+        × Consumes (R.remaining reader.old) (R.remaining reader.new) bytes) }
     ensures end { IfOk result (λ ended. IsTrue ended → IsAtEnd (R.remaining reader.new)) }
     ensures err { IfErr result IsReadFault }
 {

@@ -4,9 +4,9 @@ ghost use Rattle.std.specs.List.{join_by};
 ghost use Rattle.hibitset_run.specs.declared.store.Side.{Side};
 ghost use Rattle.hibitset_run.specs.declared.store.StoreCommand.{StoreCommand};
 ghost use Rattle.hibitset_run.specs.Program.{StoreEnds};
-ghost use Rattle.hibitset_run.specs.Reading.{IsLineFault};
+ghost use Rattle.hibitset_run.specs.ScriptParser.{IsLineFault};
 ghost use Rattle.hibitset_run.specs.Store.{answer_of, columns_of};
-ghost use Rattle.hibitset_run.specs.StoreReading.{ReadsOf, text_of_name};
+ghost use Rattle.hibitset_run.specs.StoreParser.{ReadsOf, text_of_name};
 ghost use Rattle.hibitset_run.specs.StoreText.{IsLine, letter_of, pair_text, reply_text};
 ghost use Rattle.hibitset_run.specs.Text.{Reads, Say, lines_of};
 
@@ -27,7 +27,8 @@ enum Name {
 
 // Runs the lines after the first one, on two empty columns, and writes one line a reply.
 pub(crate) fn run_lines<W: Write>(alloc: Global, lines: &[u8], writer: &mut W) -> Ended
-    ensures { StoreEnds (lines_of lines.now) result (W.contents writer.old) (W.contents writer.new) }
+    ensures { StoreEnds (lines_of lines.now) result (W.contents writer.old)
+        (W.contents writer.new) }
 {
     let commands = match commands_of(alloc, lines) {
         Ok(commands) => commands,
@@ -166,7 +167,8 @@ impl Printed for StoreReply {
 
 // Indices with their two values in decimal, parted by one space.
 fn put_pairs(text: &mut String, list: &[(Index, u32, u32)]) -> Result<(), AllocError>
-    ensures { OnOk result (string_bytes text.new ≡ string_bytes text.old ++ (join_by pair_text (32 ∷ []) list.now ++ 10 ∷ [])) }
+    ensures { OnOk result (string_bytes text.new
+        ≡ string_bytes text.old ++ (join_by pair_text (32 ∷ []) list.now ++ 10 ∷ [])) }
 {
     let mut space = "";
     for (id, first, second) in list {

@@ -1,6 +1,6 @@
 //! Two threads that add to one set, each with a seat of its own, and look for what the other adds.
 ghost use Rattle.std.specs.Prelude.{◌≡◌, ◌<◌, IfSome};
-ghost use Rattle.hibitset_atomic.specs.Seats.{Came};
+ghost use Rattle.hibitset_atomic.specs.Seats.{BelongsTo};
 ghost use Rattle.hibitset_atomic.specs.declared.atomic.TheConstants.{ATOMIC_MAX_EID};
 
 use hibitset::{AtomicBitSet, BitSetLike, Index, Seat, SharedBitSet};
@@ -33,13 +33,13 @@ struct Done {
 struct Back<'a>(&'a SharedBitSet);
 
 impl<'a> Promise<Done> for Back<'a> {
-    ghost kept_by = { λ p r. Came p.0.now r.seat };
+    ghost kept_by = { λ p r. BelongsTo p.0.now r.seat };
 }
 
-// Tells whether a walk gives an index. It is dropped there.
+// Returns whether a walk gives an index. It is dropped there.
 fn walks_to(set: &SharedBitSet, seat: &mut Seat, id: Index) -> bool
-    requires { Came set.now seat.old }
-    ensures { Came set.now seat.new }
+    requires { BelongsTo set.now seat.old }
+    ensures { BelongsTo set.now seat.new }
 {
     for index in set.walk(seat) {
         if index == id {
@@ -51,8 +51,8 @@ fn walks_to(set: &SharedBitSet, seat: &mut Seat, id: Index) -> bool
 
 // Looks for an index until it is there: so often at most by `contains`, and a tenth as often by walks.
 fn finds(set: &SharedBitSet, seat: &mut Seat, look: Look, id: Index) -> bool
-    requires { Came set.now seat.old }
-    ensures { Came set.now seat.new }
+    requires { BelongsTo set.now seat.old }
+    ensures { BelongsTo set.now seat.new }
 {
     for turn in 0..TURNS {
         let found = match look {
@@ -68,8 +68,8 @@ fn finds(set: &SharedBitSet, seat: &mut Seat, look: Look, id: Index) -> bool
 
 // Adds 5 and an index of its own, and looks for the other's.
 fn job(set: &SharedBitSet, seat: Seat, look: Look, mine: Index, other: Index) -> Done
-    requires { Came set.now seat × (mine < ATOMIC_MAX_EID) }
-    ensures { Came set.now result.seat }
+    requires { BelongsTo set.now seat × (mine < ATOMIC_MAX_EID) }
+    ensures { BelongsTo set.now result.seat }
 {
     let mut seat = seat;
     let there = set.add_atomic(&mut seat, 5);
@@ -90,28 +90,29 @@ fn on_two_threads<R: Threads + Wait + Sync>(
     b: Seat,
     look: Look,
 ) -> Option<(Done, Done)>
-    requires { Came set.now a × Came set.now b }
-    ensures { IfSome result (λ t. Came set.now t.0.seat × Came set.now t.1.seat) }
+    requires { BelongsTo set.now a × BelongsTo set.now b }
+    ensures { IfSome result (λ t. BelongsTo set.now t.0.seat × BelongsTo set.now t.1.seat) }
 {
     thread::scope(
         thread::scope_env(),
         rt,
         |scope| -> Option<(Done, Done)>
-            requires { Came set.now a × Came set.now b }
-            ensures { IfSome result (λ t. Came set.entry.now t.0.seat × Came set.entry.now t.1.seat) }
+            requires { BelongsTo set.now a × BelongsTo set.now b }
+            ensures { IfSome result (λ t. BelongsTo set.entry.now t.0.seat
+                × BelongsTo set.entry.now t.1.seat) }
         {
             let one = scope.spawn_with(
                 Back(set),
                 move || -> Done
-                    requires { Came set.now a }
-                    ensures { Came set.entry.now result.seat }
+                    requires { BelongsTo set.now a }
+                    ensures { BelongsTo set.entry.now result.seat }
                 { job(set, a, Look::Asks, 7, 9) },
             );
             let two = scope.spawn_with(
                 Back(set),
                 move || -> Done
-                    requires { Came set.now b }
-                    ensures { Came set.entry.now result.seat }
+                    requires { BelongsTo set.now b }
+                    ensures { BelongsTo set.entry.now result.seat }
                 { job(set, b, look, 9, 7) },
             );
             Some((one.ok()?.join(rt), two.ok()?.join(rt)))

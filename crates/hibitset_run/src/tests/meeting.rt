@@ -169,7 +169,7 @@ impl BitSetLike for Meeting {
     }
 }
 
-// Tells whether the first and the last of `ITEMS` items meet through `rayon` alone. Where they don't, or there is one
+// Returns whether the first and the last of `ITEMS` items meet through `rayon` alone. Where they don't, or there is one
 // processor, no walk can show it.
 fn threads_meet(rt: &(impl Threads + Sync)) -> bool {
     if rayon::current_num_threads(rt) == 1 {
@@ -206,7 +206,7 @@ fn sum_of<T: BitSetLike + Send + Sync>(
     )
 }
 
-// Counts a walk over a run, lists it, adds it up and visits it, and sees that its first and last words met each time,
+// Counts a walk over a run, lists it, adds it up and visits it, and checks that its first and last words met each time,
 // where it is cut in so many layers. A list is counted first.
 fn assert_meets(
     rt: &(impl Abort + Threads + Sync),
@@ -293,7 +293,7 @@ fn walk_over(set: &BitSet, least: Option<usize>) -> BitParIter<&BitSet> {
     }
 }
 
-// Visits and counts so many members, from 0 on, and sees that the closures met at the first and the last.
+// Visits and counts so many members, from 0 on, and checks that the closures met at the first and the last.
 fn assert_closures_meet(
     rt: &(impl Abort + Threads + Sync),
     alloc: Global,

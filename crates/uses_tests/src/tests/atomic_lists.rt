@@ -2,7 +2,7 @@
 ghost use Rattle.std.specs.Prelude.{◌≡◌, ◌≢◌, ℕ, ◌/◌, ◌<◌, ◌↔◌, ◌⊎◌, true, length, take, IfOk, IfErr, OnOk, Contains};
 ghost use Rattle.hibitset_base.specs.declared.build.BuildError.TheVariants.{Memory};
 ghost use Rattle.hibitset_atomic.specs.declared.atomic.TheConstants.{ATOMIC_MAX_EID};
-ghost use Rattle.hibitset_atomic.specs.AtomicBitSet.{has, LacksBlock};
+ghost use Rattle.hibitset_atomic.specs.AtomicBitSet.{has, NeedsAllocation};
 ghost use Rattle.uses.specs.Lists.{place_of, InRangeBefore, IsWhy, LacksRoom, LiesApartIn};
 
 use hibitset::{AtomicBitSet, BitSetLike, BuildError, Index};
@@ -16,7 +16,8 @@ fn set_of(alloc: Global, list: &[Index]) -> Result<AtomicBitSet, BuildError>
     requires { 0 < length list.now }
     ensures members { IfOk result (λ set. (i : ℕ) → (has set i ≡ true) ↔ Contains list.now i) }
     ensures place { IfErr result (λ error. place_of error < length list.now) }
-    ensures before { IfErr result (λ error. InRangeBefore ATOMIC_MAX_EID list.now (place_of error)) }
+    ensures before { IfErr result (λ error. InRangeBefore ATOMIC_MAX_EID list.now
+        (place_of error)) }
     ensures why { IfErr result (λ error. (error ≡ Memory 0) ⊎ IsWhy ATOMIC_MAX_EID list.now error) }
     ensures apart { IfErr result (LiesApartIn (λ i j. i / 4096 ≢ j / 4096) list.now) }
 {
@@ -26,10 +27,13 @@ fn set_of(alloc: Global, list: &[Index]) -> Result<AtomicBitSet, BuildError>
 // Adds the indices of a list to a set. Where one is refused, those before it are added, and where there was no memory
 // for it, its block is not made.
 fn add_all(set: &mut AtomicBitSet, list: &[Index]) -> Result<(), BuildError>
-    ensures added { OnOk result ((i : ℕ) → (has set.new i ≡ true) ↔ ((has set.old i ≡ true) ⊎ Contains list.now i)) }
-    ensures some { IfErr result (λ error. (i : ℕ) → (has set.new i ≡ true) ↔ ((has set.old i ≡ true) ⊎ Contains (take (place_of error) list.now) i)) }
+    ensures added { OnOk result ((i : ℕ)
+        → (has set.new i ≡ true) ↔ ((has set.old i ≡ true) ⊎ Contains list.now i)) }
+    ensures some { IfErr result (λ error. (i : ℕ)
+        → (has set.new i ≡ true) ↔ ((has set.old i ≡ true)
+        ⊎ Contains (take (place_of error) list.now) i)) }
     ensures why { IfErr result (IsWhy ATOMIC_MAX_EID list.now) }
-    ensures lacks { IfErr result (LacksRoom (LacksBlock set.new) list.now) }
+    ensures lacks { IfErr result (LacksRoom (NeedsAllocation set.new) list.now) }
 {
     set.extend_index_refs(list)
 }

@@ -1,7 +1,8 @@
 //! Two threads that take identifiers from one set, none of them twice.
+//! The closure of each thread repeats the clauses of the other's, since those of a closure stand at it.
 ghost use Rattle.std.specs.Prelude.{◌≡◌, ◌++◌, [], nat_eq, IfSome, reverse};
 ghost use Rattle.std.specs.List.{IsDistinct};
-ghost use Rattle.hibitset_atomic.specs.Seats.{Came, reports_of};
+ghost use Rattle.hibitset_atomic.specs.Seats.{BelongsTo, reports_of};
 
 use hibitset::{AtomicBitSet, BitSetLike, Index, Seat, SharedBitSet};
 use std::alloc::Global;
@@ -16,7 +17,7 @@ use uses::shared_ids::{Taken, take_fresh, take_many};
 struct ComesBack<'a>(&'a SharedBitSet);
 
 impl<'a> Promise<Taken> for ComesBack<'a> {
-    ghost kept_by = { λ p r. Came p.0.now r.seat × (reports_of r.seat ≡ reverse r.ids.items) };
+    ghost kept_by = { λ p r. BelongsTo p.0.now r.seat × (reports_of r.seat ≡ reverse r.ids.items) };
 }
 
 // Each seat takes on a thread of its own.
@@ -28,32 +29,37 @@ fn on_two_threads<R: Threads + Wait + Sync>(
     b: Seat,
     count: usize,
 ) -> Option<(Taken, Taken)>
-    requires a { Came set.now a × (reports_of a ≡ []) }
-    requires b { Came set.now b × (reports_of b ≡ []) }
-    ensures came { IfSome result (λ t. Came set.now t.0.seat × Came set.now t.1.seat) }
-    ensures taken { IfSome result (λ t. (reports_of t.0.seat ≡ reverse t.0.ids.items) × (reports_of t.1.seat ≡ reverse t.1.ids.items)) }
+    requires a { BelongsTo set.now a × (reports_of a ≡ []) }
+    requires b { BelongsTo set.now b × (reports_of b ≡ []) }
+    ensures came { IfSome result (λ t. BelongsTo set.now t.0.seat × BelongsTo set.now t.1.seat) }
+    ensures taken { IfSome result (λ t. (reports_of t.0.seat ≡ reverse t.0.ids.items)
+        × (reports_of t.1.seat ≡ reverse t.1.ids.items)) }
 {
     thread::scope(
         thread::scope_env(),
         rt,
         |scope| -> Option<(Taken, Taken)>
-            requires a { Came set.now a × (reports_of a ≡ []) }
-            requires b { Came set.now b × (reports_of b ≡ []) }
-            ensures came { IfSome result (λ t. Came set.entry.now t.0.seat × Came set.entry.now t.1.seat) }
-            ensures taken { IfSome result (λ t. (reports_of t.0.seat ≡ reverse t.0.ids.items) × (reports_of t.1.seat ≡ reverse t.1.ids.items)) }
+            requires a { BelongsTo set.now a × (reports_of a ≡ []) }
+            requires b { BelongsTo set.now b × (reports_of b ≡ []) }
+            ensures came { IfSome result (λ t. BelongsTo set.entry.now t.0.seat
+                × BelongsTo set.entry.now t.1.seat) }
+            ensures taken { IfSome result (λ t. (reports_of t.0.seat ≡ reverse t.0.ids.items)
+                × (reports_of t.1.seat ≡ reverse t.1.ids.items)) }
         {
             let one = scope.spawn_with(
                 ComesBack(set),
                 move || -> Taken
-                    requires { Came set.now a × (reports_of a ≡ []) }
-                    ensures { Came set.entry.now result.seat × (reports_of result.seat ≡ reverse result.ids.items) }
+                    requires { BelongsTo set.now a × (reports_of a ≡ []) }
+                    ensures { BelongsTo set.entry.now result.seat
+                        × (reports_of result.seat ≡ reverse result.ids.items) }
                 { take_many(alloc, set, a, count) },
             );
             let two = scope.spawn_with(
                 ComesBack(set),
                 move || -> Taken
-                    requires { Came set.now b × (reports_of b ≡ []) }
-                    ensures { Came set.entry.now result.seat × (reports_of result.seat ≡ reverse result.ids.items) }
+                    requires { BelongsTo set.now b × (reports_of b ≡ []) }
+                    ensures { BelongsTo set.entry.now result.seat
+                        × (reports_of result.seat ≡ reverse result.ids.items) }
                 { take_many(alloc, set, b, count) },
             );
             Some((one.ok()?.join(rt), two.ok()?.join(rt)))
@@ -77,9 +83,10 @@ fn take_by_two<R: Threads + Wait + Sync>(
     seat: Seat,
     count: usize,
 ) -> Option<TakenByTwo>
-    requires { Came set.now seat × (reports_of seat ≡ []) }
-    ensures came { IfSome result (λ r. Came set.now r.seat) }
-    ensures once { IfSome result (λ r. IsDistinct nat_eq (reverse r.one.items ++ reverse r.two.items)) }
+    requires { BelongsTo set.now seat × (reports_of seat ≡ []) }
+    ensures came { IfSome result (λ r. BelongsTo set.now r.seat) }
+    ensures once { IfSome result (λ r. IsDistinct nat_eq
+        (reverse r.one.items ++ reverse r.two.items)) }
 {
     let (a, b) = set.divide(seat);
     let (one, two) = on_two_threads(rt, alloc, set, a, b?, count)?;

@@ -11,7 +11,7 @@ use hibitset::laws::world_laws;
 use hibitset::{ATOMIC_MAX_EID, AtomicBitSet, Event, Index, Reply, StepError, World};
 use std::alloc::Global;
 
-/// Adds an index by a call of its own, which passes all its layers, and tells whether the index was there. A world at
+/// Adds an index by a call of its own, which passes all its layers, and returns whether the index was there. A world at
 /// rest is so again.
 pub fn add(world: &mut World, call: u32, id: Index) -> Result<bool, StepError>
     ensures there { IfOk result (λ there. there ≡ is_in world.old id) }
@@ -37,7 +37,8 @@ pub fn add(world: &mut World, call: u32, id: Index) -> Result<bool, StepError>
 /// Adds all indices of a list to a set, each by a call of its own, and takes the set out of the world, which is at rest
 /// by then.
 pub fn add_all(alloc: Global, set: AtomicBitSet, ids: &[Index]) -> Result<AtomicBitSet, StepError>
-    ensures { IfOk result (λ all. (i : ℕ) → (has all i ≡ true) ↔ ((has set i ≡ true) ⊎ Contains ids.now i)) }
+    ensures { IfOk result (λ all. (i : ℕ)
+        → (has all i ≡ true) ↔ ((has set i ≡ true) ⊎ Contains ids.now i)) }
 {
     let mut world = World::new(alloc, set);
     let mut call = 0u32;
@@ -52,7 +53,8 @@ pub fn add_all(alloc: Global, set: AtomicBitSet, ids: &[Index]) -> Result<Atomic
 /// has one.
 pub fn ranges(world: &mut World, walk: u32) -> Result<usize, StepError>
     requires { IsResting world.old }
-    ensures { IfOk result (λ word. (range : ℕ) → range < 64 → (bit_at word range ≡ 1) ↔ HasIn world.old range) }
+    ensures { IfOk result (λ word. (range : ℕ) → range < 64
+        → (bit_at word range ≡ 1) ↔ HasIn world.old range) }
 {
     world_laws();
     world.apply(Event::Open { walk })?;
@@ -66,7 +68,8 @@ pub fn ranges(world: &mut World, walk: u32) -> Result<usize, StepError>
 /// by it.
 pub fn read_next(world: &mut World, walk: u32) -> Result<usize, StepError>
     ensures some { IfOk result (λ word. 0 < reads_of world.old walk → 0 < word) }
-    ensures holds { IfOk result (λ word. (i : ℕ) → Contains (given world.new walk) i → Contains (given world.old walk) i ⊎ (bit_at word (i % 64) ≡ 1)) }
+    ensures holds { IfOk result (λ word. (i : ℕ) → Contains (given world.new walk) i
+        → Contains (given world.old walk) i ⊎ (bit_at word (i % 64) ≡ 1)) }
 {
     world_laws();
     let Reply::Word { word, .. } = world.apply(Event::Read { walk })? else {
@@ -90,8 +93,10 @@ pub fn read_leaf(world: &mut World, walk: u32) -> Result<(), StepError>
 /// first, and each whose call had ended. It reads at most three words for each, and one.
 pub fn read_all(world: &mut World, walk: u32) -> Result<(), StepError>
     ensures ascending { OnOk result (IsStrictlyIncreasing (given world.new walk)) }
-    ensures there { OnOk result ((i : ℕ) → Contains (given world.new walk) i → is_in world.new i ≡ true) }
-    ensures all { OnOk result ((i : ℕ) → is_done world.old i ≡ true → Contains (given world.new walk) i) }
+    ensures there { OnOk result ((i : ℕ) → Contains (given world.new walk) i
+        → is_in world.new i ≡ true) }
+    ensures all { OnOk result ((i : ℕ) → is_done world.old i ≡ true
+        → Contains (given world.new walk) i) }
     ensures few { OnOk result (reads_of world.new walk ≤ 3 * length (given world.new walk) + 1) }
 {
     world_laws();
@@ -106,7 +111,7 @@ pub fn read_all(world: &mut World, walk: u32) -> Result<(), StepError>
     Ok(())
 }
 
-/// Tells whether an index is in the set of a world at rest.
+/// Returns whether an index is in the set of a world at rest.
 pub fn contains(world: &World, id: Index) -> bool
     requires { IsResting world.now }
     ensures { result ≡ is_in world.now id }
@@ -125,7 +130,7 @@ pub fn times_reported(world: &World, old: &AtomicBitSet, id: Index) -> usize
     usize::from(contains(world, id) && !old.contains(id))
 }
 
-/// Tells whether an index was in the old set, of which it is known how often it was reported new.
+/// Returns whether an index was in the old set, of which it is known how often it was reported new.
 pub fn was_old(world: &World, id: Index, reports: usize) -> bool
     requires rest { IsResting world.now }
     requires reports { reports ≡ reports_in world.now id }

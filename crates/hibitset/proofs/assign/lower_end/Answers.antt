@@ -2,10 +2,10 @@ use Rattle.std.proofs.Common.{◌≡◌, ◌≢◌, ℕ, suc, ◌+◌, ◌-◌, 
 use Rattle.std.specs.Int.{bit_at}
 use Rattle.std.proofs.Math.Nat.{pow-suc}
 use Rattle.std.proofs.lemmas.Nat.Bits.{bit_at-zero}
-use Rattle.hibitset_base.specs.Deciding.{same_or_not}
+use Rattle.hibitset_base.specs.Decisions.{same_or_not}
 use Rattle.hibitset_base.specs.declared.util.TheConstants.{LAYERS}
-use Rattle.hibitset_base.proofs.Placing.{read_word, place_fits}
-use Rattle.hibitset.proofs.Ending.{end_below}
+use Rattle.hibitset_base.proofs.PlaceOrderLemmas.{read_word, place_fits}
+use Rattle.hibitset.proofs.LastWordLemmas.{end_below}
 use Rattle.hibitset.proofs.assign.lower_end.Goals as goal
 
 -- a layer has 64 places for each of the layer above

@@ -1,8 +1,8 @@
 use Rattle.std.proofs.Common.{◌+◌, ◌*◌, arith}
 use Rattle.std.proofs.lemmas.Nat.Bits.{shr_and_one}
 use Rattle.hibitset_base.specs.declared.util.TheConstants.{LAYERS}
-use Rattle.hibitset_base.proofs.Placing.{lower_place}
-use Rattle.hibitset.proofs.Merging.{lawful_covers, none_below}
+use Rattle.hibitset_base.proofs.PlaceOrderLemmas.{lower_place}
+use Rattle.hibitset.proofs.MergeLemmas.{lawful_covers, none_below}
 use Rattle.hibitset.proofs.assign.lower_word.Goals as goal
 
 pub returns-then-theirs-bit-eq1 : goal.returns-then-theirs-bit-eq1

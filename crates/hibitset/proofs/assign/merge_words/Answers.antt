@@ -1,5 +1,5 @@
 use Rattle.std.proofs.Common.{◌∙◌}
-use Rattle.hibitset.proofs.Merging.{past_step, summary_step}
+use Rattle.hibitset.proofs.MergeLemmas.{past_step, summary_step}
 use Rattle.hibitset.proofs.assign.merge_words.Goals as goal
 
 pub loop-left-preserved : goal.loop-left-preserved

@@ -1,7 +1,7 @@
 use Rattle.std.proofs.Common.{◌≡◌, ℕ, ◌+◌, ◌*◌, ◌↔◌, get_or, arith}
 use Rattle.hibitset.specs.BitSet.{word_of}
-use Rattle.hibitset.specs.Comparing.{BitsPass}
-use Rattle.hibitset.proofs.Comparing.{unmissed_step}
+use Rattle.hibitset.specs.Comparison.{BitsPass}
+use Rattle.hibitset.proofs.ComparisonLemmas.{unmissed_step}
 use Rattle.hibitset.proofs.compare.compare_block.Goals as goal
 
 pub loop-bit-preserved : goal.loop-bit-preserved

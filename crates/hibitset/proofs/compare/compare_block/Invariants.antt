@@ -1,7 +1,7 @@
 use Rattle.std.proofs.Common.{◌-◌}
 use Rattle.hibitset.specs.BitSet.{word_of}
-use Rattle.hibitset.specs.Comparing.{BitsPass}
-use Rattle.hibitset.proofs.Comparing.{Unmissed}
+use Rattle.hibitset.specs.Comparison.{BitsPass}
+use Rattle.hibitset.proofs.ComparisonLemmas.{Unmissed}
 use Rattle.hibitset.proofs.compare.compare_block.Given as goal
 
 abbrev pub invariant-loop-bit : goal.invariant-loop-bit

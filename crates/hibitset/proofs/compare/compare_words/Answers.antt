@@ -1,7 +1,7 @@
 use Rattle.std.proofs.Common.{◌≡◌, ℕ, ◌+◌, ◌*◌, arith}
 use Rattle.hibitset.specs.BitSet.{word_of}
-use Rattle.hibitset.specs.Comparing.{BitsPass}
-use Rattle.hibitset.proofs.Comparing.{passed_step}
+use Rattle.hibitset.specs.Comparison.{BitsPass}
+use Rattle.hibitset.proofs.ComparisonLemmas.{passed_step}
 use Rattle.hibitset.proofs.compare.compare_words.Goals as goal
 
 pub loop-left-preserved : goal.loop-left-preserved

@@ -1,6 +1,6 @@
 use Rattle.hibitset.specs.BitSet.{word_of}
-use Rattle.hibitset.specs.Comparing.{BitsPass}
-use Rattle.hibitset.proofs.Comparing.{PassedPast}
+use Rattle.hibitset.specs.Comparison.{BitsPass}
+use Rattle.hibitset.proofs.ComparisonLemmas.{PassedPast}
 use Rattle.hibitset.proofs.compare.compare_words.Given as goal
 
 abbrev pub invariant-loop-left : goal.invariant-loop-left

@@ -1,6 +1,6 @@
 use Rattle.hibitset_base.specs.declared.util.TheConstants.{MAX_EID}
 use Rattle.hibitset_base.proofs.RangeLemmas.{nth_is, list_from_nth, list_at_member, member_at}
-use Rattle.hibitset.proofs.Ends.{begins_with_first, ends_with_last}
+use Rattle.hibitset.proofs.MemberEndLemmas.{begins_with_first, ends_with_last}
 use Rattle.hibitset.proofs.laws.list_laws.Goals as goal
 
 pub returns-clause-first : goal.returns-clause-first

@@ -1,8 +1,8 @@
 use Rattle.std.proofs.Common.{◌+◌, ◌/◌, sym, ◌∙◌, ap, arith}
 use Rattle.hibitset.specs.BitSet.{word_of}
-use Rattle.hibitset.specs.Laying.{count_of}
-use Rattle.hibitset.proofs.Laying.{over_next}
-use Rattle.hibitset.proofs.Layered.{length_of}
+use Rattle.hibitset.specs.Layout.{count_of}
+use Rattle.hibitset.proofs.LayoutLemmas.{over_next}
+use Rattle.hibitset.proofs.LayerLemmas.{length_of}
 use Rattle.hibitset.proofs.laws.slice_laws.Goals as goal
 
 pub returns-clause-summed : goal.returns-clause-summed

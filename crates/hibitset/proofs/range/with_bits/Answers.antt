@@ -1,6 +1,6 @@
 use Rattle.std.proofs.Common.{arith}
 use Rattle.std.proofs.lemmas.Nat.{le_or_l}
-use Rattle.hibitset.proofs.Ranging.{set_at, clear_at}
+use Rattle.hibitset.proofs.RangeBitLemmas.{set_at, clear_at}
 use Rattle.hibitset.proofs.range.with_bits.Goals as goal
 
 pub returns-then-stands-clause-bits : goal.returns-then-stands-clause-bits

@@ -2,15 +2,15 @@ use Rattle.std.proofs.Common.{◌≡◌, ℕ, ◌-◌, bit_and, arith}
 use Rattle.std.specs.Int.{bit_at}
 use Rattle.std.proofs.lemmas.Nat.Bits.{bit_at_and, bit_at-lt}
 use Rattle.hibitset_base.specs.declared.util.TheConstants.{LAYERS}
-use Rattle.hibitset_base.specs.Sets.{IsExact}
+use Rattle.hibitset_base.specs.Sets.{SummariesExact}
 use Rattle.hibitset_base.specs.Splits.{AreWords}
-use Rattle.hibitset_base.specs.Stored.{summed_exact}
+use Rattle.hibitset_base.specs.StoredWords.{summed_exact}
 use Rattle.hibitset_atomic.specs.declared.layers.TheConstants.{ATOMIC_LAYERS}
 use Rattle.hibitset_atomic.specs.AtomicBitSet.{word_of, has, topped_word, topped_is_lawful}
 use Rattle.hibitset_atomic.specs.Layers.{single_word}
-use Rattle.hibitset_atomic.specs.Topping.{topped_exact, topped_fits}
+use Rattle.hibitset_atomic.specs.TopLayerLemmas.{topped_exact, topped_fits}
 use Rattle.hibitset_atomic.specs.declared.atomic.AtomicBitSet.{AtomicBitSet}
-use Rattle.hibitset_atomic.proofs.Layered.{layers_fit, held_below, topped_past}
+use Rattle.hibitset_atomic.proofs.LayerLemmas.{layers_fit, held_below, topped_past}
 use Rattle.hibitset_atomic.proofs.laws.atomic_laws.Goals as goal
 
 first_has : (x y b : ℕ) → bit_at (bit_and x y) b ≡ 1 → bit_at x b ≡ 1
@@ -24,7 +24,7 @@ unfolding has word_of
 returns-clause-within c set i holds = held_below set.layers i holds
 
 -- the words with the layer on top are exact
-exact_topped : (set : AtomicBitSet) → IsExact LAYERS (topped_word set)
+exact_topped : (set : AtomicBitSet) → SummariesExact LAYERS (topped_word set)
 unfolding word_of
 exact_topped set = topped_exact (ATOMIC_LAYERS - 1) (word_of set) set.summed (single_word set.layers)
 

@@ -2,13 +2,13 @@ use Rattle.std.proofs.Common.{◌≡◌, ℕ, suc, ◌+◌, Bool, true, false, �
 use Rattle.hibitset_base.specs.Sets.{bit_of}
 use Rattle.hibitset_atomic.specs.Worlds.{old_of, past_of, stands_in, is_written}
 use Rattle.hibitset_atomic.specs.WorldLaws.{reports_in}
-use Rattle.hibitset_atomic.proofs.Passers.{new-once, rest-exact}
-use Rattle.hibitset_atomic.proofs.Honesty.{honest}
-use Rattle.hibitset_atomic.proofs.Standing.{summary}
-use Rattle.hibitset_atomic.proofs.WalkLaws.{lowest-first, few-reads, none-empty}
-use Rattle.hibitset_atomic.proofs.After.{stands-lowest}
-use Rattle.hibitset_atomic.proofs.Layered.{held_below}
-use Rattle.hibitset_atomic.proofs.Stepped.{beyond-none}
+use Rattle.hibitset_atomic.proofs.CallLemmas.{new-once, rest-exact}
+use Rattle.hibitset_atomic.proofs.HistoryWalkLemmas.{honest}
+use Rattle.hibitset_atomic.proofs.HistoryBitLemmas.{summary}
+use Rattle.hibitset_atomic.proofs.WalkStateLemmas.{lowest-first, few-reads, none-empty}
+use Rattle.hibitset_atomic.proofs.WorldStepLemmas.{stands-lowest}
+use Rattle.hibitset_atomic.proofs.LayerLemmas.{held_below}
+use Rattle.hibitset_atomic.proofs.CallStepLemmas.{beyond-none}
 use Rattle.hibitset_atomic.specs.AtomicBitSet.{has, word_of}
 use Rattle.hibitset_atomic.proofs.laws.world_laws.Goals as goal
 

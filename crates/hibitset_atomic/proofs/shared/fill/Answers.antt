@@ -1,8 +1,8 @@
 use Rattle.std.proofs.Common.{◌≡◌, slice_index, ◌∙◌, sym, refl, arith}
 use Rattle.std.specs.Slots.{slots_items}
 use Rattle.hibitset_atomic.specs.AtomicBitSet.{word_of}
-use Rattle.hibitset_atomic.proofs.Views.{index_at}
-use Rattle.hibitset_atomic.proofs.Rows.{filled_more, empty_more}
+use Rattle.hibitset_atomic.proofs.ViewLemmas.{index_at}
+use Rattle.hibitset_atomic.proofs.RowLemmas.{filled_more, empty_more}
 use Rattle.hibitset_atomic.proofs.shared.fill.Goals.{then-word-ne0, else-word-ne0}
 use Rattle.hibitset_atomic.proofs.shared.fill.Goals as goal
 
@@ -14,9 +14,9 @@ loop-place-preserved c =
     elim c.if-word-ne0.branch [
       | then-word-ne0 w ↦ rw w.set-is record {
         closed = i.invariant.closed;
-        filled = filled_more (word_of i.set 0) (word_of w.put_word.new.self 0) (slice_index words) i.place i.invariant.filled (w.put_word.ensures.here ∙ sym found) w.put_word.ensures.others;
-        empty = empty_more (word_of i.set 0) (word_of w.put_word.new.self 0) i.place i.invariant.empty w.put_word.ensures.others;
-        room = w.put_word.ensures.room;
+        filled = filled_more (word_of i.set 0) (word_of w.store_word.new.self 0) (slice_index words) i.place i.invariant.filled (w.store_word.ensures.here ∙ sym found) w.store_word.ensures.others;
+        empty = empty_more (word_of i.set 0) (word_of w.store_word.new.self 0) i.place i.invariant.empty w.store_word.ensures.others;
+        room = w.store_word.ensures.room;
       }
       | else-word-ne0 w ↦ rw w.set-is record {
         closed = i.invariant.closed;

@@ -3,7 +3,7 @@ use Rattle.std.specs.Slots.{slots_items, slots_len, IsFull}
 use Rattle.hibitset_atomic.specs.AtomicBitSet.{word_of}
 use Rattle.hibitset_atomic.specs.Blocks.{HasRoom}
 use Rattle.hibitset_atomic.proofs.shared.fill.Given as goal
-use Rattle.hibitset_atomic.specs.declared.shared.sizes.TheConstants.{ROW_WORDS}
+use Rattle.hibitset_atomic.specs.declared.shared.layout.TheConstants.{ROW_WORDS}
 
 abbrev pub invariant-loop-place : goal.invariant-loop-place
 invariant-loop-place l = record {

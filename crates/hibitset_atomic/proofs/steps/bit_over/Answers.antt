@@ -1,6 +1,6 @@
 use Rattle.std.proofs.Common.{◌≡◌, ℕ, ◌+◌, ◌/◌, ◌%◌, ◌^◌, slice_index_or, ap, ◌∙◌, arith, w64}
 use Rattle.std.specs.Int.{trailing_zeros}
-use Rattle.hibitset_atomic.proofs.PathBits.{lowest_of_one, at_layer}
+use Rattle.hibitset_atomic.proofs.PathLemmas.{lowest_of_one, at_layer}
 use Rattle.hibitset_atomic.proofs.steps.bit_over.Goals as goal
 
 pub returns-clause-bit : goal.returns-clause-bit

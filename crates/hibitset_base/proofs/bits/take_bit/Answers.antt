@@ -1,6 +1,6 @@
 use Rattle.std.proofs.Common.{◌≢◌, ℕ, ◌<◌, arith, ◌⊎◌, inl, inr}
 use Rattle.std.proofs.lemmas.Bool.{cases_lt}
-use Rattle.hibitset_base.proofs.Masks.{takes_first}
+use Rattle.hibitset_base.proofs.MaskLemmas.{takes_first}
 use Rattle.hibitset_base.proofs.bits.take_bit.Goals as goal
 
 pub returns-clause-stood : goal.returns-clause-stood

@@ -1,10 +1,10 @@
 use Rattle.std.proofs.Common.{◌∙◌}
-use Rattle.hibitset_base.proofs.Building.{IfErr-handed_on, or_true, refused_apart}
+use Rattle.hibitset_base.proofs.ErrorLemmas.{IfErr-handed_on, or_true, refused_apart}
 use Rattle.hibitset_base.proofs.build.from_indices.Goals as goal
 
 pub returns-in_err-extend_indices-clause-stops : goal.returns-in_err-extend_indices-clause-stops
 returns-in_err-extend_indices-clause-stops g c =
     let made = c.extend_indices.new.set in
     let stops = c.in_err-extend_indices.ensures.stops in
-    let apart = refused_apart g.T.Extendable.RANGE (λ i. i) g.T.Extendable.lie_apart (g.T.Extendable.lacks_room made) (g.T.BitSetLike.holds made) stops.1 (λ i some. stops.6.members i ∙ or_true _ _ some) (g.met.T.Extendable.apart made) c.in_err-extend_indices.field-0.0 _ _ stops.7 in
+    let apart = refused_apart g.T.FallibleInsert.RANGE (λ i. i) g.T.FallibleInsert.need_separate_room (g.T.FallibleInsert.needs_allocation made) (g.T.BitSetLike.holds made) stops.1 (λ i some. stops.6.members i ∙ or_true _ _ some) (g.met.T.FallibleInsert.apart made) c.in_err-extend_indices.field-0.0 _ _ stops.7 in
     IfErr-handed_on _ c.from_residual.result c.in_err-extend_indices.field-0.0 c.from_residual.ensures.1 (stops.0, stops.1, stops.2, stops.3, stops.4, stops.5, stops.6.in_range, apart)

@@ -1,5 +1,5 @@
 use Rattle.std.proofs.Common.{refl, arith}
-use Rattle.hibitset_base.proofs.Cutting.{lower_ones}
+use Rattle.hibitset_base.proofs.CutLemmas.{lower_ones}
 use Rattle.hibitset_base.proofs.range.low_ones.Goals as goal
 
 pub returns-then-count-eq64 : goal.returns-then-count-eq64

@@ -1,6 +1,6 @@
 use Rattle.std.proofs.Common.{◌≡◌, ◌+◌, ◌-◌, ◌*◌, ◌^◌, [], ◌∷◌, ◌++◌, length, ◌∙◌, ap, arith, length-append}
 use Rattle.hibitset_base.specs.Ranks.{block_size}
-use Rattle.hibitset_base.proofs.Members.{members-length}
+use Rattle.hibitset_base.proofs.MemberLemmas.{members-length}
 use Rattle.hibitset_base.proofs.RankedLemmas.{none_before, first_count, next_count, count_block}
 use Rattle.hibitset_base.proofs.ranked.count_blocks.Goals as goal
 

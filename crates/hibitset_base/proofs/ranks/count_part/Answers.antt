@@ -3,7 +3,7 @@ use Rattle.std.proofs.Math.Nat.{pow-suc}
 use Rattle.hibitset_base.specs.Members.{members}
 use Rattle.hibitset_base.specs.Ranks.{HasPart}
 use Rattle.hibitset_base.specs.declared.util.TheConstants.{LAYERS}
-use Rattle.hibitset_base.proofs.Members.{members-length}
+use Rattle.hibitset_base.proofs.MemberLemmas.{members-length}
 use Rattle.hibitset_base.proofs.PartLemmas.{items_of_part}
 use Rattle.hibitset_base.proofs.ranks.count_part.Goals as goal
 

@@ -1,4 +1,4 @@
-use Rattle.hibitset_base.proofs.Cutting.{cuts_at, lower_ones}
+use Rattle.hibitset_base.proofs.CutLemmas.{cuts_at, lower_ones}
 use Rattle.hibitset_base.proofs.PartLemmas.{head_cut}
 use Rattle.hibitset_base.proofs.ranks.head.Goals as goal
 

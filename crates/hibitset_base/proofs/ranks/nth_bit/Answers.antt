@@ -1,6 +1,6 @@
 use Rattle.std.proofs.Common.{refl, sym, ◌∙◌, ap}
 use Rattle.std.specs.Prelude.{slice_get}
-use Rattle.hibitset_base.proofs.Left.{bits-none}
+use Rattle.hibitset_base.proofs.PlaceLemmas.{bits-none}
 use Rattle.hibitset_base.proofs.RankLemmas.{at_first, at_later}
 use Rattle.hibitset_base.proofs.ranks.nth_bit.Goals as goal
 

@@ -20,8 +20,8 @@ returns-then-is_empty-clause-goes g c = stays_back c.args.reads.now.count (rev_l
 nothing_below : (cursor new : RevCursor LAYERS) (layer : ℕ) → 0 < layer → ((l : ℕ) → l ≢ layer → rev_mask new l ≡ rev_mask cursor l) → IsRevEmptyBelow cursor layer → IsRevEmptyBelow new (layer - 1 + 1)
 nothing_below cursor new layer above others lowest l lower = others l (λ e. absurd (omega (arith, e, lower, above))) ∙ lowest l (omega (arith, lower, above))
 
-pub put-requires : goal.put-requires
-put-requires g c =
+pub push_bits-requires : goal.push_bits-requires
+push_bits-requires g c =
     let above = c.requires.above in
     let below = c.requires.layer in
     let one : LAYERS - 1 - (c.args.layer - 1) ≡ LAYERS - c.args.layer = omega (arith, above) in
@@ -43,5 +43,5 @@ returns-clause-goes g c =
     let within : q < 64 ^ (LAYERS - (layer - 1 + 1)) = rw next c.take_last-position.ensures.within in
     let down = goes_down_back LAYERS holds word (g.met.T.BitSetLike.lawful c.args.set.now) (layer - 1) q (omega (arith, below, above)) within fits rest c.args.reads.now.count in
     let old : rev_left c.args.cursor.now ≡ rest ++ ((record { layer = suc (layer - 1); position = q }) ∷ []) = c.take_last-position.ensures.taken ∙ ap (λ l. rest ++ ((record { layer = l; position = q }) ∷ [])) one in
-    let new : rev_left c.put.new.self ≡ rest ++ places_in (layer - 1) (bits_from (64 * q) (word (layer - 1) q)) = c.put.ensures.left ∙ ap (λ v. rest ++ places_in (layer - 1) (bits_from (64 * q) v)) read in
+    let new : rev_left c.push_bits.new.self ≡ rest ++ places_in (layer - 1) (bits_from (64 * q) (word (layer - 1) q)) = c.push_bits.ensures.left ∙ ap (λ v. rest ++ places_in (layer - 1) (bits_from (64 * q) v)) read in
     rw (old, new, c.read-word.ensures.reads) down

@@ -3,9 +3,9 @@ use Rattle.std.proofs.lemmas.List.Elements.{All-nil, All-same}
 use Rattle.hibitset_base.specs.Members.{members, members_below}
 use Rattle.hibitset_base.specs.Places.{items_of}
 use Rattle.hibitset_base.specs.Ranks.{start_over}
-use Rattle.hibitset_base.specs.Reading.{Stands}
+use Rattle.hibitset_base.specs.WordsRead.{BitIsSet}
 use Rattle.hibitset_base.specs.declared.util.TheConstants.{LAYERS}
-use Rattle.hibitset_base.proofs.Members.{members-none}
+use Rattle.hibitset_base.proofs.MemberLemmas.{members-none}
 use Rattle.hibitset_base.proofs.RankLemmas.{none_start, parts_here, ends_before}
 use Rattle.hibitset_base.proofs.rev_iter.start_before.Goals as goal
 
@@ -18,7 +18,7 @@ layers-init g c =
     record {
       reads = omega arith;
       items = ap (items_of holds) left ∙ sym none;
-      drawn = All-same (Stands (g.T.BitSetLike.word c.args.set.now)) _ [] left (All-nil (Stands (g.T.BitSetLike.word c.args.set.now)));
+      drawn = All-same (BitIsSet (g.T.BitSetLike.word c.args.set.now)) _ [] left (All-nil (BitIsSet (g.T.BitSetLike.word c.args.set.now)));
       below = c.empty-cursor.ensures.below;
     }
 

@@ -1,7 +1,7 @@
 use Rattle.std.proofs.Common.{ℕ, ◌<◌, ◌^◌, arith}
 use Rattle.std.specs.Int.RustNames.{count_ones}
 use Rattle.std.proofs.lemmas.Nat.{ones_le_self}
-use Rattle.hibitset_base.proofs.Halving.{ones-without_first, highest-without_first, halving}
+use Rattle.hibitset_base.proofs.MiddleBitLemmas.{ones-without_first, highest-without_first, halving}
 use Rattle.hibitset_base.proofs.util.average_ones.Goals as goal
 
 pub lower-preserved : goal.lower-preserved

@@ -1,6 +1,6 @@
 use Rattle.std.proofs.Common.{◌≡◌, ◌+◌}
 use Rattle.std.specs.Int.RustNames.{count_ones}
-use Rattle.hibitset_base.proofs.Halving.{AreHighest}
+use Rattle.hibitset_base.proofs.MiddleBitLemmas.{AreHighest}
 use Rattle.hibitset_base.proofs.util.average_ones.Given as goal
 
 -- one bit fewer is left at each turn, and those that are left are the word's highest

@@ -1,7 +1,7 @@
 use Rattle.std.proofs.Common.{length, ap, arith, inl}
 use Rattle.hibitset.specs.BitSet.{has}
 use Rattle.hibitset_base.specs.declared.util.TheConstants.{MAX_EID}
-use Rattle.hibitset_base.proofs.Members.{members-length}
+use Rattle.hibitset_base.proofs.MemberLemmas.{members-length}
 use Rattle.hibitset_bench_threads.proofs.parallel.count_alone.Goals as goal
 
 -- a walk has no more items than there are indices

@@ -1,6 +1,6 @@
 use Rattle.std.proofs.Common.{IfSome}
-use Rattle.hibitset_atomic.specs.Seats.{Came}
+use Rattle.hibitset_atomic.specs.Seats.{BelongsTo}
 use Rattle.hibitset_bench_threads.proofs.stress.add_all.Given as goal
 
 abbrev pub invariant-loop-draw : goal.invariant-loop-draw
-invariant-loop-draw l = Came l.set l.hand.seat × IfSome l.hand.spare (λ s. Came l.set s)
+invariant-loop-draw l = BelongsTo l.set l.hand.seat × IfSome l.hand.spare (λ s. BelongsTo l.set s)

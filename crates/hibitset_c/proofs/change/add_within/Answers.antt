@@ -1,4 +1,4 @@
-use Rattle.hibitset_c.proofs.Lengths.{there}
+use Rattle.hibitset_c.proofs.LengthLemmas.{there}
 use Rattle.hibitset_c.proofs.change.add_within.Goals as goal
 
 pub add-requires : goal.add-requires

@@ -1,5 +1,5 @@
 use Rattle.std.proofs.Common.{refl, arith}
-use Rattle.hibitset_c.proofs.Lengths.{there}
+use Rattle.hibitset_c.proofs.LengthLemmas.{there}
 use Rattle.hibitset_c.proofs.change.hibitset_add.Goals as goal
 
 pub returns-then-contains-clause-range : goal.returns-then-contains-clause-range

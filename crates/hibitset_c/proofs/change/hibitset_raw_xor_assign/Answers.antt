@@ -1,8 +1,8 @@
 use Rattle.std.proofs.Common.{subst}
-use Rattle.hibitset.specs.Merging.{NoWordsFrom}
+use Rattle.hibitset.specs.Merge.{NoWordsFrom}
 use Rattle.hibitset_c.specs.Seen.{has as other_has, word_of as other_word}
 use Rattle.hibitset_c.specs.Set.{has}
-use Rattle.hibitset_c.proofs.NoMembers.{no_words, xor_stays}
+use Rattle.hibitset_c.proofs.NoMemberLemmas.{no_words, xor_stays}
 use Rattle.hibitset_c.proofs.change.hibitset_raw_xor_assign.Goals as goal
 
 pub returns-then-is_empty-clause-members : goal.returns-then-is_empty-clause-members

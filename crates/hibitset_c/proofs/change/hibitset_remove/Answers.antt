@@ -1,5 +1,5 @@
 use Rattle.std.proofs.Common.{refl, sym}
-use Rattle.hibitset_c.proofs.Lengths.{not_there, stays_without}
+use Rattle.hibitset_c.proofs.LengthLemmas.{not_there, stays_without}
 use Rattle.hibitset_c.proofs.change.hibitset_remove.Goals as goal
 
 pub returns-then-not-has_word_of-clause-was_member : goal.returns-then-not-has_word_of-clause-was_member

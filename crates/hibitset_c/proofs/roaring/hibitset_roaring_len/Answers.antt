@@ -1,4 +1,4 @@
-use Rattle.hibitset_c.proofs.Streams.{seen_summaries, plain_of_words}
+use Rattle.hibitset_c.proofs.StreamLemmas.{seen_summaries, plain_of_words}
 use Rattle.hibitset_c.proofs.roaring.hibitset_roaring_len.Goals as goal
 
 pub len_of_words-requires-clause-above : goal.len_of_words-requires-clause-above

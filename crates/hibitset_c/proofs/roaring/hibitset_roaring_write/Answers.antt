@@ -1,5 +1,5 @@
 use Rattle.std.proofs.Common.{take, arith}
-use Rattle.hibitset_c.proofs.Streams.{seen_summaries, plain_of_words, canonical_of_set}
+use Rattle.hibitset_c.proofs.StreamLemmas.{seen_summaries, plain_of_words, canonical_of_set}
 use Rattle.hibitset_c.proofs.roaring.hibitset_roaring_write.Goals as goal
 
 pub write_words-requires-clause-above : goal.write_words-requires-clause-above

@@ -1,5 +1,5 @@
 use Rattle.std.proofs.Common.{arith}
-use Rattle.hibitset_run.proofs.Steps.{added, refused}
+use Rattle.hibitset_run.proofs.StepLemmas.{added, refused}
 use Rattle.hibitset_run.proofs.script.add.Goals as goal
 
 pub returns-in-Ok : goal.returns-in-Ok
@@ -10,4 +10,4 @@ returns-in-Ok c =
 pub returns-in-Err : goal.returns-in-Err
 returns-in-Err c =
     rw c.number.ensures (refused c.args.sets.now c.args.slot c.index-sets-number.result c.told-sets c.args.id _ (omega arith)
-    (rw c.number.ensures at c.in-Err.ensures.room) (λ i. rw c.number.ensures at (c.in-Err.ensures.refused i)))
+    (rw c.number.ensures at c.in-Err.ensures.succeeds) (λ i. rw c.number.ensures at (c.in-Err.ensures.err i)))

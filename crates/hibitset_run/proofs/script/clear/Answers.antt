@@ -1,4 +1,4 @@
-use Rattle.hibitset_run.proofs.Steps.{cleared}
+use Rattle.hibitset_run.proofs.StepLemmas.{cleared}
 use Rattle.hibitset_run.proofs.script.clear.Goals as goal
 
 pub returns : goal.returns

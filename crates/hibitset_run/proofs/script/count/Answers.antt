@@ -1,4 +1,4 @@
-use Rattle.hibitset_run.proofs.Steps.{counted}
+use Rattle.hibitset_run.proofs.StepLemmas.{counted}
 use Rattle.hibitset_run.proofs.script.count.Goals as goal
 
 pub returns : goal.returns

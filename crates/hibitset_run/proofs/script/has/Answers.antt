@@ -1,4 +1,4 @@
-use Rattle.hibitset_run.proofs.Steps.{told}
+use Rattle.hibitset_run.proofs.StepLemmas.{told}
 use Rattle.hibitset_run.proofs.script.has.Goals as goal
 
 pub returns : goal.returns

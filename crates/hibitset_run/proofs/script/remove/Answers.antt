@@ -1,4 +1,4 @@
-use Rattle.hibitset_run.proofs.Steps.{removed}
+use Rattle.hibitset_run.proofs.StepLemmas.{removed}
 use Rattle.hibitset_run.proofs.script.remove.Goals as goal
 
 pub returns : goal.returns

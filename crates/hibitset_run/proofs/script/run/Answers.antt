@@ -3,7 +3,7 @@ use Rattle.std.proofs.lemmas.List.{take_more, map-append}
 use Rattle.hibitset_run.specs.declared.script.Slot.TheVariants.{A}
 use Rattle.hibitset_run.specs.declared.script.Command.TheVariants.{Add}
 use Rattle.hibitset_run.specs.Script.{answer_of}
-use Rattle.hibitset_run.proofs.Runs.{IsRun-push}
+use Rattle.hibitset_run.proofs.RunLemmas.{IsRun-push}
 use Rattle.hibitset_run.proofs.script.run.Goals as goal
 
 pub loop-command-preserved : goal.loop-command-preserved

@@ -3,7 +3,7 @@ use Rattle.std.proofs.lemmas.List.{take_more, map-append}
 use Rattle.hibitset_run.specs.declared.store.Side.TheVariants.{P}
 use Rattle.hibitset_run.specs.declared.store.StoreCommand.TheVariants.{Put}
 use Rattle.hibitset_run.specs.Store.{answer_of}
-use Rattle.hibitset_run.proofs.Storing.{IsRun-push}
+use Rattle.hibitset_run.proofs.StoreRunLemmas.{IsRun-push}
 use Rattle.hibitset_run.proofs.store.run.Goals as goal
 
 pub loop-command-preserved : goal.loop-command-preserved

@@ -1,7 +1,8 @@
 //! Readers and writers that give or take little, or fail.
 use crate::script::{Ended, run_text};
-use std::alloc::{AllocError, Global};
+use std::alloc::{AllocError, AllocGlobal, Global};
 use std::io::{self, ErrorKind, Read, Write};
+use std::process::Abort;
 use std::test::Fail;
 
 // Gives its bytes, at most so many a read, and fails from one read on.
@@ -133,19 +134,25 @@ fn lines(alloc: Global, line: &str, count: u32) -> Result<String, AllocError> {
     Ok(text)
 }
 
+// Sees that a run ends where a read of such a reader fails, and that nothing is written.
+fn assert_input_fails(rt: &(impl Abort + AllocGlobal), reader: Breaking<'_>) {
+    let mut reader = reader;
+    let mut output = Vec::new(rt.alloc());
+    let ended = run_text(rt.alloc(), &mut reader, &mut output);
+    assert_eq!(rt; ended, Ended::InputFailed);
+    assert_eq!(rt; output.len(), 0);
+}
+
 #[test]
 fn ends_where_a_read_fails(rt: HostRuntime) {
     for kind in [ErrorKind::Other, ErrorKind::OutOfMemory] {
-        let mut reader = Breaking {
+        let reader = Breaking {
             bytes: b"add a 5\n",
             most: 3,
             reads_left: 3,
             kind,
         };
-        let mut output = Vec::new(rt.alloc());
-        let ended = run_text(rt.alloc(), &mut reader, &mut output);
-        assert_eq!(rt; ended, Ended::InputFailed);
-        assert_eq!(rt; output.len(), 0);
+        assert_input_fails(&rt, reader);
     }
 }
 
@@ -224,16 +231,13 @@ fn ends_where_a_read_would_wait_or_ends_early(rt: HostRuntime) {
         ErrorKind::UnexpectedEof,
         ErrorKind::TimedOut,
     ] {
-        let mut reader = Breaking {
+        let reader = Breaking {
             bytes: b"add a 5\nlist a\n",
             most: 3,
             reads_left: 5,
             kind,
         };
-        let mut output = Vec::new(rt.alloc());
-        let ended = run_text(rt.alloc(), &mut reader, &mut output);
-        assert_eq!(rt; ended, Ended::InputFailed);
-        assert_eq!(rt; output.len(), 0);
+        assert_input_fails(&rt, reader);
     }
 }
 

@@ -7,8 +7,8 @@ use Rattle.hibitset_store.specs.Columns.{value_of}
 use Rattle.hibitset_store.specs.Joins.{in_both, pairs, seen}
 use Rattle.hibitset_store.specs.Masks.{in_masks, masks_word}
 use Rattle.hibitset_store.specs.Walks.{JoinSteps, pairs_left}
-use Rattle.hibitset_store.proofs.Joining.{all-items, pairs-joined, pairs-length}
-use Rattle.hibitset_store.proofs.Bounding.{few_reads}
+use Rattle.hibitset_store.proofs.JoinLemmas.{all-items, pairs-joined, pairs-length}
+use Rattle.hibitset_store.proofs.ReadBoundLemmas.{few_reads}
 use Rattle.hibitset_store.proofs.joins.join.Goals as goal
 
 pub returns-clause-pairs : goal.returns-clause-pairs

@@ -7,8 +7,8 @@ use Rattle.hibitset_store.specs.Columns.{value_of}
 use Rattle.hibitset_store.specs.Joins.{in_both, pairs, seen}
 use Rattle.hibitset_store.specs.Masks.{in_three, three_word}
 use Rattle.hibitset_store.specs.Walks.{MaskedSteps, masked_left}
-use Rattle.hibitset_store.proofs.Joining.{all-items, pairs-joined_within, pairs-length}
-use Rattle.hibitset_store.proofs.Bounding.{encloses-and, few_reads}
+use Rattle.hibitset_store.proofs.JoinLemmas.{all-items, pairs-joined_within, pairs-length}
+use Rattle.hibitset_store.proofs.ReadBoundLemmas.{encloses-and, few_reads}
 use Rattle.hibitset_store.proofs.joins.join_masked.Goals as goal
 
 pub returns-clause-pairs : goal.returns-clause-pairs

@@ -2,7 +2,7 @@ use Rattle.std.proofs.Common.{◌/◌, ◌≤◌}
 use Rattle.std.proofs.lemmas.Result.{IfOk-weaker, IfErr-weaker}
 use Rattle.hibitset_base.specs.declared.util.TheConstants.{MAX_EID}
 use Rattle.hibitset.specs.BitSet.{has, slice_len}
-use Rattle.uses.proofs.Listing.{takes_all, stopped_in}
+use Rattle.uses.proofs.ListLemmas.{takes_all, stopped_in}
 use Rattle.uses.proofs.lists.add_all.Goals as goal
 
 pub returns-clause-added : goal.returns-clause-added

@@ -2,8 +2,8 @@ use Rattle.std.proofs.Common.{◌/◌, ◌<◌, false}
 use Rattle.std.proofs.lemmas.Result.{IfOk-weaker, IfErr-weaker}
 use Rattle.hibitset_base.specs.declared.util.TheConstants.{MAX_EID}
 use Rattle.hibitset.specs.BitSet.{has}
-use Rattle.uses.proofs.Listing.{takes_all, made_of, refused_in}
-use Rattle.uses.proofs.Working.{both_ok}
+use Rattle.uses.proofs.ListLemmas.{takes_all, made_of, refused_in}
+use Rattle.uses.proofs.WorkerLemmas.{both_ok}
 use Rattle.uses.proofs.lists.set_of.Goals as goal
 
 pub returns-clause-members : goal.returns-clause-members
@@ -11,7 +11,7 @@ returns-clause-members c = IfOk-weaker c.from_index_refs.result _ _ (λ set h. m
 
 pub returns-clause-short : goal.returns-clause-short
 returns-clause-short c =
-    both_ok _ _ _ c.from_index_refs.result c.from_index_refs.ensures.all c.from_index_refs.ensures.above
+    both_ok _ _ _ c.from_index_refs.result c.from_index_refs.ensures.all c.from_index_refs.ensures.upper_len_max
     (λ set all above. λ l end below ends. above l end below (λ i on. ends i ((made_of (has set) c.args.list.now (takes_all MAX_EID c.args.list (λ _. false) (has set) all).added i).0 on)))
 
 pub returns-clause-in_range : goal.returns-clause-in_range

@@ -2,8 +2,8 @@ use Rattle.std.proofs.Common.{◌≡◌, ◌+◌, ◌*◌, ◌^◌, suc, pow-suc
 use Rattle.std.proofs.lemmas.Result.{IfOk-weaker, IfErr-weaker}
 use Rattle.hibitset_base.specs.declared.util.TheConstants.{MAX_EID}
 use Rattle.hibitset.specs.BitSet.{has}
-use Rattle.uses.proofs.Listing.{takes_range, refused_range}
-use Rattle.uses.proofs.Working.{both_ok}
+use Rattle.uses.proofs.ListLemmas.{takes_range, refused_range}
+use Rattle.uses.proofs.WorkerLemmas.{both_ok}
 use Rattle.uses.proofs.lists.set_of_range.Goals as goal
 
 pub returns-clause-members : goal.returns-clause-members
@@ -11,7 +11,7 @@ returns-clause-members c = IfOk-weaker c.from_indices.result _ _ (λ set h. (tak
 
 pub returns-clause-short : goal.returns-clause-short
 returns-clause-short c =
-    both_ok _ _ _ c.from_indices.result c.from_indices.ensures.all c.from_indices.ensures.above
+    both_ok _ _ _ c.from_indices.result c.from_indices.ensures.all c.from_indices.ensures.upper_len_max
     (λ set all above. λ l below n ends. above l n below (λ i on.
     let within = ((takes_range MAX_EID c.args.start c.args.end (has set) all).members i).0 on in
     let s : l + 1 ≡ suc l = omega arith in

@@ -3,7 +3,7 @@ use Rattle.std.proofs.lemmas.Result.{IfOk-weaker}
 use Rattle.hibitset_base.specs.Ranges.{in_range}
 use Rattle.hibitset_base.specs.declared.util.TheConstants.{MAX_EID}
 use Rattle.hibitset_base.proofs.CallerLemmas.{members_in_range}
-use Rattle.hibitset_base.proofs.Members.{members-same}
+use Rattle.hibitset_base.proofs.MemberLemmas.{members-same}
 use Rattle.hibitset.specs.BitSet.{has}
 use Rattle.uses.proofs.results.both_within.Goals as goal
 

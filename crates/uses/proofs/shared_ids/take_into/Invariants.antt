@@ -1,14 +1,14 @@
 use Rattle.std.proofs.Common.{◌≡◌, ℕ, ◌<◌, ◌≤◌, length, reverse}
 use Rattle.hibitset_atomic.specs.declared.atomic.TheConstants.{ATOMIC_MAX_EID}
-use Rattle.hibitset_atomic.specs.Seats.{Came, Known, weight_of, reports_of}
+use Rattle.hibitset_atomic.specs.Seats.{BelongsTo, IsKnown, weight_of, reports_of}
 use Rattle.uses.proofs.shared_ids.take_into.Given as goal
 
 abbrev pub invariant-loop : goal.invariant-loop
 invariant-loop l = record {
-  came : Came l.set l.seat;
+  came : BelongsTo l.set l.seat;
   weight : weight_of l.seat ≡ weight_of l.fn.seat;
   taken : reports_of l.seat ≡ reverse l.ids.items;
   count : length l.ids.items ≡ l.counter;
   start : l.start ≤ ATOMIC_MAX_EID;
-  passed : (i : ℕ) → i < l.start → Known l.seat i;
+  passed : (i : ℕ) → i < l.start → IsKnown l.seat i;
 }

@@ -3,7 +3,7 @@ use Rattle.std.specs.List.Sorted.{IsStrictlyIncreasing}
 use Rattle.std.proofs.Math.Nat.{eq-or-lt_of_le}
 use Rattle.std.proofs.lemmas.List.{get_or_append_left, get_or-append_right}
 use Rattle.std.proofs.lemmas.List.Elements.{Contains-append_left, Contains-push, Contains-push_cases, Contains-get_or}
-use Rattle.hibitset_atomic.specs.Seats.{Known}
+use Rattle.hibitset_atomic.specs.Seats.{IsKnown}
 use Rattle.hibitset_atomic.specs.SharedWalk.{seat_of, loads_of, next_from}
 use Rattle.uses.proofs.walks.indices.Goals as goal
 
@@ -52,7 +52,7 @@ loop-index-preserved c =
           (was.due i sure));
       items = λ i h. ⊎_elim
           (λ old. let o = was.items i old in (step.known i o.0, (let a = o.1 in let b = given.2 in let d = given.3 in omega (arith, a, b, d))))
-          (λ e. subst (λ j. Known (seat_of c.next.new.self) j × (j < next_from c.next.new.self)) e (given.0, given.3))
+          (λ e. subst (λ j. IsKnown (seat_of c.next.new.self) j × (j < next_from c.next.new.self)) e (given.0, given.3))
           (Contains-push_cases c.loop-index.all.items x i (rw pushed at h));
       ascending = rw pushed (increasing_push c.loop-index.all.items x was.ascending (λ i h. let a = (was.items i h).1 in let b = given.2 in omega (arith, a, b)));
       loaded = (let l = step.loaded in let w = was.loaded in omega (arith, l, w));

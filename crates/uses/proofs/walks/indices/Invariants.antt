@@ -1,6 +1,6 @@
 use Rattle.std.proofs.Common.{◌≡◌, ◌⊎◌, ℕ, ◌+◌, ◌*◌, ◌<◌, ◌≤◌, Contains, length}
 use Rattle.std.specs.List.Sorted.{IsStrictlyIncreasing}
-use Rattle.hibitset_atomic.specs.Seats.{IsOld, Known, weight_of, reports_of, loads_by, exchanges_by}
+use Rattle.hibitset_atomic.specs.Seats.{IsOld, IsKnown, weight_of, reports_of, loads_by, exchanges_by}
 use Rattle.hibitset_atomic.specs.SharedWalk.{set_of, seat_of, lender, loads_of, next_from, IsDue}
 use Rattle.uses.proofs.walks.indices.Given as goal
 
@@ -11,9 +11,9 @@ invariant-loop-index l = record {
   same_reference : lender l.index-iterator ≡ lender l.initial.index-iterator;
   set : set_of l.index-iterator ≡ l.set;
   seat : (weight_of (seat_of l.index-iterator) ≡ weight_of l.fn.seat) × (reports_of (seat_of l.index-iterator) ≡ reports_of l.fn.seat);
-  known : (i : ℕ) → Known l.fn.seat i → Known (seat_of l.index-iterator) i;
-  due : (i : ℕ) → IsOld l.set i ⊎ Known l.fn.seat i → Contains l.all.items i ⊎ IsDue l.index-iterator i;
-  items : (i : ℕ) → Contains l.all.items i → Known (seat_of l.index-iterator) i × (i < next_from l.index-iterator);
+  known : (i : ℕ) → IsKnown l.fn.seat i → IsKnown (seat_of l.index-iterator) i;
+  due : (i : ℕ) → IsOld l.set i ⊎ IsKnown l.fn.seat i → Contains l.all.items i ⊎ IsDue l.index-iterator i;
+  items : (i : ℕ) → Contains l.all.items i → IsKnown (seat_of l.index-iterator) i × (i < next_from l.index-iterator);
   ascending : IsStrictlyIncreasing l.all.items;
   loaded : loads_by (seat_of l.index-iterator) ≡ loads_by l.fn.seat + loads_of l.index-iterator;
   few : loads_of l.index-iterator ≤ 3 * length l.all.items + 1;

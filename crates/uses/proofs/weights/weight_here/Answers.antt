@@ -3,7 +3,7 @@ use Rattle.std.proofs.lemmas.List.Sums.{sum_by-cons}
 use Rattle.hibitset_base.specs.Walk.{items_left}
 use Rattle.hibitset.specs.BitSet.{has}
 use Rattle.uses.specs.Weights.{weight_of_both, both}
-use Rattle.uses.proofs.Weighing.{weight_fits, items_fit}
+use Rattle.uses.proofs.WeightLemmas.{weight_fits, items_fit}
 use Rattle.uses.proofs.weights.weight_here.Goals as goal
 
 pub overflow_add-total : goal.overflow_add-total

@@ -1,7 +1,7 @@
 use Rattle.std.proofs.Common.{rules, ◌∙◌}
 use Rattle.hibitset.specs.BitSet.{has}
 use Rattle.uses.specs.Weights.{both}
-use Rattle.uses.proofs.Weighing.{total_of_parts, items_fit}
+use Rattle.uses.proofs.WeightLemmas.{total_of_parts, items_fit}
 use Rattle.uses.proofs.weights.weight_of_both.Goals as goal
 
 pub returns : goal.returns

@@ -1,4 +1,4 @@
-use Rattle.hibitset_atomic.proofs.Lists.{has-from_contains}
+use Rattle.hibitset_atomic.proofs.ListLemmas.{has-from_contains}
 use Rattle.hibitset_atomic.specs.Seats.{reports_of}
 use Rattle.uses.proofs.workers.add_list.Goals as goal
 

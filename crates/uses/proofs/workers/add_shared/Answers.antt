@@ -1,7 +1,7 @@
 use Rattle.std.proofs.Common.{◌≡◌, inl, inr, Contains, refl, sym, subst, arith}
-use Rattle.hibitset_atomic.specs.declared.shared.sizes.TheConstants.{SHARES}
+use Rattle.hibitset_atomic.specs.declared.shared.layout.TheConstants.{SHARES}
 use Rattle.hibitset_atomic.specs.Seats.{weight_of, reports_of}
-use Rattle.uses.proofs.Working.{all_sound, same_weights, listed_known, reported_listed}
+use Rattle.uses.proofs.WorkerLemmas.{all_sound, same_weights, listed_known, reported_listed}
 use Rattle.uses.proofs.workers.add_shared.Goals as goal
 
 pub together-seat-requires-clause-works : goal.together-seat-requires-clause-works
@@ -53,7 +53,7 @@ returns-in-Err-settle-clause-left g c =
     let each = c.in-Ok-run.ensures in
     let joined = c.together-seat.ensures in
     let lists = c.in-Ok.ensures.lists in
-    let back = c.in-Err-settle.ensures.back in
+    let back = c.in-Err-settle.ensures.value_returned in
     let weights = same_weights c.args.set jobs works each in
     let whole : weight_of c.together-seat.result.seat ≡ SHARES = (let a = joined.weight in let b = c.in-Ok.ensures.weight in let d = c.requires.seat.2 in omega (arith, a, b, d, weights)) in
     rw (back.0, back.1) (

@@ -4,11 +4,11 @@ use Rattle.std.specs.Vec.Iter.{into_iter_items}
 use Rattle.std.proofs.lemmas.List.Elements.{All-push, All-same}
 use Rattle.std.proofs.lemmas.List.Sums.{sum_by_push}
 use Rattle.std.proofs.lemmas.List.Concat.{flat_map-cons, flat_map-append}
-use Rattle.hibitset_atomic.specs.declared.shared.parts.Seat.{Seat}
-use Rattle.hibitset_atomic.specs.Seats.{Came, weight_of, reports_of}
+use Rattle.hibitset_atomic.specs.declared.shared.types.Seat.{Seat}
+use Rattle.hibitset_atomic.specs.Seats.{BelongsTo, weight_of, reports_of}
 use Rattle.uses.specs.declared.workers.Job.{Job}
 use Rattle.uses.specs.Workers.{IsJob, list_of}
-use Rattle.uses.proofs.Working.{all_but_last, the_last, no_reports}
+use Rattle.uses.proofs.WorkerLemmas.{all_but_last, the_last, no_reports}
 use Rattle.uses.proofs.workers.jobs_of.Goals as goal
 
 pub lists-init : goal.lists-init
@@ -31,7 +31,7 @@ lists-preserved c =
     let list = c.in-Some.list in
     let left = into_iter_items c.next.new.self in
     let step : into_iter_items c.lists.list-iterator ≡ list ∷ left = c.in-Some.ensures.steps.0 in
-    let IsFresh : Seat → Type 0 = λ s. Came c.args.set.now s × (reports_of s ≡ []) in
+    let IsFresh : Seat → Type 0 = λ s. BelongsTo c.args.set.now s × (reports_of s ≡ []) in
     let seat = c.unwrap-seat.result in
     let job : Job = record { seat = seat; list = list } in
     let seats : c.lists.seats.items ≡ c.pop.new.self.items ++ seat ∷ [] = rw c.unwrap-seat.ensures at c.pop.ensures.items in

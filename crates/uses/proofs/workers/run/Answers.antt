@@ -1,7 +1,7 @@
 use Rattle.std.proofs.Common.{sym, ◌∙◌}
 use Rattle.std.specs.List.{AllZip}
 use Rattle.uses.specs.Workers.{IsWorkOf}
-use Rattle.uses.proofs.Working.{both_ok, zip_at}
+use Rattle.uses.proofs.WorkerLemmas.{both_ok, zip_at}
 use Rattle.uses.proofs.workers.run.Goals as goal
 
 pub returns : goal.returns

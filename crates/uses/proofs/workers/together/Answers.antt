@@ -5,11 +5,11 @@ use Rattle.std.proofs.lemmas.List.Elements.{All-rest, All-head, All-same}
 use Rattle.std.proofs.lemmas.List.Sums.{sum_by-cons}
 use Rattle.std.proofs.lemmas.List.Concat.{flat_map-cons}
 use Rattle.hibitset_atomic.specs.declared.atomic.TheConstants.{ATOMIC_MAX_EID}
-use Rattle.hibitset_atomic.specs.Seats.{Known, weight_of, reports_of}
-use Rattle.hibitset_atomic.proofs.Lists.{few_below}
+use Rattle.hibitset_atomic.specs.Seats.{IsKnown, weight_of, reports_of}
+use Rattle.hibitset_atomic.proofs.ListLemmas.{few_below}
 use Rattle.uses.specs.declared.workers.Work.{Work}
 use Rattle.uses.specs.Workers.{IsWork, seat_weight, new_reports}
-use Rattle.uses.proofs.Working.{any_cases, range_of_both, number_of_both}
+use Rattle.uses.proofs.WorkerLemmas.{any_cases, range_of_both, number_of_both}
 use Rattle.uses.proofs.workers.together.Goals as goal
 
 pub works-init : goal.works-init
@@ -20,7 +20,7 @@ works-init c =
       came = c.requires.kept.0;
       left = All-same (IsWork c.args.set.now) _ _ all c.requires.works;
       weight = ap (λ works. weight_of c.args.kept + sum_by seat_weight works) all;
-      known = λ i h. inr (subst (λ works. Any {X = Work} (λ work. Known work.seat i) works) (sym all) h);
+      known = λ i h. inr (subst (λ works. Any {X = Work} (λ work. IsKnown work.seat i) works) (sym all) h);
       reports = ap (λ r. r ++ flat_map new_reports (into_iter_items c.into_iter-work-iterator.result)) none ∙ ap (λ works. flat_map new_reports works) all;
       new = sym (ap length none);
       range = λ i h. absurd (let k : Contains [] i = subst (λ r. Contains r i) none h in let within = k.1 in omega (arith, within));
@@ -52,7 +52,7 @@ works-preserved c =
       weight = omega (arith, weights, more, both);
       known = λ i h. elim (inv.known i h) [
         | inl before ↦ inl (c.join-seat.ensures.known i (inl before))
-        | inr some ↦ elim (any_cases (λ w. Known w.seat i) work left (subst (λ works. Any {X = Work} (λ w. Known w.seat i) works) step some)) [
+        | inr some ↦ elim (any_cases (λ w. IsKnown w.seat i) work left (subst (λ works. Any {X = Work} (λ w. IsKnown w.seat i) works) step some)) [
           | inl here ↦ inl (c.join-seat.ensures.known i (inr here))
           | inr there ↦ inr there
         ]

@@ -1,5 +1,5 @@
-use Rattle.hibitset_atomic.specs.Seats.{Came}
+use Rattle.hibitset_atomic.specs.Seats.{BelongsTo}
 use Rattle.uses_tests.proofs.tests.found_of.Given as goal
 
 abbrev pub invariant-loop-id : goal.invariant-loop-id
-invariant-loop-id l = Came l.set l.seat
+invariant-loop-id l = BelongsTo l.set l.seat

@@ -1,4 +1,4 @@
-use Rattle.hibitset.proofs.Within.{and_everywhere}
+use Rattle.hibitset.proofs.WithinLemmas.{and_everywhere}
 use Rattle.hibitset.proofs.assign.BitSetBitAndAssignRef.bitand_assign.Goals as goal
 
 pub returns : goal.returns

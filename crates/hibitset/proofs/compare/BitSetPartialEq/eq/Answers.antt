@@ -1,7 +1,7 @@
 use Rattle.std.specs.Bool.{one_answer}
 use Rattle.hibitset.specs.BitSet.{has}
-use Rattle.hibitset.specs.Comparing.{agree_same, same_agree}
-use Rattle.hibitset.proofs.Equality.{eq-Decides}
+use Rattle.hibitset.specs.Comparison.{agree_same, same_agree}
+use Rattle.hibitset.proofs.EqualityLemmas.{eq-Decides}
 use Rattle.hibitset.proofs.compare.BitSetPartialEq.eq.Goals as goal
 
 pub returns : goal.returns

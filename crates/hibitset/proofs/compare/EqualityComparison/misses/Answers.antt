@@ -3,7 +3,7 @@ use Rattle.std.specs.Int.{bit_at}
 use Rattle.std.proofs.lemmas.Nat.Bits.{bit_at_xor, bit_at-zero, same_from_bits}
 use Rattle.hibitset_base.specs.Sets.{bit_of}
 use Rattle.hibitset_base.specs.Virtual.{differ}
-use Rattle.hibitset.specs.Comparing.{agree, agree_word}
+use Rattle.hibitset.specs.Comparison.{agree, agree_word}
 use Rattle.hibitset.specs.Operators.{xor_bits}
 use Rattle.hibitset.proofs.compare.EqualityComparison.misses.Goals as goal
 

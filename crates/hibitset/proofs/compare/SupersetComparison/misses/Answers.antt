@@ -3,7 +3,7 @@ use Rattle.std.specs.Int.{bit_at, bit_not}
 use Rattle.std.proofs.lemmas.Nat.{and_le_l}
 use Rattle.std.proofs.lemmas.Nat.Bits.{bit_at_and, bit_at_not, bit_at-lt, bit_at-zero, same_from_bits_below}
 use Rattle.hibitset_base.specs.Sets.{bit_of}
-use Rattle.hibitset.specs.Comparing.{BitsPass, includes}
+use Rattle.hibitset.specs.Comparison.{BitsPass, includes}
 use Rattle.hibitset.proofs.compare.SupersetComparison.misses.Goals as goal
 
 -- a bit of theirs that ours lacks, by the four cases

@@ -2,8 +2,8 @@ use Rattle.std.proofs.Common.{rules, ℕ, ◌-◌, ◌^◌, ◌<◌, get_or, len
 use Rattle.std.proofs.lemmas.Bool.{cases_lt}
 use Rattle.std.proofs.lemmas.List.{get_or_past}
 use Rattle.hibitset_base.specs.declared.util.TheConstants.{LAYERS}
-use Rattle.hibitset.proofs.Laying.{over_first, start_first, start_next, start_more}
-use Rattle.hibitset.proofs.Layered.{keeps, count_is, length_first, words_first}
+use Rattle.hibitset.proofs.LayoutLemmas.{over_first, start_first, start_next, start_more}
+use Rattle.hibitset.proofs.LayerLemmas.{keeps, count_is, length_first, words_first}
 use Rattle.hibitset.proofs.layers.Layers.before_zeros.Goals as goal
 
 -- the layers below the top take at least the words of layer 0

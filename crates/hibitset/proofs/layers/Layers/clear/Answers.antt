@@ -1,7 +1,7 @@
 use Rattle.hibitset_base.specs.declared.util.TheConstants.{LAYERS}
 use Rattle.hibitset.specs.Layers.{lists}
-use Rattle.hibitset.proofs.Laying.{empty_laid, none_words, none_lengths}
-use Rattle.hibitset.proofs.Layered.{keeps_none}
+use Rattle.hibitset.proofs.LayoutLemmas.{empty_laid, none_words, none_lengths}
+use Rattle.hibitset.proofs.LayerLemmas.{keeps_none}
 use Rattle.hibitset.proofs.layers.Layers.clear.Goals as goal
 
 pub invariant_of-self : goal.invariant_of-self

@@ -1,12 +1,12 @@
 use Rattle.std.proofs.Common.{◌≡◌, ℕ, ◌+◌, ◌-◌, ◌^◌, ◌<◌, ◌++◌, List, get_or, length, sym, ◌∙◌, ap, arith, lit<, inl, inr}
 use Rattle.std.proofs.lemmas.List.{length-append, get_or_append_left, get_or-append-add}
-use Rattle.hibitset_base.specs.Deciding.{same_or_not}
+use Rattle.hibitset_base.specs.Decisions.{same_or_not}
 use Rattle.hibitset_base.specs.declared.util.TheConstants.{LAYERS}
-use Rattle.hibitset.specs.Laying.{over, start, count_of, AreStarts}
+use Rattle.hibitset.specs.Layout.{layer_len, layer_start, count_of, AreStarts}
 use Rattle.hibitset.specs.Layers.{lists, word_in, len_in}
 use Rattle.hibitset.specs.declared.layers.Layers.{Layers}
-use Rattle.hibitset.proofs.Laying.{start_first, start_next, in_room, appended, length_here, over_first}
-use Rattle.hibitset.proofs.Layered.{laid, opened, keeps, room_is, length_of, length_first, shaped, copied_laid, copied_same}
+use Rattle.hibitset.proofs.LayoutLemmas.{start_first, start_next, in_room, appended, length_here, over_first}
+use Rattle.hibitset.proofs.LayerLemmas.{laid, opened, keeps, room_is, length_of, length_first, shaped, copied_laid, copied_same}
 use Rattle.hibitset.proofs.layers.Layers.copy.Goals as goal
 
 pub starts_over-end-requires : goal.starts_over-end-requires
@@ -33,26 +33,26 @@ loop-layer-preserved c =
     let ys = c.extend_from_slice.new.self.items in
     let zs = c.slice.result.now in
     let added : ys ≡ xs ++ zs = c.in_ok-extend_from_slice.ensures.items in
-    let part : length zs ≡ over layer len = c.slice.ensures.length ∙ length_of self layer below in
+    let part : length zs ≡ layer_len layer len = c.slice.ensures.length ∙ length_of self layer below in
     let next = start_next layer len in
     let sum : length ys ≡ length xs + length zs = ap length added ∙ length-append xs zs in
     record {
       upto = omega arith;
       long = omega (arith, sum, part, next, h.long);
-      words = λ k p upto here. ap (λ vs. get_or vs (start k len + p) 0) added ∙ elim (same_or_not k layer) [
-        | inl e ↦ (let at : start k len + p ≡ length xs + p = rw e (omega (arith, h.long)) in rw at (get_or-append-add xs zs p 0 ∙ (c.slice.ensures.words p ∙ ap (λ l. word_in self l p) (sym e))))
-        | inr other ↦ get_or_append_left xs zs 0 (start k len + p) (let i = in_room k layer p len (omega arith) here in omega (arith, i, h.long)) ∙ h.words k p (omega arith) here
+      words = λ k p upto here. ap (λ vs. get_or vs (layer_start k len + p) 0) added ∙ elim (same_or_not k layer) [
+        | inl e ↦ (let at : layer_start k len + p ≡ length xs + p = rw e (omega (arith, h.long)) in rw at (get_or-append-add xs zs p 0 ∙ (c.slice.ensures.words p ∙ ap (λ l. word_in self l p) (sym e))))
+        | inr other ↦ get_or_append_left xs zs 0 (layer_start k len + p) (let i = in_room k layer p len (omega arith) here in omega (arith, i, h.long)) ∙ h.words k p (omega arith) here
       ];
       fits = λ at. rw added (appended xs zs (λ x. x < 2 ^ 64) h.fits (λ i. rw (c.slice.ensures.words i) ((shaped self).words layer i)) at);
     }
 
 -- the state of the loop at its end
-module _ (x : Layers) (starts items : List ℕ) (layer : ℕ) (is : layer ≡ LAYERS - 1) (begins : AreStarts LAYERS starts (len_in x 0)) (long : length items ≡ start layer (count_of x.lens))
-    (words : (k p : ℕ) → k < layer → p < over k (count_of x.lens) → get_or items (start k (count_of x.lens) + p) 0 ≡ word_in x k p) (fits : (at : ℕ) → get_or items at 0 < 2 ^ 64) where
-  all_long : length items ≡ start (LAYERS - 1) (count_of x.lens)
+module _ (x : Layers) (starts items : List ℕ) (layer : ℕ) (is : layer ≡ LAYERS - 1) (begins : AreStarts LAYERS starts (len_in x 0)) (long : length items ≡ layer_start layer (count_of x.lens))
+    (words : (k p : ℕ) → k < layer → p < layer_len k (count_of x.lens) → get_or items (layer_start k (count_of x.lens) + p) 0 ≡ word_in x k p) (fits : (at : ℕ) → get_or items at 0 < 2 ^ 64) where
+  all_long : length items ≡ layer_start (LAYERS - 1) (count_of x.lens)
   all_long = rw is at long
 
-  all_words : (k p : ℕ) → k < LAYERS - 1 → p < over k (count_of x.lens) → get_or items (start k (count_of x.lens) + p) 0 ≡ word_in x k p
+  all_words : (k p : ℕ) → k < LAYERS - 1 → p < layer_len k (count_of x.lens) → get_or items (layer_start k (count_of x.lens) + p) 0 ≡ word_in x k p
   all_words k p below here = words k p (rw is below) here
 
   begins_here : AreStarts LAYERS starts (count_of x.lens)

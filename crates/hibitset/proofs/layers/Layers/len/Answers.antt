@@ -1,5 +1,5 @@
 use Rattle.std.proofs.Common.{lit<}
-use Rattle.hibitset.proofs.Layered.{length_is}
+use Rattle.hibitset.proofs.LayerLemmas.{length_is}
 use Rattle.hibitset.proofs.layers.Layers.len.Goals as goal
 
 pub returns : goal.returns

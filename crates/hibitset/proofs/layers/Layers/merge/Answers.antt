@@ -1,12 +1,12 @@
 use Rattle.std.proofs.Common.{◌≡◌, ◌≢◌, ℕ, ◌+◌, ◌-◌, ◌*◌, ◌^◌, ◌<◌, ◌≤◌, List, [], get_or, length, sym, ◌∙◌, ap, arith, lit<}
 use Rattle.hibitset_base.specs.Words.{word_at}
 use Rattle.hibitset_base.specs.declared.util.TheConstants.{LAYERS}
-use Rattle.hibitset.specs.Laying.{parts, count_of, IsLaid, IsKept}
+use Rattle.hibitset.specs.Layout.{all_layers, count_of, IsLayout, LayoutInvariant}
 use Rattle.hibitset.specs.Layers.{lists, word_in, len_in, room_in}
-use Rattle.hibitset.specs.Merging.{counted, MergedAt, Summarizes}
+use Rattle.hibitset.specs.Merge.{prefix_word, MergedAt, Summarizes}
 use Rattle.hibitset.specs.declared.layers.Layers.{Layers}
-use Rattle.hibitset.proofs.Laying.{lowest_laid, lowest_words, lowest_above, lowest_lengths}
-use Rattle.hibitset.proofs.Layered.{laid, opened, keeps, length_first, slice_within, counted_first}
+use Rattle.hibitset.proofs.LayoutLemmas.{lowest_laid, lowest_words, lowest_above, lowest_lengths}
+use Rattle.hibitset.proofs.LayerLemmas.{laid, opened, keeps, length_first, slice_within, counted_first}
 use Rattle.hibitset.proofs.layers.Layers.merge.Goals as goal
 
 summary_same : (words words' : ℕ → ℕ) (q summary : ℕ) → ((p : ℕ) → words' p ≡ words p) → Summarizes words q summary → Summarizes words' q summary
@@ -25,22 +25,22 @@ module _ (x : Layers) (len : ℕ) (new : List ℕ) (len-is : len ≡ len_in x 0)
   others_here : (p : ℕ) → count_of x.lens ≤ p → get_or new p 0 ≡ get_or x.words.items p 0
   others_here p past = others p (let e = length_first x in omega (arith, e, len-is, past))
 
-  new_laid : IsLaid LAYERS new (room_in x) (count_of x.lens) x.top
+  new_laid : IsLayout LAYERS new (room_in x) (count_of x.lens) x.top
   new_laid = lowest_laid LAYERS x.words.items new (room_in x) (count_of x.lens) x.top (laid x) long others_here (bounded (laid x).fits)
 
-  new_kept : ∥ IsKept LAYERS new x.starts x.lens x.top ∥₁
+  new_kept : ∥ LayoutInvariant LAYERS new x.starts x.lens x.top ∥₁
   new_kept = keeps new x.starts x.lens x.top (room_in x) (count_of x.lens) new_laid (opened x.kept).begins (opened x.kept).lengths
 
-  new_first : (p : ℕ) → word_at (parts new (room_in x) (count_of x.lens) x.top 0 (LAYERS - 1)) 0 p ≡ counted len new p
+  new_first : (p : ℕ) → word_at (all_layers new (room_in x) (count_of x.lens) x.top 0 (LAYERS - 1)) 0 p ≡ prefix_word len new p
   new_first p =
       let is : len ≡ count_of x.lens = len-is ∙ length_first x in
       rw is (lowest_words LAYERS x.words.items new (room_in x) (count_of x.lens) x.top (laid x) long others_here (bounded (laid x).fits) (lit< tt) p)
 
-  new_above : (l p : ℕ) → l ≢ 0 → word_at (parts new (room_in x) (count_of x.lens) x.top 0 (LAYERS - 1)) l p ≡ word_in x l p
+  new_above : (l p : ℕ) → l ≢ 0 → word_at (all_layers new (room_in x) (count_of x.lens) x.top 0 (LAYERS - 1)) l p ≡ word_in x l p
   unfolding lists
   new_above = lowest_above LAYERS x.words.items new (room_in x) (count_of x.lens) x.top (laid x) long others_here (bounded (laid x).fits)
 
-  new_lengths : (l : ℕ) → length (get_or (parts new (room_in x) (count_of x.lens) x.top 0 (LAYERS - 1)) l []) ≡ len_in x l
+  new_lengths : (l : ℕ) → length (get_or (all_layers new (room_in x) (count_of x.lens) x.top 0 (LAYERS - 1)) l []) ≡ len_in x l
   unfolding lists
   new_lengths = lowest_lengths LAYERS x.words.items new (room_in x) (count_of x.lens) x.top (laid x) long others_here (bounded (laid x).fits)
 
@@ -63,14 +63,14 @@ pub returns-clause-words : goal.returns-clause-words
 unfolding lists
 returns-clause-words g c =
     let e = c.merge_words.ensures in
-    merged_same _ _ (counted c.len-len.result c.args.self.now.words.items) (counted c.len-len.result c.merge_words.new.words.items) _ _ _ _ _ (λ p. sym (counted_first c.args.self.now c.len-len.result p c.len-len.ensures))
+    merged_same _ _ (prefix_word c.len-len.result c.args.self.now.words.items) (prefix_word c.len-len.result c.merge_words.new.words.items) _ _ _ _ _ (λ p. sym (counted_first c.args.self.now c.len-len.result p c.len-len.ensures))
     (new_first c.args.self.now c.len-len.result c.merge_words.new.words.items c.len-len.ensures e.length e.others e.bounded) e.words
 
 pub returns-clause-exact : goal.returns-clause-exact
 unfolding lists
 returns-clause-exact g c =
     let e = c.merge_words.ensures in
-    summary_same (counted c.len-len.result c.merge_words.new.words.items) _ _ _ (new_first c.args.self.now c.len-len.result c.merge_words.new.words.items c.len-len.ensures e.length e.others e.bounded) e.exact
+    summary_same (prefix_word c.len-len.result c.merge_words.new.words.items) _ _ _ (new_first c.args.self.now c.len-len.result c.merge_words.new.words.items c.len-len.ensures e.length e.others e.bounded) e.exact
 
 pub returns-clause-above : goal.returns-clause-above
 unfolding lists

@@ -1,13 +1,13 @@
 use Rattle.std.proofs.Common.{◌≡◌, ℕ, zero, suc, ◌+◌, ◌-◌, ◌/◌, ◌<◌, List, [], ◌∷◌, get_or, length, sym, ◌∙◌, ap, arith, lit<, inl, inr}
 use Rattle.std.proofs.lemmas.List.{get_or_past}
-use Rattle.hibitset_base.specs.Deciding.{same_or_not}
+use Rattle.hibitset_base.specs.Decisions.{same_or_not}
 use Rattle.hibitset_base.specs.Words.{word_at}
 use Rattle.hibitset_base.specs.declared.util.TheConstants.{LAYERS}
-use Rattle.hibitset.specs.Laying.{count_of}
+use Rattle.hibitset.specs.Layout.{count_of}
 use Rattle.hibitset.specs.Layers.{word_in, len_in, piled, IsFitted}
 use Rattle.hibitset.specs.declared.layers.Layers.{Layers}
-use Rattle.hibitset.proofs.Laying.{over_next}
-use Rattle.hibitset.proofs.Layered.{length_of, one_at_top}
+use Rattle.hibitset.proofs.LayoutLemmas.{over_next}
+use Rattle.hibitset.proofs.LayerLemmas.{length_of, one_at_top}
 use Rattle.hibitset.proofs.layers.Layers.of_layers.Goals as goal
 
 -- a layer is as long as the words below it need
@@ -57,7 +57,7 @@ put_layer-requires-3-clause-length c = fourth _ _ _ _ c.args.top c.in_ok-layers.
 
 pub returns-clause-lengths : goal.returns-clause-lengths
 returns-clause-lengths c l below =
-    c.put_top.ensures.lengths l
+    c.store_top.ensures.lengths l
     ∙ (c.put_layer-3.ensures.lengths l
     ∙ (c.put_layer-2.ensures.lengths l
     ∙ (c.put_layer.ensures.lengths l
@@ -68,8 +68,8 @@ returns-clause-words c =
     let one = c.put_layer.ensures in
     let two = c.put_layer-2.ensures in
     let three = c.put_layer-3.ensures in
-    let four = c.put_top.ensures in
-    all_words c.args.layer0.now c.args.layer1.now c.args.layer2.now c.args.layer3.now c.args.top c.put_top.new.self
+    let four = c.store_top.ensures in
+    all_words c.args.layer0.now c.args.layer1.now c.args.layer2.now c.args.layer3.now c.args.top c.store_top.new.self
     (λ p. four.layers 0 p (omega arith) ∙ (three.layers 0 p (omega arith) ∙ (two.layers 0 p (omega arith) ∙ (one.layers 0 p (omega arith) ∙ c.in_ok-layers.ensures.words p))))
     (λ p. four.layers 1 p (omega arith) ∙ (three.layers 1 p (omega arith) ∙ (two.layers 1 p (omega arith) ∙ one.here p)))
     (λ p. four.layers 2 p (omega arith) ∙ (three.layers 2 p (omega arith) ∙ two.here p))

@@ -1,9 +1,9 @@
 use Rattle.std.proofs.Common.{◌≡◌, ℕ, ◌≤◌, get_or, length, sym, ◌∙◌, ap, arith, inl, inr}
 use Rattle.std.proofs.lemmas.Bool.{cases_lt}
 use Rattle.std.proofs.lemmas.List.{get_or_past}
-use Rattle.hibitset_base.specs.Deciding.{same_or_not}
+use Rattle.hibitset_base.specs.Decisions.{same_or_not}
 use Rattle.hibitset.specs.Layers.{word_in, len_in}
-use Rattle.hibitset.proofs.Layered.{past_end}
+use Rattle.hibitset.proofs.LayerLemmas.{past_end}
 use Rattle.hibitset.proofs.layers.Layers.put_layer.Goals as goal
 
 pub loop-place-preserved : goal.loop-place-preserved
@@ -15,11 +15,11 @@ loop-place-preserved c =
     record {
       upto = omega (arith, c.loop-place-test.true);
       done = λ p here. elim (same_or_not p place) [
-        | inl e ↦ ap (word_in c.put.new.self layer) e ∙ (c.put.ensures.here ∙ ap (λ q. get_or words q 0) (sym e))
-        | inr other ↦ c.put.ensures.others p other ∙ h.done p (omega (arith, here, other))
+        | inl e ↦ ap (word_in c.store_word.new.self layer) e ∙ (c.store_word.ensures.here ∙ ap (λ q. get_or words q 0) (sym e))
+        | inr other ↦ c.store_word.ensures.others p other ∙ h.done p (omega (arith, here, other))
       ];
-      layers = λ k p other. c.put.ensures.layers k p other ∙ h.layers k p other;
-      lengths = λ k. c.put.ensures.lengths k ∙ h.lengths k;
+      layers = λ k p other. c.store_word.ensures.layers k p other ∙ h.layers k p other;
+      lengths = λ k. c.store_word.ensures.lengths k ∙ h.lengths k;
     }
 
 pub returns-clause-here : goal.returns-clause-here

@@ -1,5 +1,5 @@
 use Rattle.hibitset.specs.Layers.{word_in}
-use Rattle.hibitset.proofs.Filling.{put_one, put_more}
+use Rattle.hibitset.proofs.RangeFillLemmas.{put_one, put_more}
 use Rattle.std.proofs.Common.{◌-◌, ◌/◌, ◌∙◌, refl, arith}
 use Rattle.hibitset.proofs.layers.Layers.put_range.Goals as goal
 

@@ -1,9 +1,9 @@
 use Rattle.std.proofs.Common.{◌≡◌, ◌≢◌, ℕ, ◌+◌, ◌-◌, ◌*◌, ◌<◌, length, ◌∙◌, arith, inl, inr}
 use Rattle.std.proofs.lemmas.Bool.{cases_lt}
-use Rattle.hibitset_base.specs.Deciding.{same_or_not}
+use Rattle.hibitset_base.specs.Decisions.{same_or_not}
 use Rattle.hibitset.specs.Layers.{word_in, len_in}
-use Rattle.hibitset.proofs.Summing.{summed_list, none_past}
-use Rattle.hibitset.proofs.Layered.{has_below, covers_below, past_end}
+use Rattle.hibitset.proofs.SummaryUpdateLemmas.{summed_list, none_past}
+use Rattle.hibitset.proofs.LayerLemmas.{has_below, covers_below, past_end}
 use Rattle.hibitset.proofs.layers.Layers.sum_layer.Goals as goal
 
 -- the words below begin within the layer below
@@ -28,11 +28,11 @@ loop-place-preserved c =
     record {
       upto = omega (arith, c.loop-place-test.true, c.slice.ensures.length, h.lengths layer);
       done = λ p here. elim (same_or_not p place) [
-        | inl e ↦ rw (e, c.put.ensures.here) (summed_list c.slice-in-loop-place.result.now (word_in c.args.self.now (layer - 1)) place c.summary_at-word.result same c.summary_at-word.ensures)
-        | inr other ↦ rw (c.put.ensures.others p other) (h.done p (omega (arith, here, other)))
+        | inl e ↦ rw (e, c.store_word.ensures.here) (summed_list c.slice-in-loop-place.result.now (word_in c.args.self.now (layer - 1)) place c.summary_at-word.result same c.summary_at-word.ensures)
+        | inr other ↦ rw (c.store_word.ensures.others p other) (h.done p (omega (arith, here, other)))
       ];
-      layers = λ k p other. c.put.ensures.layers k p other ∙ h.layers k p other;
-      lengths = λ k. c.put.ensures.lengths k ∙ h.lengths k;
+      layers = λ k p other. c.store_word.ensures.layers k p other ∙ h.layers k p other;
+      lengths = λ k. c.store_word.ensures.lengths k ∙ h.lengths k;
     }
 
 pub returns-clause-exact : goal.returns-clause-exact

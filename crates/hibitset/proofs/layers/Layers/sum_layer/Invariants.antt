@@ -1,6 +1,6 @@
 use Rattle.std.proofs.Common.{◌≡◌, ◌≢◌, ℕ, ◌-◌, ◌<◌, ◌≤◌}
 use Rattle.hibitset.specs.Layers.{word_in, len_in}
-use Rattle.hibitset.specs.Merging.{Summarizes}
+use Rattle.hibitset.specs.Merge.{Summarizes}
 use Rattle.hibitset.proofs.layers.Layers.sum_layer.Given as goal
 
 abbrev pub invariant-loop-place : goal.invariant-loop-place

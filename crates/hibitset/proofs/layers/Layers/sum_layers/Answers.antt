@@ -1,12 +1,12 @@
 use Rattle.std.proofs.Common.{◌≡◌, ◌≢◌, ℕ, ◌+◌, ◌-◌, ◌*◌, ◌<◌, ◌≤◌, ◌↔◌, List, get_or, refl, sym, ◌∙◌, ap, arith, lit<, inl, inr}
 use Rattle.std.specs.Int.{bit_at}
-use Rattle.hibitset_base.specs.Deciding.{same_or_not}
+use Rattle.hibitset_base.specs.Decisions.{same_or_not}
 use Rattle.hibitset_base.specs.declared.util.TheConstants.{LAYERS}
 use Rattle.hibitset.specs.Layers.{word_in, len_in}
-use Rattle.hibitset.specs.Merging.{Summarizes}
+use Rattle.hibitset.specs.Merge.{Summarizes}
 use Rattle.hibitset.specs.declared.layers.Layers.{Layers}
-use Rattle.hibitset.proofs.Summing.{summary_same, none_past}
-use Rattle.hibitset.proofs.Layered.{shaped, past_end, one_at_top}
+use Rattle.hibitset.proofs.SummaryUpdateLemmas.{summary_same, none_past}
+use Rattle.hibitset.proofs.LayerLemmas.{shaped, past_end, one_at_top}
 use Rattle.hibitset.proofs.layers.Layers.sum_layers.Goals as goal
 
 -- the summary of all words of a layer that has at most 64
@@ -51,9 +51,9 @@ pub returns-clause-summed : goal.returns-clause-summed
 returns-clause-summed c =
     let h = c.loop-layer.invariant in
     let old = c.loop-layer.self in
-    let new = c.put_top.new.self in
+    let new = c.store_top.new.self in
     let all : c.loop-layer.layer ≡ LAYERS - 1 = omega (arith, h.upto, c.loop-layer-test.false) in
-    let keeps = c.put_top.ensures.layers in
+    let keeps = c.store_top.ensures.layers in
     record {
       summed = λ l p b below small. elim (same_or_not (l + 1) (LAYERS - 1)) [
         | inl e ↦
@@ -61,7 +61,7 @@ returns-clause-summed c =
             let above : word_in new (l + 1) p ≡ word_in new (LAYERS - 1) p = ap (λ m. word_in new m p) e in
             elim (same_or_not p 0) [
               | inl first ↦
-                  let there : word_in new (l + 1) p ≡ c.summary_of.result = above ∙ (ap (λ q. word_in new (LAYERS - 1) q) first ∙ c.put_top.ensures.here) in
+                  let there : word_in new (l + 1) p ≡ c.summary_of.result = above ∙ (ap (λ q. word_in new (LAYERS - 1) q) first ∙ c.store_top.ensures.here) in
                   (top_summary (word_in new l) c.slice.result.now p (word_in new (l + 1) p) c.summary_of.result first there
                   (λ q. ap (λ m. word_in new m q) under ∙ (keeps (LAYERS - 2) q (omega arith) ∙ sym (c.slice.ensures.words q))) c.summary_of.ensures).bits b small
               | inr later ↦

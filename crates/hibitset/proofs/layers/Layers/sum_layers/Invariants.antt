@@ -1,7 +1,7 @@
 use Rattle.std.proofs.Common.{◌≡◌, ℕ, ◌+◌, ◌-◌, ◌<◌, ◌≤◌}
 use Rattle.hibitset_base.specs.declared.util.TheConstants.{LAYERS}
 use Rattle.hibitset.specs.Layers.{word_in, len_in}
-use Rattle.hibitset.specs.Merging.{Summarizes}
+use Rattle.hibitset.specs.Merge.{Summarizes}
 use Rattle.hibitset.proofs.layers.Layers.sum_layers.Given as goal
 
 abbrev pub invariant-loop-layer : goal.invariant-loop-layer

@@ -1,23 +1,23 @@
 use Rattle.std.proofs.Common.{◌*◌, ◌^◌, ap, ◌∙◌}
 use Rattle.hibitset.specs.BitSet.{word_of, has}
 use Rattle.hibitset_base.specs.Virtual.{differ}
-use Rattle.hibitset_base.proofs.Holding.{holds_same, OnErr-always}
-use Rattle.hibitset.proofs.Within.{xor_everywhere}
-use Rattle.hibitset.proofs.Lengths.{ends_by, ends_under}
+use Rattle.hibitset_base.proofs.MembershipLemmas.{holds_same, OnErr-always}
+use Rattle.hibitset.proofs.WithinLemmas.{xor_everywhere}
+use Rattle.hibitset.proofs.LengthLemmas.{ends_by, ends_under}
 use Rattle.hibitset.proofs.set.BitSet.bitxor_assign.Goals as goal
 
-pub returns-in_err-make_room-clause-refused : goal.returns-in_err-make_room-clause-refused
+pub returns-in_err-reserve_for-clause-err : goal.returns-in_err-reserve_for-clause-err
 unfolding has word_of
-returns-in_err-make_room-clause-refused g c = OnErr-always c.from_residual.result (λ i. holds_same (word_of c.args.self.now) (word_of c.make_room.new.self) i c.make_room.ensures.same)
+returns-in_err-reserve_for-clause-err g c = OnErr-always c.from_residual.result (λ i. holds_same (word_of c.args.self.now) (word_of c.reserve_for.new.self) i c.reserve_for.ensures.same)
 
 pub returns-clause-members : goal.returns-clause-members
 unfolding has
-returns-clause-members g c = xor_everywhere c.args.self.now c.merge_with.new.self (g.B.BitSetLike.holds c.args.other.now) (λ i below. c.merge_with.ensures.members i below ∙ ap (λ x. differ x (g.B.BitSetLike.holds c.args.other.now i)) (holds_same (word_of c.args.self.now) (word_of c.make_room.new.self) i c.make_room.ensures.same))
+returns-clause-members g c = xor_everywhere c.args.self.now c.merge_with.new.self (g.B.BitSetLike.holds c.args.other.now) (λ i below. c.merge_with.ensures.members i below ∙ ap (λ x. differ x (g.B.BitSetLike.holds c.args.other.now i)) (holds_same (word_of c.args.self.now) (word_of c.reserve_for.new.self) i c.reserve_for.ensures.same))
 
-pub returns-in_err-make_room-clause-above : goal.returns-in_err-make_room-clause-above
-returns-in_err-make_room-clause-above g c = λ l end below within none.
-    ends_by c.make_room.new.self.layers l end below (c.make_room.ensures.most (64 ^ l * end) (ends_under c.args.self.now.layers l end below within) none)
+pub returns-in_err-reserve_for-clause-upper_len_max : goal.returns-in_err-reserve_for-clause-upper_len_max
+returns-in_err-reserve_for-clause-upper_len_max g c = λ l end below within none.
+    ends_by c.reserve_for.new.self.layers l end below (c.reserve_for.ensures.len_max (64 ^ l * end) (ends_under c.args.self.now.layers l end below within) none)
 
-pub returns-clause-above : goal.returns-clause-above
-returns-clause-above g c = λ l end below within none.
-    ends_by c.merge_with.new.self.layers l end below (rw c.merge_with.ensures.length (c.make_room.ensures.most (64 ^ l * end) (ends_under c.args.self.now.layers l end below within) none))
+pub returns-clause-upper_len_max : goal.returns-clause-upper_len_max
+returns-clause-upper_len_max g c = λ l end below within none.
+    ends_by c.merge_with.new.self.layers l end below (rw c.merge_with.ensures.length (c.reserve_for.ensures.len_max (64 ^ l * end) (ends_under c.args.self.now.layers l end below within) none))

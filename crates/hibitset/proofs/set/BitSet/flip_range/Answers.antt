@@ -9,24 +9,24 @@ pub returns-clause-flipped : goal.returns-clause-flipped
 returns-clause-flipped c =
     on_ok_weaker c.bitxor_assign.result (λ each i. each i ∙ ap (differ (has c.args.self.now i)) (range_members c.args.start c.args.end i c.requires)) c.bitxor_assign.ensures.members
 
-pub returns-clause-room : goal.returns-clause-room
-returns-clause-room c = λ room. c.bitxor_assign.ensures.room (no_words c.args.start c.args.end (slice_len c.args.self.now 0) (inl room))
+pub returns-clause-succeeds : goal.returns-clause-succeeds
+returns-clause-succeeds c = λ room. c.bitxor_assign.ensures.succeeds (no_words c.args.start c.args.end (slice_len c.args.self.now 0) (inl room))
 
 pub returns-clause-none : goal.returns-clause-none
-returns-clause-none c = λ empty. c.bitxor_assign.ensures.room (no_words c.args.start c.args.end (slice_len c.args.self.now 0) (inr empty))
+returns-clause-none c = λ empty. c.bitxor_assign.ensures.succeeds (no_words c.args.start c.args.end (slice_len c.args.self.now 0) (inr empty))
 
-pub returns-clause-most : goal.returns-clause-most
-returns-clause-most c =
+pub returns-clause-len_max : goal.returns-clause-len_max
+returns-clause-len_max c =
     let most : ℕ = max (slice_len c.args.self.now 0) ((c.args.end - 1) / 64 + 1) in
-    c.bitxor_assign.ensures.most most (omega arith) (no_words c.args.start c.args.end most (inl (omega arith)))
+    c.bitxor_assign.ensures.len_max most (omega arith) (no_words c.args.start c.args.end most (inl (omega arith)))
 
-pub returns-clause-above : goal.returns-clause-above
-returns-clause-above c = λ l below.
+pub returns-clause-upper_len_max : goal.returns-clause-upper_len_max
+returns-clause-upper_len_max c = λ l below.
     let most : ℕ = max (slice_len c.args.self.now l) ((c.args.end - 1) / 64 ^ (l + 1) + 1) in
-    c.bitxor_assign.ensures.above l most below (omega arith) (no_words c.args.start c.args.end (64 ^ l * most) (inl (covers_end c.args.end l most (omega arith))))
+    c.bitxor_assign.ensures.upper_len_max l most below (omega arith) (no_words c.args.start c.args.end (64 ^ l * most) (inl (covers_end c.args.end l most (omega arith))))
 
 pub returns-clause-same : goal.returns-clause-same
 returns-clause-same c = λ empty.
-    let keeps = c.bitxor_assign.ensures.keeps in
-    let most = c.bitxor_assign.ensures.most (slice_len c.args.self.now 0) (omega arith) (no_words c.args.start c.args.end (slice_len c.args.self.now 0) (inr empty)) in
+    let keeps = c.bitxor_assign.ensures.len_min in
+    let most = c.bitxor_assign.ensures.len_max (slice_len c.args.self.now 0) (omega arith) (no_words c.args.start c.args.end (slice_len c.args.self.now 0) (inr empty)) in
     omega (arith, keeps, most)

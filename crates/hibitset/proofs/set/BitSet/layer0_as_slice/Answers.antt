@@ -1,7 +1,7 @@
 use Rattle.std.proofs.Common.{◌==◌, ◌/◌, ◌%◌, ap, sym, arith, lit<}
 use Rattle.std.specs.Int.{bit_at}
 use Rattle.hibitset.specs.BitSet.{has, word_of}
-use Rattle.hibitset.proofs.Layered.{shaped}
+use Rattle.hibitset.proofs.LayerLemmas.{shaped}
 use Rattle.hibitset.proofs.set.BitSet.layer0_as_slice.Goals as goal
 
 pub returns-clause-members : goal.returns-clause-members

@@ -1,5 +1,5 @@
 use Rattle.std.proofs.Common.{arith, lit<}
-use Rattle.hibitset.proofs.Layered.{shaped}
+use Rattle.hibitset.proofs.LayerLemmas.{shaped}
 use Rattle.hibitset.proofs.set.BitSet.layer2_as_slice.Goals as goal
 
 pub returns-clause-short : goal.returns-clause-short

@@ -3,13 +3,13 @@ use Rattle.std.proofs.lemmas.List.{get_or_past}
 use Rattle.hibitset_base.specs.declared.util.TheConstants.{LAYERS}
 use Rattle.hibitset.specs.BitSet.{layers, word_of, slice_len}
 use Rattle.hibitset.specs.Layers.{word_in}
-use Rattle.hibitset.specs.Laying.{IsSummedBut}
-use Rattle.hibitset.specs.Merging.{Summarizes, MergedUnder, MergedAt}
+use Rattle.hibitset.specs.Layout.{SummariesExactExceptAt}
+use Rattle.hibitset.specs.Merge.{Summarizes, MergedUnder, MergedAt}
 use Rattle.hibitset.specs.declared.layers.Layers.{Layers}
 use Rattle.hibitset.specs.declared.set.BitSet.{BitSet}
-use Rattle.hibitset.proofs.Layered.{shaped, has_above}
-use Rattle.hibitset.proofs.Merging.{block_merged}
-use Rattle.hibitset.proofs.Summing.{but_block}
+use Rattle.hibitset.proofs.LayerLemmas.{shaped, has_above}
+use Rattle.hibitset.proofs.MergeLemmas.{block_merged}
+use Rattle.hibitset.proofs.SummaryUpdateLemmas.{but_block}
 use Rattle.hibitset.proofs.set.BitSet.merge_block.Goals as goal
 
 -- our summary word of a block
@@ -46,7 +46,7 @@ module _ (s : BitSet) (kept merged new : Layers) (q word : ℕ) (base : (p : ℕ
   above : (l p : ℕ) → 1 < l → word_in new l p ≡ word_in s.layers l p
   above l p more = layers-are l p (λ e. absurd (omega (arith, e, more))) ∙ (second l p (λ e. absurd (omega (arith, e, more))) ∙ first l p (λ e. absurd (omega (arith, e, more))))
 
-  block_but : IsSummedBut LAYERS (word_in new) 1 q
+  block_but : SummariesExactExceptAt LAYERS (word_in new) 1 q
   unfolding word_of
   block_but = but_block LAYERS (word_in s.layers) (word_in new) q s.summed
       (λ p other. layers-are 0 p (λ e. absurd (omega (arith, e))) ∙ base p other)
@@ -58,40 +58,40 @@ module _ (s : BitSet) (kept merged new : Layers) (q word : ℕ) (base : (p : ℕ
 merged_base : (merged : ℕ → ℕ → ℕ) (none theirs old mid new : ℕ → ℕ) (q bits bits' : ℕ) → MergedAt merged none old mid 1 q bits → MergedAt merged theirs mid new 1 q bits' → (p : ℕ) → p / 64 ≢ q → new p ≡ old p
 merged_base merged none theirs old mid new q bits bits' first second p other = let same : p / 1 ≡ p = omega arith in second.outside p (rw same other) ∙ first.outside p (rw same other)
 
-pub link-requires-clause-summed : goal.link-requires-clause-summed
+pub update_parent_bit-requires-clause-summed : goal.update_parent_bit-requires-clause-summed
 unfolding word_of
-link-requires-clause-summed g c =
+update_parent_bit-requires-clause-summed g c =
     let kept = c.merge-kept.ensures in
     let merged = c.merge-word.ensures in
-    let put = c.put.ensures in
-    block_but c.args.self.now c.merge-kept.new.self c.merge-word.new.self c.put.new.self c.args.place c.merge-word.result (merged_base _ _ _ _ _ _ c.args.place _ _ kept.words merged.words) kept.above merged.above merged.exact put.here put.others put.layers
+    let put = c.store_word.ensures in
+    block_but c.args.self.now c.merge-kept.new.self c.merge-word.new.self c.store_word.new.self c.args.place c.merge-word.result (merged_base _ _ _ _ _ _ c.args.place _ _ kept.words merged.words) kept.above merged.above merged.exact put.here put.others put.layers
 
-pub sum_up-requires-clause-place : goal.sum_up-requires-clause-place
-sum_up-requires-clause-place g c =
+pub update_summaries-requires-clause-place : goal.update_summaries-requires-clause-place
+update_summaries-requires-clause-place g c =
     let first = c.slice.ensures.length in
     let kept = c.merge-kept.ensures.lengths 1 in
     let merged = c.merge-word.ensures.lengths 1 in
-    let put = c.put.ensures.lengths 1 in
+    let put = c.store_word.ensures.lengths 1 in
     let within = c.if-slice-place.false in
-    rw (c.link.ensures.lengths 2) (has_above c.put.new.self 1 c.args.place (lit< tt) (omega (arith, first, kept, merged, put, within)))
+    rw (c.update_parent_bit.ensures.lengths 2) (has_above c.store_word.new.self 1 c.args.place (lit< tt) (omega (arith, first, kept, merged, put, within)))
 
-pub returns-then-link-clause-words : goal.returns-then-link-clause-words
+pub returns-then-update_parent_bit-clause-words : goal.returns-then-update_parent_bit-clause-words
 unfolding word_of
-returns-then-link-clause-words g c =
+returns-then-update_parent_bit-clause-words g c =
     let visit = c.visit-visited.ensures in
     let ours : ℕ = get_or c.slice-2.result.now c.args.place 0 in
-    merged_same _ _ _ (word_in c.merge-word.new.self 0) _ 64 c.args.place (λ p. c.sum_up.ensures.lower 0 p (omega arith) ∙ (c.link.ensures.lower 0 p (omega arith) ∙ c.put.ensures.layers 0 p (λ e. absurd (omega (arith, e)))))
+    merged_same _ _ _ (word_in c.merge-word.new.self 0) _ 64 c.args.place (λ p. c.update_summaries.ensures.lower 0 p (omega arith) ∙ (c.update_parent_bit.ensures.lower 0 p (omega arith) ∙ c.store_word.ensures.layers 0 p (λ e. absurd (omega (arith, e)))))
     (block_merged _ _ _ _ _ c.args.place ours c.args.theirs c.visit-visited.result (omega arith)
     (λ b x y off here there. g.met.O.Operator.keeps ours c.args.theirs b x y (rw visit at off) here there)
     (summary_of c.args.self.now c.args.place ours (c.slice-2.ensures.words c.args.place)) c.requires.theirs
     c.merge-kept.ensures.words c.merge-word.ensures.words)
 
-pub returns-else-link-clause-words : goal.returns-else-link-clause-words
+pub returns-else-update_parent_bit-clause-words : goal.returns-else-update_parent_bit-clause-words
 unfolding word_of
-returns-else-link-clause-words g c =
+returns-else-update_parent_bit-clause-words g c =
     let visit = c.visit-visited.ensures in
     let ours : ℕ = get_or c.slice-2.result.now c.args.place 0 in
-    merged_same _ _ _ (word_in c.merge-word.new.self 0) _ 64 c.args.place (λ p. c.link.ensures.lower 0 p (omega arith) ∙ c.put.ensures.layers 0 p (λ e. absurd (omega (arith, e))))
+    merged_same _ _ _ (word_in c.merge-word.new.self 0) _ 64 c.args.place (λ p. c.update_parent_bit.ensures.lower 0 p (omega arith) ∙ c.store_word.ensures.layers 0 p (λ e. absurd (omega (arith, e))))
     (block_merged _ _ _ _ _ c.args.place ours c.args.theirs c.visit-visited.result (omega arith)
     (λ b x y off here there. g.met.O.Operator.keeps ours c.args.theirs b x y (rw visit at off) here there)
     (summary_of c.args.self.now c.args.place ours (c.slice-2.ensures.words c.args.place)) c.requires.theirs

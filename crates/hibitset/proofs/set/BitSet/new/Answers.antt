@@ -1,5 +1,5 @@
 use Rattle.hibitset_base.specs.declared.util.TheConstants.{LAYERS}
-use Rattle.hibitset_base.proofs.Holding.{holds_none, summed_none}
+use Rattle.hibitset_base.proofs.MembershipLemmas.{holds_none, summed_none}
 use Rattle.hibitset.specs.BitSet.{has, word_of}
 use Rattle.hibitset.specs.Layers.{word_in}
 use Rattle.hibitset.proofs.set.BitSet.new.Goals as goal

@@ -1,4 +1,4 @@
-use Rattle.hibitset.proofs.Within.{difference_everywhere}
+use Rattle.hibitset.proofs.WithinLemmas.{difference_everywhere}
 use Rattle.hibitset.proofs.set.BitSet.subtract_assign.Goals as goal
 
 pub returns-clause-members : goal.returns-clause-members

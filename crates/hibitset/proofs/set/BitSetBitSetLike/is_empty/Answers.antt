@@ -1,10 +1,10 @@
 use Rattle.std.proofs.Common.{arith, ◌≡◌, ℕ, ◌==◌, ◌-◌, true}
 use Rattle.std.proofs.lemmas.Bool.Decides.{nat_tests}
 use Rattle.hibitset_base.specs.declared.util.TheConstants.{LAYERS}
-use Rattle.hibitset_base.proofs.Bounds.{top_tells_empty}
+use Rattle.hibitset_base.proofs.ReadBoundLemmas.{top_tells_empty}
 use Rattle.hibitset.specs.BitSet.{has, word_of, has_is_lawful}
-use Rattle.hibitset_base.specs.Stored.{summed_exact}
-use Rattle.hibitset.proofs.Layered.{shaped}
+use Rattle.hibitset_base.specs.StoredWords.{summed_exact}
+use Rattle.hibitset.proofs.LayerLemmas.{shaped}
 use Rattle.hibitset.proofs.set.BitSetBitSetLike.is_empty.Goals as goal
 
 zero_test : (x : ℕ) → (x == 0) ≡ true → x ≡ 0

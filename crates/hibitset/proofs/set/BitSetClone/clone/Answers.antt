@@ -1,9 +1,9 @@
 use Rattle.hibitset_base.specs.declared.util.TheConstants.{LAYERS}
-use Rattle.hibitset_base.proofs.Holding.{holds_same}
-use Rattle.hibitset_base.proofs.Mending.{summed_same}
+use Rattle.hibitset_base.proofs.MembershipLemmas.{holds_same}
+use Rattle.hibitset_base.proofs.SummaryUpdateLemmas.{summed_same}
 use Rattle.hibitset.specs.BitSet.{has, word_of}
 use Rattle.hibitset.specs.Layers.{word_in}
-use Rattle.hibitset.proofs.Layered.{lengths_same}
+use Rattle.hibitset.proofs.LayerLemmas.{lengths_same}
 use Rattle.hibitset.proofs.set.BitSetClone.clone.Goals as goal
 
 pub invariant_of-result : goal.invariant_of-result

@@ -1,5 +1,5 @@
 use Rattle.hibitset_atomic.specs.Layers.{layer_word}
-use Rattle.hibitset_base.proofs.Holding.{holds_none}
+use Rattle.hibitset_base.proofs.MembershipLemmas.{holds_none}
 use Rattle.hibitset_atomic.specs.AtomicBitSet.{has, word_of}
 use Rattle.hibitset_atomic.proofs.atomic.AtomicBitSet.clear.Goals as goal
 

@@ -1,14 +1,14 @@
 use Rattle.std.proofs.Common.{◌≡◌, ℕ, ◌<◌, ap, arith, sym, ◌∙◌, slice_index}
 use Rattle.hibitset_atomic.specs.AtomicBitSet.{word_of, has}
-use Rattle.hibitset_atomic.specs.Seats.{Came, Known, IsOld, weight_of, reports_of}
-use Rattle.hibitset_atomic.proofs.Keeps.{opens_}
-use Rattle.hibitset_atomic.proofs.Layered.{layers_fit, held_below}
-use Rattle.hibitset_atomic.proofs.Rows.{row_rooted, row_summed, lit_held, held_lit, in_layer0}
+use Rattle.hibitset_atomic.specs.Seats.{BelongsTo, IsKnown, IsOld, weight_of, reports_of}
+use Rattle.hibitset_atomic.proofs.InvariantLemmas.{opens_}
+use Rattle.hibitset_atomic.proofs.LayerLemmas.{layers_fit, held_below}
+use Rattle.hibitset_atomic.proofs.RowLemmas.{row_rooted, row_summed, lit_held, held_lit, in_layer0}
 use Rattle.hibitset_atomic.proofs.atomic.AtomicBitSet.share.Goals as goal
-use Rattle.hibitset_atomic.specs.declared.shared.sizes.TheConstants.{LAYER1_START}
+use Rattle.hibitset_atomic.specs.declared.shared.layout.TheConstants.{LAYER1_START}
 
 pub of_words-requires : goal.of_words-requires
-unfolding Came Known IsOld weight_of reports_of word_of
+unfolding BelongsTo IsKnown IsOld weight_of reports_of word_of
 of_words-requires c =
     let set = c.args.self in
     let row = c.in-Ok.row.items in
@@ -17,7 +17,7 @@ of_words-requires c =
     (row_rooted (word_of set) row set.summed (layers_fit set.layers) e.long e.words) (row_summed (word_of set) row set.summed (layers_fit set.layers) e.long e.words)
 
 pub returns-clause-old : goal.returns-clause-old
-unfolding Came Known IsOld weight_of reports_of has word_of
+unfolding BelongsTo IsKnown IsOld weight_of reports_of has word_of
 returns-clause-old c = λ i.
     let set = c.args.self in
     let row = c.in-Ok.row.items in

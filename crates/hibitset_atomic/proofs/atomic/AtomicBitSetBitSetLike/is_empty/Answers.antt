@@ -1,12 +1,12 @@
 use Rattle.std.proofs.Common.{arith, ◌≡◌, ℕ, ◌==◌, ◌-◌, true, sym, ◌∙◌}
 use Rattle.std.proofs.lemmas.Bool.Decides.{nat_tests}
 use Rattle.hibitset_base.specs.declared.util.TheConstants.{LAYERS}
-use Rattle.hibitset_base.proofs.Bounds.{top_tells_empty}
+use Rattle.hibitset_base.proofs.ReadBoundLemmas.{top_tells_empty}
 use Rattle.hibitset_atomic.specs.declared.layers.TheConstants.{ATOMIC_LAYERS}
 use Rattle.hibitset_atomic.specs.AtomicBitSet.{has, word_of, topped_word, topped_is_lawful}
 use Rattle.hibitset_atomic.specs.Layers.{single_word}
-use Rattle.hibitset_atomic.specs.Topping.{topped_exact, topped_fits}
-use Rattle.hibitset_atomic.proofs.Layered.{layers_fit}
+use Rattle.hibitset_atomic.specs.TopLayerLemmas.{topped_exact, topped_fits}
+use Rattle.hibitset_atomic.proofs.LayerLemmas.{layers_fit}
 use Rattle.hibitset_atomic.proofs.atomic.AtomicBitSetBitSetLike.is_empty.Goals as goal
 
 zero_test : (x : ℕ) → (x == 0) ≡ true → x ≡ 0

@@ -1,5 +1,5 @@
 use Rattle.std.proofs.Common.{arith}
-use Rattle.hibitset_atomic.proofs.Placed.{made_less}
+use Rattle.hibitset_atomic.proofs.BlockTableLemmas.{made_less}
 use Rattle.hibitset_atomic.proofs.blocks.Blocks.make_new.Goals as goal
 
 pub overflow_cast-len : goal.overflow_cast-len
@@ -11,8 +11,8 @@ overflow_cast-len c =
     let len = c.len-len.ensures in
     omega (arith, less, count, size, len)
 
-pub returns-in_err-resize-clause-room : goal.returns-in_err-resize-clause-room
-returns-in_err-resize-clause-room c = λ room.
+pub returns-in_err-resize-clause-succeeds : goal.returns-in_err-resize-clause-succeeds
+returns-in_err-resize-clause-succeeds c = λ room.
     let self = c.args.self.now in
     let count = self.placed.count in
     let less = made_less self.places.items c.args.block (omega (arith, count, c.requires.block)) c.requires.new in

@@ -1,4 +1,4 @@
-use Rattle.hibitset_atomic.proofs.Placed.{placed_new}
+use Rattle.hibitset_atomic.proofs.BlockTableLemmas.{placed_new}
 use Rattle.hibitset_atomic.proofs.blocks.Blocks.new.Goals as goal
 
 pub invariant_of-result : goal.invariant_of-result

@@ -1,7 +1,7 @@
 use Rattle.std.proofs.Common.{◌≡◌, ◌≢◌, ℕ, zero, suc, refl, ◌∙◌, arith}
 use Rattle.hibitset_atomic.specs.Layers.{layer_word}
 use Rattle.hibitset_atomic.specs.declared.layers.Layers.{Layers}
-use Rattle.hibitset_atomic.proofs.Clearing.{covered_if, clear_if, none_under_top, covered_more, clear_more}
+use Rattle.hibitset_atomic.proofs.ClearLemmas.{covered_if, clear_if, none_under_top, covered_more, clear_more}
 use Rattle.hibitset_atomic.proofs.layers.Layers.clear.Goals as goal
 
 single : (layers : Layers) (p : ℕ) → p ≢ 0 → layer_word layers 3 p ≡ 0

@@ -3,7 +3,7 @@ use Rattle.std.proofs.lemmas.List.{get_or-set_same, get_or-set_other}
 use Rattle.hibitset_atomic.specs.Layers.{layer_word, word_over}
 use Rattle.hibitset_atomic.specs.Blocks.{block_word}
 use Rattle.std.proofs.Common.{[], ◌∷◌}
-use Rattle.hibitset_atomic.proofs.Clearing.{layer1_more, layer0_more, beside_more, clear_done}
+use Rattle.hibitset_atomic.proofs.ClearLemmas.{layer1_more, layer0_more, beside_more, clear_done}
 use Rattle.hibitset_atomic.proofs.layers.Layers.clear_under.Goals as goal
 
 pub loop-left-preserved : goal.loop-left-preserved

@@ -1,7 +1,7 @@
 use Rattle.std.proofs.Common.{◌≡◌, ℕ, ◌+◌, ◌*◌, ◌/◌, ◌<◌, vec_capacity}
 use Rattle.std.specs.Int.{bit_at}
 use Rattle.hibitset_atomic.specs.Layers.{layer_word}
-use Rattle.hibitset_atomic.specs.Clearing.{IsSameBeside}
+use Rattle.hibitset_atomic.specs.Clear.{IsSameBeside}
 use Rattle.hibitset_atomic.proofs.layers.Layers.clear_under.Given as goal
 
 abbrev pub invariant-loop-left : goal.invariant-loop-left

@@ -4,7 +4,7 @@ use Rattle.std.specs.Vec.{vec_capacity}
 use Rattle.std.proofs.lemmas.List.{append-nil}
 use Rattle.std.proofs.lemmas.Nat.Bits.{bit_at-lt, shr_and_one}
 use Rattle.hibitset_base.specs.Members.{members}
-use Rattle.hibitset_atomic.proofs.MoreMembers.{members-more}
+use Rattle.hibitset_atomic.proofs.MemberLemmas.{members-more}
 use Rattle.hibitset_atomic.proofs.steps.walks.push_bits.Goals as goal
 use Rattle.hibitset_atomic.proofs.steps.walks.push_bits.Goals.{then-word-bit-ne0, else-word-bit-ne0}
 

@@ -1,6 +1,6 @@
 use Rattle.std.proofs.Common.{◌-◌, ◌∙◌}
 use Rattle.hibitset_atomic.specs.Seats.{reports_of}
-use Rattle.hibitset_atomic.proofs.Sharing.{reports-together}
+use Rattle.hibitset_atomic.proofs.ShareLemmas.{reports-together}
 use Rattle.hibitset_atomic_tests.proofs.tests.shares.divided_and_joined.Goals as goal
 
 pub returns-clause-reports : goal.returns-clause-reports

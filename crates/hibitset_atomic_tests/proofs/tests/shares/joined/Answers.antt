@@ -4,7 +4,7 @@ use Rattle.std.specs.Vec.Iter.{into_iter_items}
 use Rattle.std.proofs.lemmas.List.Elements.{All-rest}
 use Rattle.std.proofs.lemmas.List.Sums.{sum_by-cons}
 use Rattle.std.proofs.lemmas.List.Concat.{flat_map-cons}
-use Rattle.hibitset_atomic.specs.Seats.{Came, weight_of, reports_of}
+use Rattle.hibitset_atomic.specs.Seats.{BelongsTo, weight_of, reports_of}
 use Rattle.hibitset_atomic_tests.proofs.tests.shares.joined.Goals as goal
 
 pub others-preserved : goal.others-preserved
@@ -19,7 +19,7 @@ others-preserved c =
     let together = c.join-all.ensures.weight.0 in
     record {
       came = c.join-all.ensures.came;
-      left = All-rest (Came c.args.set.now) seat left (into_iter_items c.others.seat-iterator) step inv.left;
+      left = All-rest (BelongsTo c.args.set.now) seat left (into_iter_items c.others.seat-iterator) step inv.left;
       weight = omega (arith, weights, more, together);
       reports =
           ap (λ r. r ++ flat_map reports_of left) c.join-all.ensures.reports

@@ -2,8 +2,8 @@ use Rattle.std.proofs.Common.{◌≡◌, ◌≢◌, ℕ, ◌+◌, ◌-◌, ◌%�
 use Rattle.std.proofs.Math.ListN.{set}
 use Rattle.std.proofs.lemmas.List.{length-set, length-replicate, get_or-set_same, get_or-set_other}
 use Rattle.hibitset_base.specs.Places.{IsWellFormed, places_in, bits_from}
-use Rattle.hibitset_base.proofs.Cutting.{left-alone}
-use Rattle.hibitset_base.proofs.Starting.{none_left, alone_formed}
+use Rattle.hibitset_base.proofs.CutLemmas.{left-alone}
+use Rattle.hibitset_base.proofs.StartLemmas.{none_left, alone_formed}
 use Rattle.hibitset_base.proofs.cursor.Cursor.of_word.Goals as goal
 
 module _ (n l v s : ℕ) (layer : l < n) where

@@ -1,5 +1,5 @@
 use Rattle.std.proofs.Common.{arith}
-use Rattle.hibitset_base.proofs.Left.{left-none}
+use Rattle.hibitset_base.proofs.PlaceLemmas.{left-none}
 use Rattle.hibitset_base.proofs.cursor.Cursor.take_lowest.Goals as goal
 
 pub returns-in_default-clause-taken : goal.returns-in_default-clause-taken

@@ -1,4 +1,4 @@
-use Rattle.hibitset_base.proofs.Running.{drain_runs, few_items}
+use Rattle.hibitset_base.proofs.RunLemmas.{drain_runs, few_items}
 use Rattle.hibitset_base.specs.Drain.{items_to_drain}
 use Rattle.hibitset_base.proofs.drain.DrainBitIter.from_top.Goals as goal
 
@@ -7,4 +7,4 @@ returns-clause-runs g c = drain_runs g.T.BitSetLike.holds g.T.DrainableBitSet.ke
 
 pub returns-clause-fits : goal.returns-clause-fits
 unfolding items_to_drain
-returns-clause-fits g c = few_items _ c.start-cursor.ensures.items
+returns-clause-fits g c = few_items _ c.root_cursor-cursor.ensures.items

@@ -1,4 +1,4 @@
-use Rattle.hibitset_base.proofs.Running.{walk_runs, few_items}
+use Rattle.hibitset_base.proofs.RunLemmas.{walk_runs, few_items}
 use Rattle.hibitset_base.specs.Walk.{items_left}
 use Rattle.hibitset_base.proofs.iter.BitIter.from_top.Goals as goal
 
@@ -7,4 +7,4 @@ returns-clause-runs g c = walk_runs g.T.BitSetLike.holds g.T.BitSetLike.word
 
 pub returns-clause-fits : goal.returns-clause-fits
 unfolding items_left
-returns-clause-fits g c = few_items _ c.start-cursor.ensures.items
+returns-clause-fits g c = few_items _ c.root_cursor-cursor.ensures.items

@@ -1,4 +1,4 @@
-use Rattle.hibitset_base.proofs.Answers.{filled-more, filled-written}
+use Rattle.hibitset_base.proofs.AnswerLemmas.{filled-more, filled-written}
 use Rattle.hibitset_base.proofs.parallel.workers.filled_slots.Goals as goal
 
 pub loop-answer-preserved-then-answer-len : goal.loop-answer-preserved-then-answer-len

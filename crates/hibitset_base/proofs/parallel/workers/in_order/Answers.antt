@@ -2,7 +2,7 @@ use Rattle.std.proofs.Common.{suc, ◌+◌, arith, ◌≡◌, [], ◌∷◌, sym
 use Rattle.std.proofs.lemmas.List.{append-nil, append_assoc, drop_all}
 use Rattle.std.proofs.lemmas.Option.{slice_get_read}
 use Rattle.hibitset_base.specs.Answers.{AnswersOf, AnswersPart}
-use Rattle.hibitset_base.proofs.Answers.{answered-more}
+use Rattle.hibitset_base.proofs.AnswerLemmas.{answered-more}
 use Rattle.hibitset_base.proofs.parallel.workers.in_order.Goals as goal
 use Rattle.hibitset_base.proofs.parallel.workers.in_order.Goals.{in-Some, in-None}
 

@@ -3,8 +3,8 @@ use Rattle.hibitset_base.specs.Members.{members_below}
 use Rattle.hibitset_base.specs.Ranked.{counted_set}
 use Rattle.hibitset_base.specs.Ranks.{AreCounts, block_size}
 use Rattle.hibitset_base.specs.declared.util.TheConstants.{MAX_EID}
-use Rattle.hibitset_base.proofs.Lists.{get_or_any}
-use Rattle.hibitset_base.proofs.Members.{members-length}
+use Rattle.hibitset_base.proofs.ListLemmas.{get_or_any}
+use Rattle.hibitset_base.proofs.MemberLemmas.{members-length}
 use Rattle.hibitset_base.proofs.RankedLemmas.{count_of_all, count_to}
 use Rattle.hibitset_base.proofs.ranked.Ranked.rank.Goals as goal
 

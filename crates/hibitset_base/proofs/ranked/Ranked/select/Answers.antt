@@ -1,7 +1,7 @@
 use Rattle.std.proofs.Common.{◌≡◌, ℕ, ◌-◌, ◌<◌, List, get_or, length, ◌∙◌, ap, ap₂, arith}
 use Rattle.std.specs.Prelude.{slice_get}
 use Rattle.hibitset_base.specs.Ranked.{counted_set}
-use Rattle.hibitset_base.proofs.Lists.{get_or_any}
+use Rattle.hibitset_base.proofs.ListLemmas.{get_or_any}
 use Rattle.hibitset_base.proofs.RankedLemmas.{some_upto, none_past, upto_block, in_block, block_of_word}
 use Rattle.hibitset_base.proofs.ranked.Ranked.select.Goals as goal
 

@@ -1,6 +1,6 @@
 use Rattle.std.proofs.Common.{◌≡◌, ℕ, ◌-◌, get_or, replicate, lit<, arith}
 use Rattle.std.proofs.Math.Nat.{one-le-pow}
-use Rattle.hibitset_base.proofs.Starting.{none_left}
+use Rattle.hibitset_base.proofs.StartLemmas.{none_left}
 use Rattle.hibitset_base.proofs.RevPlaceLemmas.{rev-none}
 use Rattle.hibitset_base.proofs.rev_cursor.RevCursor.empty.Goals as goal
 

@@ -29,10 +29,10 @@ use Rattle.std.specs.Box.Ownership.{box_owns}
 use Rattle.hibitset.specs.contracts.set.BitSet.{the_row as set_row}
 use Rattle.hibitset.specs.declared.set.BitSet.{BitSet}
 use Rattle.hibitset_c.specs.Handle.{may_free, handle_owns}
-use Rattle.hibitset_c.specs.Lending.{with_set}
+use Rattle.hibitset_c.specs.SetLoan.{with_set}
 use Rattle.hibitset_c.specs.contracts.handle.Handle.{the_row as R}
 use Rattle.hibitset_c.specs.contracts.handle.Handle.as_mut as f
-use Rattle.hibitset_c.proofs.Handles.{set_of, but_the_set, comes_together}
+use Rattle.hibitset_c.proofs.HandleLemmas.{set_of, but_the_set, comes_together}
 use Rattle.hibitset_c.proofs.handle.Handle.TheLaws.{lowers}
 use Rattle.hibitset_c.proofs.handle.Handle.as_mut.Statement.{statement}
 use Rattle.hibitset_c.proofs.handle.Handle.as_mut.Code as code

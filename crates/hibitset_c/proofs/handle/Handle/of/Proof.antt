@@ -27,8 +27,8 @@ use Rattle.hibitset.specs.contracts.set.BitSet.{the_row as set_row}
 use Rattle.hibitset.specs.declared.set.BitSet.{BitSet}
 use Rattle.hibitset_c.specs.contracts.handle.Handle.{the_type}
 use Rattle.hibitset_c.specs.contracts.handle.Handle.of as f
-use Rattle.hibitset_c.proofs.Handles.{handle_fits}
-use Rattle.hibitset_c.proofs.RawBoxes.{Raw, two, two_fits, ptr_fits, raw_opens}
+use Rattle.hibitset_c.proofs.HandleLemmas.{handle_fits}
+use Rattle.hibitset_c.proofs.RawBoxLemmas.{Raw, two, two_fits, ptr_fits, raw_opens}
 use Rattle.hibitset_c.proofs.handle.Handle.of.Statement.{statement}
 use Rattle.hibitset_c.proofs.handle.Handle.of.Code as code
 

@@ -31,8 +31,8 @@ use Rattle.hibitset_c.specs.Handle.{handle_owns}
 use Rattle.hibitset_c.specs.contracts.handle.Handle.{the_row as R}
 use Rattle.hibitset_c.specs.declared.handle.Handle.{Handle}
 use Rattle.hibitset_c.specs.contracts.handle.Handle.take as f
-use Rattle.hibitset_c.proofs.Handles.{set_of}
-use Rattle.hibitset_c.proofs.RawBoxes.{two, two_fits, ptr_fits, raw_closes}
+use Rattle.hibitset_c.proofs.HandleLemmas.{set_of}
+use Rattle.hibitset_c.proofs.RawBoxLemmas.{two, two_fits, ptr_fits, raw_closes}
 use Rattle.hibitset_c.proofs.handle.Handle.TheLaws.{lowers}
 use Rattle.hibitset_c.proofs.handle.Handle.take.Statement.{statement}
 use Rattle.hibitset_c.proofs.handle.Handle.take.Code as code

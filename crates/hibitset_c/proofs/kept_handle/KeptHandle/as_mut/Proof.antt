@@ -29,10 +29,10 @@ use Rattle.std.specs.Box.Ownership.{box_owns}
 use Rattle.hibitset_c.specs.contracts.kept.Kept.{the_row as kept_row}
 use Rattle.hibitset_c.specs.declared.kept.Kept.{Kept}
 use Rattle.hibitset_c.specs.Handle.{may_free, handle_owns}
-use Rattle.hibitset_c.specs.KeptLending.{with_kept}
+use Rattle.hibitset_c.specs.KeptLoan.{with_kept}
 use Rattle.hibitset_c.specs.contracts.kept_handle.KeptHandle.{the_row as R}
 use Rattle.hibitset_c.specs.contracts.kept_handle.KeptHandle.as_mut as f
-use Rattle.hibitset_c.proofs.KeptHandles.{kept_of, but_the_kept, comes_together}
+use Rattle.hibitset_c.proofs.KeptHandleLemmas.{kept_of, but_the_kept, comes_together}
 use Rattle.hibitset_c.proofs.kept_handle.KeptHandle.TheLaws.{lowers}
 use Rattle.hibitset_c.proofs.kept_handle.KeptHandle.as_mut.Statement.{statement}
 use Rattle.hibitset_c.proofs.kept_handle.KeptHandle.as_mut.Code as code

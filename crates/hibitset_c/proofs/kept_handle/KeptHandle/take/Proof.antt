@@ -31,8 +31,8 @@ use Rattle.hibitset_c.specs.Handle.{handle_owns}
 use Rattle.hibitset_c.specs.contracts.kept_handle.KeptHandle.{the_row as R}
 use Rattle.hibitset_c.specs.declared.kept_handle.KeptHandle.{KeptHandle}
 use Rattle.hibitset_c.specs.contracts.kept_handle.KeptHandle.take as f
-use Rattle.hibitset_c.proofs.KeptHandles.{kept_of}
-use Rattle.hibitset_c.proofs.RawBoxes.{two, two_fits, ptr_fits, raw_closes}
+use Rattle.hibitset_c.proofs.KeptHandleLemmas.{kept_of}
+use Rattle.hibitset_c.proofs.RawBoxLemmas.{two, two_fits, ptr_fits, raw_closes}
 use Rattle.hibitset_c.proofs.kept_handle.KeptHandle.TheLaws.{lowers}
 use Rattle.hibitset_c.proofs.kept_handle.KeptHandle.take.Statement.{statement}
 use Rattle.hibitset_c.proofs.kept_handle.KeptHandle.take.Code as code

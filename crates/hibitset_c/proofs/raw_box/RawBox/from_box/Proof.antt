@@ -33,7 +33,7 @@ use Rattle.std.proofs.boxed.Box.into_raw_with_allocator.Met as called
 use Rattle.std.specs.Box.Ownership.{box_owns}
 use Rattle.std.specs.contracts.boxed.Box.into_raw_with_allocator as g
 use Rattle.hibitset_c.specs.contracts.raw_box.RawBox.from_box as f
-use Rattle.hibitset_c.proofs.RawBoxes.{two, two_fits, ptr_fits, raw_closes}
+use Rattle.hibitset_c.proofs.RawBoxLemmas.{two, two_fits, ptr_fits, raw_closes}
 use Rattle.hibitset_c.proofs.raw_box.RawBox.from_box.Statement.{statement}
 use Rattle.hibitset_c.proofs.raw_box.RawBox.from_box.Code as code
 

@@ -33,7 +33,7 @@ use Rattle.std.proofs.boxed.Box.from_raw.Met as called
 use Rattle.std.proofs.cell.Inside.{Good}
 use Rattle.std.specs.contracts.boxed.Box.from_raw as g
 use Rattle.hibitset_c.specs.contracts.raw_box.RawBox.into_box as f
-use Rattle.hibitset_c.proofs.RawBoxes.{Raw, two, two_fits, ptr_fits, raw_opens}
+use Rattle.hibitset_c.proofs.RawBoxLemmas.{Raw, two, two_fits, ptr_fits, raw_opens}
 use Rattle.hibitset_c.proofs.raw_box.RawBox.into_box.Statement.{statement}
 use Rattle.hibitset_c.proofs.raw_box.RawBox.into_box.Code as code
 

@@ -1,5 +1,5 @@
 use Rattle.std.proofs.Common.{refl}
-use Rattle.hibitset_c.proofs.Lengths.{shows_next}
+use Rattle.hibitset_c.proofs.LengthLemmas.{shows_next}
 use Rattle.hibitset_c.proofs.words.Words.follow_top.Goals as goal
 
 pub returns : goal.returns

@@ -1,6 +1,6 @@
 use Rattle.std.proofs.Common.{◌≡◌, ◌≢◌, arith}
 use Rattle.hibitset_run.specs.Script.{slot_number}
-use Rattle.hibitset_run.proofs.Pairs.{and_one, and_two}
+use Rattle.hibitset_run.proofs.PairLemmas.{and_one, and_two}
 use Rattle.hibitset_run.proofs.script.pairs.and.Goals as goal
 
 pub returns-then-place-other_place : goal.returns-then-place-other_place

@@ -1,4 +1,4 @@
-use Rattle.hibitset_run.proofs.Pairs.{compared}
+use Rattle.hibitset_run.proofs.PairLemmas.{compared}
 use Rattle.hibitset_run.proofs.script.pairs.same.Goals as goal
 
 pub returns : goal.returns

@@ -1,4 +1,4 @@
-use Rattle.hibitset_run.proofs.Pairs.{contained}
+use Rattle.hibitset_run.proofs.PairLemmas.{contained}
 use Rattle.hibitset_run.proofs.script.pairs.within.Goals as goal
 
 pub returns : goal.returns

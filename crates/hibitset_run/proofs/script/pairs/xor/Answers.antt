@@ -1,6 +1,6 @@
 use Rattle.std.proofs.Common.{◌≡◌, ◌≢◌, get_or, arith}
 use Rattle.hibitset_run.specs.Script.{slot_number}
-use Rattle.hibitset_run.proofs.Pairs.{xor_one, xor_none, xor_two, xor_refused, not_empty}
+use Rattle.hibitset_run.proofs.PairLemmas.{xor_one, xor_none, xor_two, xor_refused, not_empty}
 use Rattle.hibitset_run.proofs.script.pairs.xor.Goals as goal
 
 pub returns-then-place-other_place : goal.returns-then-place-other_place
@@ -23,4 +23,4 @@ returns-in-Err c =
     let apart : slot_number c.args.other ≢ slot_number c.args.slot = omega (arith, c.if-place-other_place.false, c.number-place.ensures, c.number-other_place.ensures) in
     let some = not_empty c.is_empty.result (get_or c.args.sets.now (slot_number c.args.other) c.index-sets-other_place.result) c.if-is_empty.false (rw c.number-other_place.ensures at c.is_empty.ensures) in
     rw c.number-place.ensures (xor_refused c.args.sets.now c.args.slot c.args.other c.index-sets-place-2.result c.index-sets-other_place.result _ _ c.told-sets apart some
-    (rw (c.replace-set.ensures.value, c.number-place.ensures) at c.in-Err.ensures.refused))
+    (rw (c.replace-set.ensures.value, c.number-place.ensures) at c.in-Err.ensures.err))

@@ -1,8 +1,8 @@
 use Rattle.std.proofs.Common.{subst}
 use Rattle.std.specs.Prelude.{None, Some}
 use Rattle.std.specs.Option.{option_map}
-use Rattle.hibitset_run.specs.Reading.{IsCut}
-use Rattle.hibitset_run.proofs.Lines.{text_in, none_cut, none_named, none_set, reads_line}
+use Rattle.hibitset_run.specs.ScriptParser.{IsCut}
+use Rattle.hibitset_run.proofs.LineLemmas.{text_in, none_cut, none_named, none_set, reads_line}
 use Rattle.hibitset_run.proofs.script.parse.command_of.Goals as goal
 
 pub returns-in_err-rest : goal.returns-in_err-rest

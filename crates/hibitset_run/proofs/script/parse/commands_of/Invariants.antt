@@ -1,6 +1,6 @@
 use Rattle.std.proofs.Common.{length}
 use Rattle.hibitset_run.specs.Text.{IsLine, lines_of}
-use Rattle.hibitset_run.proofs.Texts.{IsSaid}
+use Rattle.hibitset_run.proofs.TextLemmas.{IsSaid}
 use Rattle.hibitset_run.proofs.script.parse.commands_of.Given as goal
 
 -- the commands so far are those of the lines before the rest

@@ -2,7 +2,7 @@ use Rattle.std.proofs.Common.{◌≡◌, sym, ◌∙◌, drop, codes, arith}
 use Rattle.std.proofs.lemmas.Bool.Decides.{Decides-eqb}
 use Rattle.std.proofs.lemmas.Slice.Eq.{slice_eq-Decides, starts_is}
 use Rattle.std.specs.Str.{IsUtf8, IsValidUpTo, valid_up_to}
-use Rattle.hibitset_run.proofs.Numbers.{is_zero, none_padded, none_signed, none_strange, reads_number, err_says, ok_says, apart}
+use Rattle.hibitset_run.proofs.NumberLemmas.{is_zero, none_padded, none_signed, none_strange, reads_number, err_says, ok_says, apart}
 use Rattle.hibitset_run.proofs.script.parse.id_of.Goals as goal
 use Rattle.hibitset_run.proofs.script.parse.id_of.Goals.{then-starts_with-via-then-starts_with, then-starts_with-via-else-starts_with+then-starts_with-2}
 

@@ -1,4 +1,4 @@
-use Rattle.hibitset_run.proofs.OneText.{no_other}
+use Rattle.hibitset_run.proofs.OneTextLemmas.{no_other}
 use Rattle.hibitset_run.proofs.script.parse.one_command.Goals as goal
 
 pub returns : goal.returns

@@ -3,7 +3,7 @@ use Rattle.std.specs.Prelude.{string_bytes}
 use Rattle.std.proofs.lemmas.List.{take_all, take_more}
 use Rattle.std.proofs.lemmas.Result.{IfErr-weaker}
 use Rattle.hibitset_run.specs.Text.{printed}
-use Rattle.hibitset_run.proofs.Texts.{IsPrinted, printed_front, printed_more, printed_part, printed_push, printed_split, handed_on, not_false, on_ok}
+use Rattle.hibitset_run.proofs.TextLemmas.{IsPrinted, printed_front, printed_more, printed_part, printed_push, printed_split, handed_on, not_false, on_ok}
 use Rattle.hibitset_run.proofs.script.print.print.Goals as goal
 
 pub loop-reply-preserved : goal.loop-reply-preserved

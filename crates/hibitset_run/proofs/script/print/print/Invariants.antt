@@ -1,7 +1,7 @@
 use Rattle.std.proofs.Common.{take}
 use Rattle.std.specs.Prelude.{string_bytes}
 use Rattle.hibitset_run.specs.Text.{printed}
-use Rattle.hibitset_run.proofs.Texts.{IsPrinted}
+use Rattle.hibitset_run.proofs.TextLemmas.{IsPrinted}
 use Rattle.hibitset_run.proofs.script.print.print.Given as goal
 
 -- the lines so far went to the writer or are ready

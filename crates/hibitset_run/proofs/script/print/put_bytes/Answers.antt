@@ -1,6 +1,6 @@
 use Rattle.std.proofs.Common.{◌≡◌, ℕ, ◌-◌, ◌++◌, List, length, take, drop, ap, sym, ◌∙◌, append_assoc, arith}
 use Rattle.std.proofs.lemmas.List.{take_all, take-append-drop, length-drop}
-use Rattle.hibitset_run.proofs.Texts.{appends_more}
+use Rattle.hibitset_run.proofs.TextLemmas.{appends_more}
 use Rattle.hibitset_run.proofs.script.print.put_bytes.Goals as goal
 
 -- what follows the first n bytes, up to the end

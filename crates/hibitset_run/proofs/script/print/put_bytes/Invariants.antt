@@ -1,4 +1,4 @@
-use Rattle.hibitset_run.specs.Reading.{Moves}
+use Rattle.hibitset_run.specs.ScriptParser.{Moves}
 use Rattle.hibitset_run.proofs.script.print.put_bytes.Given as goal
 
 -- what is left of the bytes comes behind what went to the writer

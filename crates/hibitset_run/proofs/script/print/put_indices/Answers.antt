@@ -3,7 +3,7 @@ use Rattle.std.specs.Prelude.{string_bytes}
 use Rattle.std.specs.Fmt.{decimal}
 use Rattle.std.specs.List.{join_by}
 use Rattle.std.proofs.lemmas.List.{take_more}
-use Rattle.hibitset_run.proofs.Texts.{between, between_push, joined_more}
+use Rattle.hibitset_run.proofs.TextLemmas.{between, between_push, joined_more}
 use Rattle.hibitset_run.proofs.script.print.put_indices.Goals as goal
 
 pub loop-index-preserved : goal.loop-index-preserved

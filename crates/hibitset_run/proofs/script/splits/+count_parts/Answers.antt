@@ -1,6 +1,6 @@
 use Rattle.std.proofs.Common.{◌<◌, arith}
 use Rattle.hibitset_run.specs.Parts.{parts_of}
-use Rattle.hibitset_run.proofs.Splits.{IsCut, is_one, is_cut, parts_of-le, parts_of-some}
+use Rattle.hibitset_run.proofs.SplitLemmas.{IsCut, is_one, is_cut, parts_of-le, parts_of-some}
 use Rattle.hibitset_run.proofs.script.splits.+count_parts.Goals as goal
 
 cut : (t : _) (c : goal.In-Some t) → IsCut c.args.part c.split-lower.result.0 c.in-Some.higher

@@ -1,6 +1,6 @@
 use Rattle.std.proofs.Common.{◌∙◌, get_or}
-use Rattle.hibitset_run.proofs.Splits.{begun, parts_of-whole}
-use Rattle.hibitset_run.proofs.Steps.{divided}
+use Rattle.hibitset_run.proofs.SplitLemmas.{begun, parts_of-whole}
+use Rattle.hibitset_run.proofs.StepLemmas.{divided}
 use Rattle.hibitset_run.proofs.script.splits.split.Goals as goal
 
 pub count_parts-requires : goal.count_parts-requires

@@ -1,5 +1,5 @@
 use Rattle.hibitset_run.specs.Text.{lines_of}
-use Rattle.hibitset_run.proofs.Programs.{sets_script, store_script}
+use Rattle.hibitset_run.proofs.ProgramLemmas.{sets_script, store_script}
 use Rattle.hibitset_run.proofs.script.text.run_input.Goals as goal
 
 pub returns-in-Some : goal.returns-in-Some

@@ -2,7 +2,7 @@ use Rattle.std.proofs.Common.{map, subst, sym}
 use Rattle.hibitset_run.specs.Program.{IsOutput}
 use Rattle.hibitset_run.specs.Script.{IsRun, answer_of, sets_of}
 use Rattle.hibitset_run.specs.Text.{lines_of, printed, reply_text}
-use Rattle.hibitset_run.proofs.Programs.{output_of, print_ends}
+use Rattle.hibitset_run.proofs.ProgramLemmas.{output_of, print_ends}
 use Rattle.hibitset_run.proofs.script.text.run_lines.Goals as goal
 
 pub returns-in-Ok-print : goal.returns-in-Ok-print

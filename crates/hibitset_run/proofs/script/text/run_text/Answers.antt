@@ -1,7 +1,7 @@
 use Rattle.std.proofs.Common.{subst}
 use Rattle.hibitset_run.specs.Text.{lines_of}
 use Rattle.hibitset_run.specs.Program.{EndsScript}
-use Rattle.hibitset_run.proofs.Programs.{read_all_of, unread}
+use Rattle.hibitset_run.proofs.ProgramLemmas.{read_all_of, unread}
 use Rattle.hibitset_run.proofs.script.text.run_text.Goals as goal
 
 pub returns-in-Ok : goal.returns-in-Ok

@@ -1,8 +1,8 @@
 use Rattle.std.proofs.Common.{codes}
 use Rattle.std.specs.Option.{option_map}
 use Rattle.std.specs.Str.{bytes_eq}
-use Rattle.hibitset_run.proofs.Lines.{text_in}
-use Rattle.hibitset_run.proofs.Programs.{not_store, not_true}
+use Rattle.hibitset_run.proofs.LineLemmas.{text_in}
+use Rattle.hibitset_run.proofs.ProgramLemmas.{not_store, not_true}
 use Rattle.hibitset_run.proofs.script.text.store_lines.Goals as goal
 
 pub returns-then-ne : goal.returns-then-ne

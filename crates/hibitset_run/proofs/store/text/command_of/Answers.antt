@@ -1,9 +1,9 @@
 use Rattle.std.proofs.Common.{subst}
 use Rattle.std.specs.Prelude.{None, Some}
 use Rattle.std.specs.Option.{option_map}
-use Rattle.hibitset_run.specs.Reading.{IsCut}
-use Rattle.hibitset_run.proofs.Lines.{text_in}
-use Rattle.hibitset_run.proofs.StoreLines.{none_cut, none_second, none_named, none_side, reads_line}
+use Rattle.hibitset_run.specs.ScriptParser.{IsCut}
+use Rattle.hibitset_run.proofs.LineLemmas.{text_in}
+use Rattle.hibitset_run.proofs.StoreLineLemmas.{none_cut, none_second, none_named, none_side, reads_line}
 use Rattle.hibitset_run.proofs.store.text.command_of.Goals as goal
 
 pub returns-in_err-rest : goal.returns-in_err-rest

@@ -3,8 +3,8 @@ use Rattle.std.proofs.ResultArms.{chosen}
 use Rattle.std.specs.Option.{option_map}
 use Rattle.hibitset_run.specs.Text.{lines_of}
 use Rattle.hibitset_run.specs.StoreText.{IsLine}
-use Rattle.hibitset_run.proofs.Lines.{text_in}
-use Rattle.hibitset_run.proofs.Texts.{IsSaid, or_nothing, cut_lines, cut_shorter, unwrapped, not_false, said_push, said_bad}
+use Rattle.hibitset_run.proofs.LineLemmas.{text_in}
+use Rattle.hibitset_run.proofs.TextLemmas.{IsSaid, or_nothing, cut_lines, cut_shorter, unwrapped, not_false, said_push, said_bad}
 use Rattle.hibitset_run.proofs.store.text.commands_of.Goals as goal
 
 pub returns-in_default-clause-err : goal.returns-in_default-clause-err

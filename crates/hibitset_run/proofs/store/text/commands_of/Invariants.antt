@@ -1,7 +1,7 @@
 use Rattle.std.proofs.Common.{length}
 use Rattle.hibitset_run.specs.Text.{lines_of}
 use Rattle.hibitset_run.specs.StoreText.{IsLine}
-use Rattle.hibitset_run.proofs.Texts.{IsSaid}
+use Rattle.hibitset_run.proofs.TextLemmas.{IsSaid}
 use Rattle.hibitset_run.proofs.store.text.commands_of.Given as goal
 
 -- the commands so far are those of the lines before the rest

@@ -1,4 +1,4 @@
-use Rattle.hibitset_run.proofs.StoreOneText.{no_other}
+use Rattle.hibitset_run.proofs.StoreOneTextLemmas.{no_other}
 use Rattle.hibitset_run.proofs.store.text.one_command.Goals as goal
 
 pub returns : goal.returns

@@ -3,7 +3,7 @@ use Rattle.std.specs.Prelude.{string_bytes}
 use Rattle.std.specs.List.{join_by}
 use Rattle.std.proofs.lemmas.List.{take_more}
 use Rattle.hibitset_run.specs.StoreText.{pair_text}
-use Rattle.hibitset_run.proofs.Texts.{between, between_push, joined_more}
+use Rattle.hibitset_run.proofs.TextLemmas.{between, between_push, joined_more}
 use Rattle.hibitset_run.proofs.store.text.put_pairs.Goals as goal
 
 pub loop-id-preserved : goal.loop-id-preserved

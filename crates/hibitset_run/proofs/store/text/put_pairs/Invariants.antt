@@ -2,7 +2,7 @@ use Rattle.std.proofs.Common.{◌≡◌, ◌∷◌, [], ◌++◌, take}
 use Rattle.std.specs.Prelude.{string_bytes}
 use Rattle.std.specs.List.{join_by}
 use Rattle.hibitset_run.specs.StoreText.{pair_text}
-use Rattle.hibitset_run.proofs.Texts.{between}
+use Rattle.hibitset_run.proofs.TextLemmas.{between}
 use Rattle.hibitset_run.proofs.store.text.put_pairs.Given as goal
 
 -- the pairs so far stand at the end, and what parts them from the next is known

@@ -3,7 +3,7 @@ use Rattle.hibitset_run.specs.Program.{IsStoreOutput}
 use Rattle.hibitset_run.specs.Store.{IsRun, answer_of, columns_of}
 use Rattle.hibitset_run.specs.Text.{lines_of, printed}
 use Rattle.hibitset_run.specs.StoreText.{reply_text}
-use Rattle.hibitset_run.proofs.Programs.{store_output_of, store_print_ends}
+use Rattle.hibitset_run.proofs.ProgramLemmas.{store_output_of, store_print_ends}
 use Rattle.hibitset_run.proofs.store.text.run_lines.Goals as goal
 
 pub returns-in-Ok-print : goal.returns-in-Ok-print

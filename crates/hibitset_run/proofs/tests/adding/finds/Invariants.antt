@@ -1,5 +1,5 @@
-use Rattle.hibitset_atomic.specs.Seats.{Came}
+use Rattle.hibitset_atomic.specs.Seats.{BelongsTo}
 use Rattle.hibitset_run.proofs.tests.adding.finds.Given as goal
 
 abbrev pub invariant-loop-turn : goal.invariant-loop-turn
-invariant-loop-turn l = Came l.set l.seat
+invariant-loop-turn l = BelongsTo l.set l.seat

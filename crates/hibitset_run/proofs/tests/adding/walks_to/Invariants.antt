@@ -1,5 +1,5 @@
 use Rattle.std.proofs.Common.{◌≡◌}
-use Rattle.hibitset_atomic.specs.Seats.{Came}
+use Rattle.hibitset_atomic.specs.Seats.{BelongsTo}
 use Rattle.hibitset_atomic.specs.SharedWalk.{set_of, seat_of, lender}
 use Rattle.hibitset_run.proofs.tests.adding.walks_to.Given as goal
 
@@ -9,5 +9,5 @@ invariant-loop-index l = record {
   finite : (goal.iterator-loop-index).is_finite l.index-iterator;
   same_reference : lender l.index-iterator ≡ lender l.initial.index-iterator;
   set : set_of l.index-iterator ≡ l.set;
-  came : Came l.set (seat_of l.index-iterator);
+  came : BelongsTo l.set (seat_of l.index-iterator);
 }

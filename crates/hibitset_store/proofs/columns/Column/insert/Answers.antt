@@ -1,14 +1,14 @@
 use Rattle.std.proofs.Common.{◌≡◌, ◌∙◌, ◌/◌, is_some, true, sym, arith}
 use Rattle.hibitset_store.specs.Columns.{value_of}
-use Rattle.hibitset_store.specs.Pages.{IsLaidOut}
-use Rattle.hibitset_store.specs.Room.{list_len, places, table_len, words_len}
+use Rattle.hibitset_store.specs.Pages.{IsPageTable}
+use Rattle.hibitset_store.specs.Capacity.{list_len, slots, table_len, words_len}
 use Rattle.hibitset_store.specs.declared.pages.TheConstants.{PAGE}
-use Rattle.hibitset_store.proofs.Paging.{no_value}
-use Rattle.hibitset_store.proofs.Sizing.{places-bounded, room-of_some}
+use Rattle.hibitset_store.proofs.PageLemmas.{no_value}
+use Rattle.hibitset_store.proofs.CapacityLemmas.{slots-bounded, room-of_some}
 use Rattle.hibitset_store.proofs.columns.Column.insert.Goals as goal
 
 pub returns-then-contains-clause-made : goal.returns-then-contains-clause-made
-unfolding value_of places table_len list_len words_len IsLaidOut
+unfolding value_of slots table_len list_len words_len IsPageTable
 returns-then-contains-clause-made g c =
     let column = c.args.self.now in
     let some : is_some (value_of column c.args.id) ≡ true = sym (column.covers c.args.id) ∙ (sym c.contains.ensures ∙ c.if-contains.true) in
@@ -17,17 +17,17 @@ returns-then-contains-clause-made g c =
     (c.write_over.ensures.keeps.pages (c.args.id / PAGE) ∙ page, omega (arith, word, words))
 
 pub returns-then-contains-clause-list : goal.returns-then-contains-clause-list
-unfolding places table_len list_len IsLaidOut
-returns-then-contains-clause-list g c = places-bounded _ c.write_over.new.self.laid_out
+unfolding slots table_len list_len IsPageTable
+returns-then-contains-clause-list g c = slots-bounded _ c.write_over.new.self.laid_out
 
 pub returns-in_err-insert_new-clause-list : goal.returns-in_err-insert_new-clause-list
-unfolding places table_len list_len IsLaidOut
-returns-in_err-insert_new-clause-list g c = places-bounded _ c.insert_new.new.self.laid_out
+unfolding slots table_len list_len IsPageTable
+returns-in_err-insert_new-clause-list g c = slots-bounded _ c.insert_new.new.self.laid_out
 
 pub returns-clause-was : goal.returns-clause-was
 unfolding value_of
 returns-clause-was g c = let column = c.args.self.now in sym (no_value _ _ (column.covers c.args.id) (sym c.contains.ensures ∙ c.if-contains.false))
 
 pub returns-clause-list : goal.returns-clause-list
-unfolding places table_len list_len IsLaidOut
-returns-clause-list g c = places-bounded _ c.insert_new.new.self.laid_out
+unfolding slots table_len list_len IsPageTable
+returns-clause-list g c = slots-bounded _ c.insert_new.new.self.laid_out

@@ -5,8 +5,8 @@ use Rattle.hibitset_base.specs.declared.util.TheConstants.{MAX_EID}
 use Rattle.hibitset.specs.BitSet.{has}
 use Rattle.hibitset.proofs.CallerLemmas.{has_within}
 use Rattle.hibitset_store.specs.Columns.{value_of}
-use Rattle.hibitset.proofs.Sizes.{members-nowhere}
-use Rattle.hibitset_store.proofs.Paging.{no_value}
+use Rattle.hibitset.proofs.MemberCountLemmas.{members-nowhere}
+use Rattle.hibitset_store.proofs.PageLemmas.{no_value}
 use Rattle.hibitset_store.proofs.columns.Column.is_empty.Goals as goal
 
 pub returns : goal.returns

@@ -5,8 +5,8 @@ use Rattle.hibitset.specs.BitSet.{has, word_of}
 use Rattle.hibitset_base.specs.Walk.{items_left, words_ahead}
 use Rattle.hibitset_store.specs.Columns.{entry_seen, value_of}
 use Rattle.hibitset_store.specs.Walks.{IterSteps, entries_left}
-use Rattle.hibitset_store.proofs.Joining.{all-items, entries-length}
-use Rattle.hibitset_store.proofs.Bounding.{encloses-itself, few_reads_of}
+use Rattle.hibitset_store.proofs.JoinLemmas.{all-items, entries-length}
+use Rattle.hibitset_store.proofs.ReadBoundLemmas.{encloses-itself, few_reads_of}
 use Rattle.hibitset_store.proofs.columns.Column.iter.Goals as goal
 
 pub returns-clause-bound : goal.returns-clause-bound

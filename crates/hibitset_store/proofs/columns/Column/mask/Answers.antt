@@ -1,7 +1,7 @@
 use Rattle.hibitset.specs.BitSet.{has}
 use Rattle.hibitset.proofs.CallerLemmas.{none_past}
 use Rattle.hibitset_store.specs.Columns.{value_of}
-use Rattle.hibitset_store.proofs.Paging.{no_value}
+use Rattle.hibitset_store.proofs.PageLemmas.{no_value}
 use Rattle.hibitset_store.proofs.columns.Column.mask.Goals as goal
 
 pub returns-clause-within : goal.returns-clause-within

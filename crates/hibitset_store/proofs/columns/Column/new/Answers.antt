@@ -1,15 +1,15 @@
 use Rattle.std.proofs.Common.{refl, sym, ap, length}
 use Rattle.hibitset.specs.BitSet.{has}
 use Rattle.hibitset_base.specs.declared.util.TheConstants.{MAX_EID}
-use Rattle.hibitset.proofs.Sizes.{members-nowhere}
-use Rattle.hibitset_store.specs.Pages.{IsLaidOut}
-use Rattle.hibitset_store.proofs.Making.{AreLaidOut-none}
+use Rattle.hibitset.proofs.MemberCountLemmas.{members-nowhere}
+use Rattle.hibitset_store.specs.Pages.{IsPageTable}
+use Rattle.hibitset_store.proofs.NewPageLemmas.{PageTableInvariant-none}
 use Rattle.hibitset_store.proofs.columns.Column.new.Goals as goal
 
 pub invariant_of-result : goal.invariant_of-result
-unfolding IsLaidOut
+unfolding IsPageTable
 invariant_of-result g c = record {
-  covers = λ i. let none = c.new.ensures.empty i in rw (none, c.new-2.ensures.places) refl;
-  laid_out = AreLaidOut-none c.new-2.result c.new-2.ensures.starts c.new-2.ensures.places c.new-2.ensures.order;
+  covers = λ i. let none = c.new.ensures.empty i in rw (none, c.new-2.ensures.slots) refl;
+  laid_out = PageTableInvariant-none c.new-2.result c.new-2.ensures.starts c.new-2.ensures.slots c.new-2.ensures.order;
   counts = sym (ap length (members-nowhere (has c.new.result) MAX_EID c.new.ensures.empty));
 }

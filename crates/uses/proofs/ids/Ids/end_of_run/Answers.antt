@@ -1,7 +1,7 @@
 use Rattle.hibitset_base.specs.declared.util.TheConstants.{MAX_EID}
 use Rattle.hibitset_base.proofs.CallerLemmas.{first_step_from}
 use Rattle.hibitset.specs.BitSet.{has}
-use Rattle.uses.proofs.Running.{EndsRun, run_end}
+use Rattle.uses.proofs.FreeRunLemmas.{EndsRun, run_end}
 use Rattle.uses.proofs.ids.Ids.end_of_run.Goals as goal
 
 ends : (c : goal.After-unwrap_or) → EndsRun (has c.args.self.now.used) c.args.start c.unwrap_or.result

@@ -1,6 +1,6 @@
 use Rattle.std.proofs.Common.{arith}
 use Rattle.hibitset.specs.BitSet.{has}
-use Rattle.uses.proofs.Running.{first_here, past_run, no_run}
+use Rattle.uses.proofs.FreeRunLemmas.{first_here, past_run, no_run}
 use Rattle.uses.proofs.ids.Ids.first_run.Goals as goal
 
 pub returns-then-end-start : goal.returns-then-end-start

@@ -1,7 +1,7 @@
 use Rattle.std.proofs.Common.{sym, ◌∙◌, append_assoc, length-append, rules, arith}
 use Rattle.std.proofs.lemmas.Grind.{common_steps}
 use Rattle.hibitset.specs.BitSet.{has}
-use Rattle.hibitset_base.specs.Drain.{drained}
+use Rattle.hibitset_base.specs.Drain.{drained_set}
 use Rattle.hibitset_base.specs.declared.util.TheConstants.{MAX_EID}
 use Rattle.hibitset_base.proofs.CallerLemmas.{after_first, none_at_all}
 use Rattle.uses.proofs.pages.Pages.flush.Goals as goal
@@ -18,7 +18,7 @@ loop-page-preserved c =
 
 pub returns-clause-clean : goal.returns-clause-clean
 returns-clause-clean c = λ i.
-    let set = drained c.loop-page.page-iterator in
+    let set = drained_set c.loop-page.page-iterator in
     let none = none_at_all MAX_EID (has set) (c.laws.ensures.within set) (sym c.loop-page.invariant.left ∙ c.in-None.ensures.steps.0.0) i in
     let same = c.in-None.ensures.steps.2 in
     search (rules, none, same)

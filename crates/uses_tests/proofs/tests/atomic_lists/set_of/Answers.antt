@@ -2,7 +2,7 @@ use Rattle.std.proofs.Common.{◌≢◌, ◌/◌, false}
 use Rattle.std.proofs.lemmas.Result.{IfOk-weaker, IfErr-weaker}
 use Rattle.hibitset_atomic.specs.declared.atomic.TheConstants.{ATOMIC_MAX_EID}
 use Rattle.hibitset_atomic.specs.AtomicBitSet.{has}
-use Rattle.uses.proofs.Listing.{takes_all, made_of, unmade_in}
+use Rattle.uses.proofs.ListLemmas.{takes_all, made_of, unmade_in}
 use Rattle.uses_tests.proofs.tests.atomic_lists.set_of.Goals as goal
 
 pub returns-clause-members : goal.returns-clause-members

@@ -1,7 +1,7 @@
 use Rattle.std.proofs.Common.{◌≡◌, Some, arith}
-use Rattle.hibitset_atomic.specs.Pasts.{call_of}
+use Rattle.hibitset_atomic.specs.History.{call_of}
 use Rattle.hibitset_atomic.specs.Worlds.{past_of}
-use Rattle.uses_tests.proofs.Turning.{call_on, rests}
+use Rattle.uses_tests.proofs.TurnLemmas.{call_on, rests}
 use Rattle.uses_tests.proofs.tests.turns.add.Goals as goal
 
 pub returns-clause-rest : goal.returns-clause-rest

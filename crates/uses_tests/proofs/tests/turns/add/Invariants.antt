@@ -1,7 +1,7 @@
 use Rattle.std.proofs.Common.{◌≡◌, ℕ, ◌-◌, ◌≤◌, ◌==◌, ◌||◌, true, Some}
-use Rattle.hibitset_atomic.specs.Pasts.{call_of, has_passed}
+use Rattle.hibitset_atomic.specs.History.{call_of, has_passed}
 use Rattle.hibitset_atomic.specs.Worlds.{old_of, past_of}
-use Rattle.uses_tests.proofs.Turning.{call_on}
+use Rattle.uses_tests.proofs.TurnLemmas.{call_on}
 use Rattle.uses_tests.proofs.tests.turns.add.Given as goal
 
 abbrev pub decreases-layers : goal.decreases-layers

@@ -2,7 +2,7 @@ use Rattle.std.proofs.Common.{ap, ◌∙◌}
 use Rattle.hibitset_atomic.specs.AtomicBitSet.{has}
 use Rattle.hibitset_atomic.specs.Worlds.{old_of, past_of}
 use Rattle.uses_tests.specs.Turns.{is_in}
-use Rattle.uses_tests.proofs.Turning.{rests_none, none_put_in, members_begin, members_more, members_all}
+use Rattle.uses_tests.proofs.TurnLemmas.{rests_none, none_put_in, members_begin, members_more, members_all}
 use Rattle.uses_tests.proofs.tests.turns.add_all.Goals as goal
 
 pub loop-id-init : goal.loop-id-init

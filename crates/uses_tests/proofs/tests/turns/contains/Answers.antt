@@ -1,8 +1,8 @@
 use Rattle.std.proofs.Common.{◌≡◌, ◌/◌, true, sym, ◌∙◌, subst, arith}
 use Rattle.hibitset_atomic.specs.Worlds.{old_of, past_of, stands_in}
-use Rattle.hibitset_atomic.proofs.Stepped.{same_truth}
+use Rattle.hibitset_atomic.proofs.CallStepLemmas.{same_truth}
 use Rattle.uses_tests.specs.Turns.{is_in}
-use Rattle.uses_tests.proofs.Walking.{lowest_is, whole_path}
+use Rattle.uses_tests.proofs.WorldWalkLemmas.{lowest_is, whole_path}
 use Rattle.uses_tests.proofs.tests.turns.contains.Goals as goal
 
 pub returns-then-id-lt-ATOMIC_MAX_EID : goal.returns-then-id-lt-ATOMIC_MAX_EID

@@ -1,6 +1,6 @@
 use Rattle.std.proofs.Common.{sym, ◌∙◌}
 use Rattle.hibitset_atomic.specs.Worlds.{old_of, past_of, stands_in}
-use Rattle.uses_tests.proofs.Walking.{lowest_is, first_word, found_under, stands_over, bit_stands, stands_bit}
+use Rattle.uses_tests.proofs.WorldWalkLemmas.{lowest_is, first_word, found_under, stands_over, bit_stands, stands_bit}
 use Rattle.uses_tests.proofs.tests.turns.ranges.Goals as goal
 
 pub returns : goal.returns

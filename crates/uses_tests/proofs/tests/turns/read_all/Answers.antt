@@ -1,9 +1,9 @@
 use Rattle.std.proofs.Common.{◌≡◌, ◌^◌, true, false, sym, ap, subst, arith, Contains}
 use Rattle.std.specs.List.Sorted.{IsStrictlyIncreasing}
 use Rattle.hibitset_atomic.specs.Worlds.{old_of, past_of}
-use Rattle.hibitset_atomic.specs.Pasts.{new_walk}
+use Rattle.hibitset_atomic.specs.History.{new_walk}
 use Rattle.uses_tests.specs.Turns.{items_or_none, reads_or_none}
-use Rattle.uses_tests.proofs.Walking.{increasing, ReadsOn, reads_one, opened_by, few_reads, there_now, done_before, still_before, done_is_there}
+use Rattle.uses_tests.proofs.WorldWalkLemmas.{increasing, ReadsOn, reads_one, opened_by, few_reads, there_now, done_before, still_before, done_is_there}
 use Rattle.uses_tests.proofs.tests.turns.read_all.Goals as goal
 use Rattle.uses_tests.proofs.tests.turns.read_all.Goals.{In-Word}
 

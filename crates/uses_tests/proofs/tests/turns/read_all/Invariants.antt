@@ -1,6 +1,6 @@
 use Rattle.std.proofs.Common.{◌≡◌, ℕ, ◌+◌, ◌-◌, ◌*◌, true, [], Some}
-use Rattle.hibitset_atomic.specs.Pasts.{Walk}
-use Rattle.hibitset_atomic.specs.Honest.{finished_before}
+use Rattle.hibitset_atomic.specs.History.{Walk}
+use Rattle.hibitset_atomic.specs.HistoryFacts.{finished_before}
 use Rattle.hibitset_atomic.specs.Worlds.{old_of, past_of, walk_in}
 use Rattle.uses_tests.specs.Turns.{is_done, reads_of}
 use Rattle.uses_tests.proofs.tests.turns.read_all.Given as goal

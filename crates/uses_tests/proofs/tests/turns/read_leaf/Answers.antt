@@ -1,5 +1,5 @@
 use Rattle.hibitset_atomic.specs.Worlds.{old_of, past_of}
-use Rattle.uses_tests.proofs.Walking.{leaf_read}
+use Rattle.uses_tests.proofs.WorldWalkLemmas.{leaf_read}
 use Rattle.uses_tests.proofs.tests.turns.read_leaf.Goals as goal
 
 pub returns : goal.returns

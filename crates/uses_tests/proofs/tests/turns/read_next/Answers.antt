@@ -1,5 +1,5 @@
 use Rattle.hibitset_atomic.specs.Worlds.{old_of, past_of, walk_in}
-use Rattle.uses_tests.proofs.Walking.{read_some, read_gives}
+use Rattle.uses_tests.proofs.WorldWalkLemmas.{read_some, read_gives}
 use Rattle.uses_tests.proofs.tests.turns.read_next.Goals as goal
 
 pub returns-clause-some : goal.returns-clause-some

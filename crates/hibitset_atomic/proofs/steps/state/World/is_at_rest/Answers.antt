@@ -1,7 +1,7 @@
 use Rattle.std.proofs.Common.{◌≡◌, sym, ◌∙◌}
 use Rattle.hibitset_atomic.specs.declared.steps.calls.Call.{Call}
-use Rattle.hibitset_atomic.specs.Honest.{IsAtRest}
-use Rattle.hibitset_atomic.proofs.Callers.{each-from_all, all-from_each}
+use Rattle.hibitset_atomic.specs.HistoryFacts.{IsAtRest}
+use Rattle.hibitset_atomic.proofs.CallMapLemmas.{each-from_all, all-from_each}
 use Rattle.hibitset_atomic.proofs.steps.state.World.is_at_rest.Goals as goal
 
 pub returns : goal.returns

@@ -1,4 +1,4 @@
-use Rattle.hibitset_atomic.proofs.After.{of_start}
+use Rattle.hibitset_atomic.proofs.WorldStepLemmas.{of_start}
 use Rattle.hibitset_atomic.proofs.steps.state.World.new.Goals as goal
 
 pub invariant_of-result : goal.invariant_of-result

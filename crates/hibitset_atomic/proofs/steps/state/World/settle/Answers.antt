@@ -3,8 +3,8 @@ use Rattle.hibitset_atomic.specs.declared.layers.Layers.{Layers}
 use Rattle.hibitset_atomic.specs.Layers.{layer_word}
 use Rattle.hibitset_base.specs.Words.{holds_at}
 use Rattle.hibitset_atomic.specs.Worlds.{old_of, past_of}
-use Rattle.hibitset_atomic.proofs.Layered.{layers_fit}
-use Rattle.hibitset_atomic.proofs.After.{members-rest, summed-rest}
+use Rattle.hibitset_atomic.proofs.LayerLemmas.{layers_fit}
+use Rattle.hibitset_atomic.proofs.WorldStepLemmas.{members-rest, summed-rest}
 use Rattle.hibitset_atomic.specs.AtomicBitSet.{has, word_of}
 use Rattle.hibitset_atomic.proofs.steps.state.World.settle.Goals as goal
 

@@ -1,7 +1,7 @@
 use Rattle.std.proofs.Common.{◌≡◌, ℕ, zero, suc, ◌<◌, ◌/◌, ◌^◌, Bool, true, false, IsTrue, sym, ◌∙◌, arith, lit<}
 use Rattle.hibitset_atomic.specs.Layers.{layer_word}
-use Rattle.hibitset_atomic.specs.LayerBits.{lit}
-use Rattle.hibitset_atomic.specs.Pasts.{stands}
+use Rattle.hibitset_atomic.specs.LayerBits.{layer_bit}
+use Rattle.hibitset_atomic.specs.History.{bit_of_history}
 use Rattle.hibitset_atomic.specs.Worlds.{old_of, past_of}
 use Rattle.hibitset_atomic.proofs.steps.state.World.stands.Goals as goal
 
@@ -24,20 +24,20 @@ all_bits id w s last agree a b c d = (λ h. each id w s last agree a b c d h, λ
 pub returns-then-not-bit : goal.returns-then-not-bit
 returns-then-not-bit c =
     let s = c.args.self.now in
-    no_bit 0 c.args.id (lit (layer_word s.layers)) (stands (old_of s) (past_of s)) s.of_past.words_of_past (lit< tt) c.if-not-bit.ensures
+    no_bit 0 c.args.id (layer_bit (layer_word s.layers)) (bit_of_history (old_of s) (past_of s)) s.of_past.words_of_past (lit< tt) c.if-not-bit.ensures
 
 pub returns-then-not-bit-2 : goal.returns-then-not-bit-2
 returns-then-not-bit-2 c =
     let s = c.args.self.now in
-    no_bit 1 c.args.id (lit (layer_word s.layers)) (stands (old_of s) (past_of s)) s.of_past.words_of_past (lit< tt) c.if-not-bit-2.ensures
+    no_bit 1 c.args.id (layer_bit (layer_word s.layers)) (bit_of_history (old_of s) (past_of s)) s.of_past.words_of_past (lit< tt) c.if-not-bit-2.ensures
 
 pub returns-then-not-bit-3 : goal.returns-then-not-bit-3
 returns-then-not-bit-3 c =
     let s = c.args.self.now in
-    no_bit 2 c.args.id (lit (layer_word s.layers)) (stands (old_of s) (past_of s)) s.of_past.words_of_past (lit< tt) c.if-not-bit-3.ensures
+    no_bit 2 c.args.id (layer_bit (layer_word s.layers)) (bit_of_history (old_of s) (past_of s)) s.of_past.words_of_past (lit< tt) c.if-not-bit-3.ensures
 
 pub returns : goal.returns
 returns c =
     let s = c.args.self.now in
-    all_bits c.args.id (lit (layer_word s.layers)) (stands (old_of s) (past_of s)) c.bit-4.result s.of_past.words_of_past
+    all_bits c.args.id (layer_bit (layer_word s.layers)) (bit_of_history (old_of s) (past_of s)) c.bit-4.result s.of_past.words_of_past
     c.if-not-bit.ensures c.if-not-bit-2.ensures c.if-not-bit-3.ensures c.bit-4.ensures

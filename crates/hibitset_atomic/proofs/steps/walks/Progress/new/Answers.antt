@@ -1,7 +1,7 @@
 use Rattle.std.proofs.Common.{subst, sym, lit<}
 use Rattle.hibitset_base.specs.Places.{bits_from}
 use Rattle.hibitset_atomic.specs.Ahead.{AllAbove}
-use Rattle.hibitset_atomic.proofs.Below.{above-places}
+use Rattle.hibitset_atomic.proofs.CursorWordLemmas.{above-places}
 use Rattle.hibitset_atomic.proofs.steps.walks.Progress.new.Goals as goal
 
 pub invariant_of-result : goal.invariant_of-result

@@ -1,5 +1,5 @@
 use Rattle.std.proofs.Common.{ap, sym}
-use Rattle.hibitset_atomic.specs.Kept.{shown_progress, left_of}
+use Rattle.hibitset_atomic.specs.CoreState.{shown_progress, left_of}
 use Rattle.hibitset_atomic.proofs.steps.walks.Walks.is_done.Goals as goal
 
 pub returns-in-Some : goal.returns-in-Some

@@ -1,6 +1,6 @@
 use Rattle.std.proofs.Common.{length, ap, arith}
 use Rattle.hibitset_base.specs.declared.util.TheConstants.{MAX_EID}
-use Rattle.hibitset_base.proofs.Members.{members-length}
+use Rattle.hibitset_base.proofs.MemberLemmas.{members-length}
 use Rattle.hibitset_base.proofs.parallel.par_iter.BitParIter.collect.Goals as goal
 
 pub collect-requires-clause-few : goal.collect-requires-clause-few

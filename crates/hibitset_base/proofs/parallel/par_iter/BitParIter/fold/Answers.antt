@@ -1,6 +1,6 @@
 use Rattle.std.proofs.Common.{List, ℕ, subst}
 use Rattle.std.specs.List.{FoldsTo}
-use Rattle.hibitset_base.proofs.Folding.{one-piece}
+use Rattle.hibitset_base.proofs.FoldLemmas.{one-piece}
 use Rattle.hibitset_base.proofs.parallel.par_iter.BitParIter.fold.Goals as goal
 
 pub returns-then-is_sparse : goal.returns-then-is_sparse

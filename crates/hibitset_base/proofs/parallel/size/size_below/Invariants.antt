@@ -1,4 +1,0 @@
-use Rattle.hibitset_base.proofs.parallel.size.size_below.Given as goal
-
-abbrev pub decreases-bits : goal.decreases-bits
-decreases-bits g l = l.left

@@ -1,0 +1,12 @@
+use Rattle.std.proofs.Common.{arith}
+use Rattle.hibitset_base.proofs.RevWalkLemmas.{both_back}
+use Rattle.hibitset_base.proofs.rev_iter.load_last_word.Goals as goal
+
+pub returns-clause-goes : goal.returns-clause-goes
+returns-clause-goes g c = both_back c.descend_last.ensures.goes c.load_last_from_layer2.ensures.goes
+
+pub returns-clause-more : goal.returns-clause-more
+returns-clause-more g c filled =
+    let same = c.descend_last.ensures.same c.if-descend_last.false in
+    let more = c.load_last_from_layer2.ensures.more filled in
+    omega (arith, same, more)

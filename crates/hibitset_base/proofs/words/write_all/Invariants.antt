@@ -1,6 +1,0 @@
-use Rattle.std.proofs.Common.{◌≡◌, ◌+◌, ◌++◌, take}
-use Rattle.hibitset_base.proofs.Writing.{first_bits}
-use Rattle.hibitset_base.proofs.words.write_all.Given as goal
-
-abbrev pub invariant-bits : goal.invariant-bits
-invariant-bits l = take (l.at + l.bit) l.buffer ≡ take l.at l.fn.buffer ++ first_bits l.start l.bit

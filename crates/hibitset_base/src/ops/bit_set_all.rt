@@ -1,0 +1,168 @@
+//! Operators over a set of all numbers.
+ghost use Rattle.std.specs.Prelude.{◌≡◌};
+ghost use Rattle.hibitset_base.specs.Connectives.{IsComplement, IsDifference, IsSymmetricDifference, IsIntersection, IsUnion};
+ghost use Rattle.hibitset_base.specs.Walk.{StartsAtTop};
+
+use crate::iter::BitIter;
+use crate::like::BitSetLike;
+use crate::util::Index;
+use crate::virt::{BitSetAll, BitSetAnd, BitSetNot, BitSetOr, BitSetXor};
+use std::ops::{BitAnd, BitOr, BitXor, Not, Sub};
+
+impl Not for BitSetAll {
+    type Output = BitSetNot<Self>;
+
+    ghost not_gives = { λ set result. (result.0 ≡ set)
+        × IsComplement (⟦<Self as BitSetLike>⟧.holds set)
+        (⟦<Self::Output as BitSetLike>⟧.holds result) };
+
+    #[inline]
+    fn not(self) -> BitSetNot<Self> {
+        BitSetNot(self)
+    }
+}
+
+impl<T: BitSetLike> BitAnd<T> for BitSetAll {
+    type Output = BitSetAnd<Self, T>;
+
+    ghost bitand_gives = { λ set other result. (result.0 ≡ set) × (result.1 ≡ other)
+        × IsIntersection (⟦<Self as BitSetLike>⟧.holds set) (T.holds other)
+        (⟦<Self::Output as BitSetLike>⟧.holds result) };
+
+    #[inline]
+    fn bitand(self, rhs: T) -> BitSetAnd<Self, T> {
+        BitSetAnd(self, rhs)
+    }
+}
+
+impl<T: BitSetLike> BitOr<T> for BitSetAll {
+    type Output = BitSetOr<Self, T>;
+
+    ghost bitor_gives = { λ set other result. (result.0 ≡ set) × (result.1 ≡ other)
+        × IsUnion (⟦<Self as BitSetLike>⟧.holds set) (T.holds other)
+        (⟦<Self::Output as BitSetLike>⟧.holds result) };
+
+    #[inline]
+    fn bitor(self, rhs: T) -> BitSetOr<Self, T> {
+        BitSetOr(self, rhs)
+    }
+}
+
+impl<T: BitSetLike> BitXor<T> for BitSetAll {
+    type Output = BitSetXor<Self, T>;
+
+    ghost bitxor_gives = { λ set other result. (result.0 ≡ set) × (result.1 ≡ other)
+        × IsSymmetricDifference (⟦<Self as BitSetLike>⟧.holds set) (T.holds other)
+        (⟦<Self::Output as BitSetLike>⟧.holds result) };
+
+    #[inline]
+    fn bitxor(self, rhs: T) -> BitSetXor<Self, T> {
+        BitSetXor(self, rhs)
+    }
+}
+
+impl<T: BitSetLike> Sub<T> for BitSetAll {
+    type Output = BitSetAnd<Self, BitSetNot<T>>;
+
+    ghost sub_gives = { λ set other result. (result.0 ≡ set) × (result.1.0 ≡ other)
+        × IsDifference (⟦<Self as BitSetLike>⟧.holds set) (T.holds other)
+        (⟦<Self::Output as BitSetLike>⟧.holds result) };
+
+    #[inline]
+    fn sub(self, rhs: T) -> BitSetAnd<Self, BitSetNot<T>> {
+        BitSetAnd(self, BitSetNot(rhs))
+    }
+}
+
+impl IntoIterator for BitSetAll {
+    type Item = Index;
+
+    type IntoIter = BitIter<Self>;
+
+    ghost into_iter_gives = { StartsAtTop ⟦<Self as BitSetLike>⟧.holds
+        ⟦<Self as BitSetLike>⟧.word };
+
+    #[inline]
+    fn into_iter(self) -> BitIter<Self> {
+        self.iter()
+    }
+}
+
+impl<'a> Not for &'a BitSetAll {
+    type Output = BitSetNot<Self>;
+
+    ghost not_gives = { λ set result. (result.0 ≡ set)
+        × IsComplement (⟦<Self as BitSetLike>⟧.holds set)
+        (⟦<Self::Output as BitSetLike>⟧.holds result) };
+
+    #[inline]
+    fn not(self) -> BitSetNot<Self> {
+        BitSetNot(self)
+    }
+}
+
+impl<'a, T: BitSetLike> BitAnd<T> for &'a BitSetAll {
+    type Output = BitSetAnd<Self, T>;
+
+    ghost bitand_gives = { λ set other result. (result.0 ≡ set) × (result.1 ≡ other)
+        × IsIntersection (⟦<Self as BitSetLike>⟧.holds set) (T.holds other)
+        (⟦<Self::Output as BitSetLike>⟧.holds result) };
+
+    #[inline]
+    fn bitand(self, rhs: T) -> BitSetAnd<Self, T> {
+        BitSetAnd(self, rhs)
+    }
+}
+
+impl<'a, T: BitSetLike> BitOr<T> for &'a BitSetAll {
+    type Output = BitSetOr<Self, T>;
+
+    ghost bitor_gives = { λ set other result. (result.0 ≡ set) × (result.1 ≡ other)
+        × IsUnion (⟦<Self as BitSetLike>⟧.holds set) (T.holds other)
+        (⟦<Self::Output as BitSetLike>⟧.holds result) };
+
+    #[inline]
+    fn bitor(self, rhs: T) -> BitSetOr<Self, T> {
+        BitSetOr(self, rhs)
+    }
+}
+
+impl<'a, T: BitSetLike> BitXor<T> for &'a BitSetAll {
+    type Output = BitSetXor<Self, T>;
+
+    ghost bitxor_gives = { λ set other result. (result.0 ≡ set) × (result.1 ≡ other)
+        × IsSymmetricDifference (⟦<Self as BitSetLike>⟧.holds set) (T.holds other)
+        (⟦<Self::Output as BitSetLike>⟧.holds result) };
+
+    #[inline]
+    fn bitxor(self, rhs: T) -> BitSetXor<Self, T> {
+        BitSetXor(self, rhs)
+    }
+}
+
+impl<'a, T: BitSetLike> Sub<T> for &'a BitSetAll {
+    type Output = BitSetAnd<Self, BitSetNot<T>>;
+
+    ghost sub_gives = { λ set other result. (result.0 ≡ set) × (result.1.0 ≡ other)
+        × IsDifference (⟦<Self as BitSetLike>⟧.holds set) (T.holds other)
+        (⟦<Self::Output as BitSetLike>⟧.holds result) };
+
+    #[inline]
+    fn sub(self, rhs: T) -> BitSetAnd<Self, BitSetNot<T>> {
+        BitSetAnd(self, BitSetNot(rhs))
+    }
+}
+
+impl<'a> IntoIterator for &'a BitSetAll {
+    type Item = Index;
+
+    type IntoIter = BitIter<Self>;
+
+    ghost into_iter_gives = { StartsAtTop ⟦<Self as BitSetLike>⟧.holds
+        ⟦<Self as BitSetLike>⟧.word };
+
+    #[inline]
+    fn into_iter(self) -> BitIter<Self> {
+        self.iter()
+    }
+}

@@ -1,0 +1,28 @@
+-- The words of a set that C lends, as a stream is written of them.
+use Rattle.std.proofs.Common.{◌≡◌, ℕ, ◌+◌, ◌*◌, ◌/◌, ◌%◌, ◌<◌, List, get_or, subst, ◌∙◌, refl, lit<, arith}
+use Rattle.hibitset.specs.WordBits.{stands_in}
+use Rattle.hibitset_roaring.specs.Format.{IsCanonicalStream, IsPlainStream}
+use Rattle.hibitset_roaring.specs.Words.{AreSummaries}
+use Rattle.hibitset_roaring.proofs.AppendLemmas.{canonical_same}
+use Rattle.hibitset_c.specs.Seen.{has, word_of}
+use Rattle.hibitset_c.specs.declared.seen.Seen.{Seen}
+
+module _ (set : Seen) where
+  same_members : (i : ℕ) → has set i ≡ stands_in set.layer0.now i
+  unfolding has word_of
+  same_members i = refl
+
+  pub seen_summaries : AreSummaries set.layer0.now set.layer1.now
+  seen_summaries = record {
+    bits = λ p some.
+        let e : p ≡ 64 * (p / 64) + p % 64 = omega arith in
+        (set.summed.summed 0 (p / 64) (p % 64) (lit< tt) (omega arith)).1 (subst (λ q. 0 < get_or set.layer0.now q 0) e some);
+  }
+
+  -- a stream of the set is one of its words
+  pub plain_of_words : (bytes : List ℕ) → IsPlainStream (has set) bytes → IsPlainStream (stands_in set.layer0.now) bytes
+  plain_of_words bytes is = record { are = is.are; stream = is.stream; plain = is.plain; members = λ i. is.members i ∙ same_members i }
+
+  -- and the other way round
+  pub canonical_of_set : (bytes : List ℕ) → IsCanonicalStream (stands_in set.layer0.now) bytes → IsCanonicalStream (has set) bytes
+  canonical_of_set bytes = canonical_same (stands_in set.layer0.now) (has set) bytes same_members
