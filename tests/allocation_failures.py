@@ -39,7 +39,7 @@ CALLS = {
         "BitSetNot::clone": "copies::complement",
         "BitSetOr::clone": "copies::union",
         "BitSetXor::clone": "copies::symmetric_difference",
-        "Extendable::add_index": "sets::extend_indices atomic::extend_indices",
+        "FallibleInsert::add_index": "sets::extend_indices atomic::extend_indices",
         "Ranked::new": "sets::ranked",
         "extend_index_refs": "sets::extend_index_refs atomic::extend_index_refs",
         "extend_indices": "sets::extend_indices atomic::extend_indices",
@@ -85,9 +85,12 @@ CALLS = {
         "read_below": "streams::read_with_a_bound",
         "read_from": "streams::read_from_a_reader",
         "round_trip": "streams::round_trip_of_a_set",
+        "round_trip_optimized": "streams::round_trip_with_runs",
         "write": "streams::write_a_set",
         "write_into": "streams::write_into_a_writer",
         "write_like": "streams::write_a_virtual_set",
+        "write_run_optimized": "streams::write_a_set_without_runs",
+        "write_run_optimized_to": "streams::write_runs_behind_a_byte",
         "write_to": "streams::write_behind_a_byte",
         "write_words": "streams::write_into_a_buffer",
     },
@@ -207,11 +210,14 @@ REQUESTS = {
     "streams::read_from_a_reader": 2,
     "streams::read_with_a_bound": 1,
     "streams::round_trip_of_a_set": 4,
+    "streams::round_trip_with_runs": 5,
     "streams::write_a_set": 3,
+    "streams::write_a_set_without_runs": 4,
     "streams::write_a_virtual_set": 4,
     "streams::write_behind_a_byte": 3,
     "streams::write_into_a_buffer": 2,
     "streams::write_into_a_writer": 3,
+    "streams::write_runs_behind_a_byte": 4,
     "worlds::begin": 2,
     "worlds::open": 2,
     "worlds::read": 1,
@@ -302,11 +308,14 @@ BYTES = {
     "streams::read_from_a_reader": 16_684,
     "streams::read_with_a_bound": 16_656,
     "streams::round_trip_of_a_set": 16_748,
+    "streams::round_trip_with_runs": 16_780,
     "streams::write_a_set": 92,
+    "streams::write_a_set_without_runs": 124,
     "streams::write_a_virtual_set": 9_004,
     "streams::write_behind_a_byte": 93,
     "streams::write_into_a_buffer": 64,
     "streams::write_into_a_writer": 92,
+    "streams::write_runs_behind_a_byte": 125,
     "worlds::begin": 232,
     "worlds::open": 1_312,
     "worlds::read": 96,
@@ -503,10 +512,10 @@ def of_library(pool, library):
         fail(f"not both a test of a call and with a number of requests: {lone}")
     if lone := sorted({*REQUESTS} ^ {*BYTES, *IN_THREADS}):
         fail(f"not both with a number of requests and with one of bytes: {lone}")
-    program = executable("refusals", "refusals_tests")
+    program = executable("hibitset_refusals", "hibitset_refusals_tests")
     listed = subprocess.run([program, "--list"], capture_output=True, text=True, check=True).stdout
     if lone := sorted({f"tests::{name}" for name in names} ^ set(re.findall(r"^(tests::\S+): test$", listed, re.M))):
-        fail(f"not both a test of refusals and in the list: {lone}")
+        fail(f"not both a test of hibitset_refusals and in the list: {lone}")
     tests(pool, library, program, [f"tests::{name}" for name in names])
 
 

@@ -4,10 +4,10 @@ use Rattle.std.specs.Int.{bit_at}
 use Rattle.std.proofs.lemmas.Bool.{cases_eq, cases_lt}
 use Rattle.std.proofs.lemmas.List.{get_or-set_same, get_or-set_other}
 use Rattle.hibitset_base.specs.Sets.{bit_of}
-use Rattle.hibitset_base.specs.Deciding.{eq_same, eq_other}
-use Rattle.hibitset_base.proofs.Holding.{bit_test}
+use Rattle.hibitset_base.specs.Decisions.{eq_same, eq_other}
+use Rattle.hibitset_base.proofs.MembershipLemmas.{bit_test}
 use Rattle.hibitset.specs.Operators.{or_bits}
-use Rattle.hibitset.specs.Numbers.{stands_in}
+use Rattle.hibitset.specs.WordBits.{stands_in}
 use Rattle.hibitset_roaring.specs.Words.{Adds}
 use Rattle.hibitset_roaring.specs.Format.{in_bits}
 use Rattle.hibitset_roaring.specs.Numbers.{u64_at}

@@ -2,7 +2,7 @@
 use Rattle.std.proofs.Common.{◌≡◌, ◌≢◌, ℕ, ◌+◌, ◌*◌, ◌/◌, ◌≤◌, ◌||◌, Bool, true, false, cond, not, List, length, refl, ap, ◌∙◌, arith, inl, inr, Result, Ok, Err}
 use Rattle.std.specs.Prelude.{nat_le, OnErr}
 use Rattle.std.proofs.lemmas.Bool.{cond-true, cond-false, cond_both, cases_Bool}
-use Rattle.hibitset_base.specs.Deciding.{eq_same, eq_other}
+use Rattle.hibitset_base.specs.Decisions.{eq_same, eq_other}
 use Rattle.hibitset_roaring.specs.Numbers.{u16_at, u32_at, u64_at}
 use Rattle.hibitset_roaring.specs.Format.{has_runs, container_count, keys_at, has_offsets, offsets_at, first_at, IsStream}
 use Rattle.hibitset_roaring.proofs.LayoutLemmas.{first_within}

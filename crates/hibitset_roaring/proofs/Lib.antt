@@ -17,3 +17,11 @@ pub mod StreamLemmas
 pub mod AppendLemmas
 pub mod TransferLemmas
 pub mod LengthLemmas
+pub mod CountLemmas
+pub mod MemberLemmas
+pub mod RunLemmas
+pub mod RunPartLemmas
+pub mod RunStreamLemmas
+pub mod RunUniqueLemmas
+pub mod SizeLemmas
+pub mod RunSameLemmas

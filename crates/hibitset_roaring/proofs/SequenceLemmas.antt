@@ -3,8 +3,8 @@ use Rattle.std.proofs.Common.{◌≡◌, ◌≢◌, ℕ, zero, suc, ◌+◌, ◌
 use Rattle.std.proofs.Math.Nat.{eq-or-lt_of_le}
 use Rattle.std.proofs.lemmas.Bool.{cases_lt, eqb-true, false_from_ne_true}
 use Rattle.hibitset_base.specs.Members.{members}
-use Rattle.hibitset_base.specs.Deciding.{eq_same, eq_other}
-use Rattle.hibitset_base.proofs.Members.{true_or_false, members-none, members-same}
+use Rattle.hibitset_base.specs.Decisions.{eq_same, eq_other}
+use Rattle.hibitset_base.proofs.MemberLemmas.{true_or_false, members-none, members-same}
 use Rattle.hibitset_roaring.specs.Numbers.{any_below}
 use Rattle.hibitset_roaring.proofs.TestLemmas.{any_none, any_true, any_some}
 

@@ -7,8 +7,8 @@ use Rattle.std.proofs.Math.Nat.{div-le_self}
 use Rattle.std.proofs.lemmas.Nat.{ones_le_self}
 use Rattle.std.proofs.lemmas.Nat.Bits.{bit_at-trailing_zeros, bit_at_above, bit_at-zero}
 use Rattle.std.proofs.lemmas.Bool.{cases_lt, lt-ltb, le-ltb}
-use Rattle.hibitset_base.proofs.Halving.{bit_past}
-use Rattle.hibitset.specs.Numbers.{stands_in}
+use Rattle.hibitset_base.proofs.MiddleBitLemmas.{bit_past}
+use Rattle.hibitset.specs.WordBits.{stands_in}
 use Rattle.hibitset_roaring.specs.Words.{ones_from}
 use Rattle.hibitset_roaring.proofs.WordLemmas.{ones_more}
 
@@ -32,13 +32,16 @@ module _ (word from : ℕ) where
           | inr past ↦ absurd (let one = sym (bit_past word from t) ∙ h.1 in let none = bit_at_above word 64 (from + t) fits past in omega (arith, one, none))
         ]
 
+    pub next_found : bit_at word (from + trailing_zeros w64 (word / 2 ^ from)) ≡ 1
+    next_found = sym (bit_past word from (trailing_zeros w64 (word / 2 ^ from))) ∙ (bit_at-trailing_zeros w64 (word / 2 ^ from) some less).1
+
     pub next_skips : (b : ℕ) → from ≤ b → b < from + trailing_zeros w64 (word / 2 ^ from) → bit_at word b ≡ 0
     next_skips b order below =
         let h = bit_at-trailing_zeros w64 (word / 2 ^ from) some less in
         let e : from + (b - from) ≡ b = omega (arith, order) in
         ap (λ i. bit_at word i) (sym e) ∙ (sym (bit_past word from (b - from)) ∙ h.2 (b - from) (omega (arith, order, below)))
 
--- words that are 0 have no ones
+-- zero words have no ones
 pub ones_skip : (words : List ℕ) (base m n : ℕ) → m ≤ n → ((q : ℕ) → m ≤ q → q < n → get_or words (base + q) 0 ≡ 0) → ones_from words base n ≡ ones_from words base m
 ones_skip words base m zero order none = let e : m ≡ 0 = omega (arith, order) in ap (λ k. ones_from words base k) (sym e)
 ones_skip words base m (suc n) order none = elim (cases_lt n m) [
@@ -52,7 +55,7 @@ ones_skip words base m (suc n) order none = elim (cases_lt n m) [
       ap (λ k. ones_from words base k) (sym e) ∙ omega (arith, more, few, here, rest)
 ]
 
--- words that are 0 have no members
+-- zero words have no members
 pub slots_skip : (words : List ℕ) (key m n v : ℕ) → m ≤ n → v < 65536 → ((q : ℕ) → m ≤ q → q < n → get_or words (1024 * key + q) 0 ≡ 0) → (nat_lt v (64 * m) && stands_in words (65536 * key + v)) ≡ (nat_lt v (64 * n) && stands_in words (65536 * key + v))
 slots_skip words key m n v order small none = elim (cases_lt v (64 * m)) [
   | inl below ↦ ap (λ t. t && stands_in words (65536 * key + v)) (lt-ltb v (64 * m) below ∙ sym (lt-ltb v (64 * n) (omega (arith, below, order))))

@@ -6,9 +6,9 @@ use Rattle.std.specs.Int.RustNames.{count_ones}
 use Rattle.std.proofs.lemmas.Bool.{cases_lt, cond-true, cond-false, le-leb, lt-leb, both_ways, and_parts, and_from, cases_Bool, eqb-true, false_from_ne_true}
 use Rattle.std.proofs.lemmas.Nat.Bits.{bit_at-zero}
 use Rattle.std.proofs.lemmas.List.{get_or_past}
-use Rattle.hibitset_base.specs.Deciding.{eq_same}
-use Rattle.hibitset_base.proofs.Counting.{some_ones}
-use Rattle.hibitset.specs.Numbers.{stands_in}
+use Rattle.hibitset_base.specs.Decisions.{eq_same}
+use Rattle.hibitset_base.proofs.OneCountLemmas.{some_ones}
+use Rattle.hibitset.specs.WordBits.{stands_in}
 use Rattle.hibitset_roaring.specs.Numbers.{u16_at, u32_at, any_below}
 use Rattle.hibitset_roaring.specs.Format.{has_runs, container_count, keys_at, has_offsets, offsets_at, first_at, key_of, cardinality_of, is_run, container_at, size, in_container, holds, IsContainer, IsStream}
 use Rattle.hibitset_roaring.specs.Format.{HasKeysBelow}
@@ -42,6 +42,35 @@ word_there words i on = elim (cases_lt (i / 64) (length words)) [
   | inl there ↦ there
   | inr past ↦ absurd (let z = get_or_past words (i / 64) 0 past in both_ways (stands_in words i) (ap (λ x. bit_at x (i % 64) == 1) z ∙ ap (λ x. x == 1) (bit_at-zero (i % 64))) on)
 ]
+
+-- A number is held if the container with its key has it.
+module _ (words out keys counts : List ℕ) (bound : ℕ) (heads : AreHeads words keys counts bound) (count : container_count out ≡ length keys) (keyed : (k : ℕ) → k < length keys → key_of out k ≡ get_or keys k 0) (listed : (k v : ℕ) → k < length keys → v < 65536 → in_container out k v ≡ stands_in words (65536 * get_or keys k 0 + v)) where
+  -- a container with the number has it as its member
+  found : (i k : ℕ) → k < length keys → ((key_of out k == i / 65536) && in_container out k (i % 65536)) ≡ true → stands_in words i ≡ true
+  found i k below on =
+      let both = and_parts (key_of out k == i / 65536) (in_container out k (i % 65536)) on in
+      let high : get_or keys k 0 ≡ i / 65536 = sym (keyed k below) ∙ eqb-true (key_of out k) (i / 65536) both.0 in
+      let whole : 65536 * get_or keys k 0 + i % 65536 ≡ i = omega (arith, high) in
+      ap (λ n. stands_in words n) (sym whole) ∙ (sym (listed k (i % 65536) below (omega arith)) ∙ both.1)
+
+  -- a member has its container
+  kept : (i : ℕ) → length words ≤ 1024 * bound → stands_in words i ≡ true → any_below (length keys) (λ k. (key_of out k == i / 65536) && in_container out k (i % 65536)) ≡ true
+  kept i short on =
+      let there = word_there words i on in
+      let h = heads.all (i / 65536) (omega (arith, there, short)) (some_under words i on) in
+      let k : ℕ = h.0 in
+      let below : k < length keys = h.1 in
+      let high : get_or keys k 0 ≡ i / 65536 = h.2 in
+      let whole : 65536 * get_or keys k 0 + i % 65536 ≡ i = omega (arith, high) in
+      any_true (length keys) (λ k. (key_of out k == i / 65536) && in_container out k (i % 65536)) k below
+      (and_from (key_of out k == i / 65536) (in_container out k (i % 65536)) (eq_same (key_of out k) (i / 65536) (keyed k below ∙ high)) (listed k (i % 65536) below (omega arith) ∙ (ap (λ n. stands_in words n) whole ∙ on)))
+
+  pub holds_from : length words ≤ 1024 * bound → (i : ℕ) → holds out i ≡ stands_in words i
+  unfolding holds
+  holds_from short i = ap (λ n. any_below n (λ k. (key_of out k == i / 65536) && in_container out k (i % 65536))) count ∙ elim (cases_Bool (stands_in words i)) [
+    | inl on ↦ kept i short on ∙ sym on
+    | inr off ↦ false_from_ne_true (any_below (length keys) (λ k. (key_of out k == i / 65536) && in_container out k (i % 65536))) (λ on. (let h = any_some (length keys) (λ k. (key_of out k == i / 65536) && in_container out k (i % 65536)) on in both_ways (stands_in words i) off (found i h.0 h.1 h.2))) ∙ sym off
+  ]
 
 module _ (words out keys counts : List ℕ) (bound : ℕ) (heads : AreHeads words keys counts bound) (headed : IsHeaded out keys counts) where
   pub plain_written : has_runs out ≡ false
@@ -109,32 +138,8 @@ module _ (words out keys counts : List ℕ) (bound : ℕ) (heads : AreHeads word
           | inr few ↦ cond-true (nat_le (cardinality_of out k) 4096) _ _ (le-leb (cardinality_of out k) 4096 few) ∙ w.listed few v small
         ]
 
-    -- a container with the number has it as its member
-    found : (i k : ℕ) → k < length keys → ((key_of out k == i / 65536) && in_container out k (i % 65536)) ≡ true → stands_in words i ≡ true
-    found i k below on =
-        let both = and_parts (key_of out k == i / 65536) (in_container out k (i % 65536)) on in
-        let high : get_or keys k 0 ≡ i / 65536 = sym (key_is k below) ∙ eqb-true (key_of out k) (i / 65536) both.0 in
-        let whole : 65536 * get_or keys k 0 + i % 65536 ≡ i = omega (arith, high) in
-        ap (λ n. stands_in words n) (sym whole) ∙ (sym (in_container_is k (i % 65536) below (omega arith)) ∙ both.1)
-
-    -- a member has its container
-    kept : (i : ℕ) → length words ≤ 1024 * bound → stands_in words i ≡ true → any_below (length keys) (λ k. (key_of out k == i / 65536) && in_container out k (i % 65536)) ≡ true
-    kept i short on =
-        let there = word_there words i on in
-        let h = heads.all (i / 65536) (omega (arith, there, short)) (some_under words i on) in
-        let k : ℕ = h.0 in
-        let below : k < length keys = h.1 in
-        let high : get_or keys k 0 ≡ i / 65536 = h.2 in
-        let whole : 65536 * get_or keys k 0 + i % 65536 ≡ i = omega (arith, high) in
-        any_true (length keys) (λ k. (key_of out k == i / 65536) && in_container out k (i % 65536)) k below
-        (and_from (key_of out k == i / 65536) (in_container out k (i % 65536)) (eq_same (key_of out k) (i / 65536) (key_is k below ∙ high)) (in_container_is k (i % 65536) below (omega arith) ∙ (ap (λ n. stands_in words n) whole ∙ on)))
-
     pub holds_written : length words ≤ 1024 * bound → (i : ℕ) → holds out i ≡ stands_in words i
-    unfolding holds
-    holds_written short i = ap (λ n. any_below n (λ k. (key_of out k == i / 65536) && in_container out k (i % 65536))) count_of_out ∙ elim (cases_Bool (stands_in words i)) [
-      | inl on ↦ kept i short on ∙ sym on
-      | inr off ↦ false_from_ne_true (any_below (length keys) (λ k. (key_of out k == i / 65536) && in_container out k (i % 65536))) (λ on. (let h = any_some (length keys) (λ k. (key_of out k == i / 65536) && in_container out k (i % 65536)) on in both_ways (stands_in words i) off (found i h.0 h.1 h.2))) ∙ sym off
-    ]
+    holds_written = holds_from words out keys counts bound heads count_of_out key_is in_container_is
 
     pub stream_written : bound ≤ 16384 → ((k : ℕ) → k < length keys → u32_at out (8 + 4 * length keys + 4 * k) ≡ start counts k) → length out ≡ start counts (length keys) → IsStream out
     stream_written small offsets long = record {

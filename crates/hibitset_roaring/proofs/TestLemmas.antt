@@ -3,7 +3,7 @@ use Rattle.std.proofs.Common.{◌≡◌, ℕ, zero, suc, ◌+◌, ◌*◌, ◌/�
 use Rattle.std.specs.Prelude.{nat_le}
 use Rattle.std.proofs.lemmas.Bool.{cases_lt, both_ways, or_cases, or_left, or_right}
 use Rattle.std.proofs.lemmas.Bool.Decides.{nat_tests}
-use Rattle.hibitset.specs.Numbers.{in_range}
+use Rattle.hibitset.specs.WordBits.{in_range}
 use Rattle.hibitset_roaring.specs.Numbers.{any_below}
 
 pub or_true : (a : Bool) → (a || true) ≡ true

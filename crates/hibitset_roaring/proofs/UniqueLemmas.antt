@@ -6,32 +6,34 @@ use Rattle.std.specs.Int.RustNames.{count_ones}
 use Rattle.std.proofs.lemmas.Nat.{ones_le_self}
 use Rattle.std.proofs.lemmas.Nat.Bits.{bit_at-lt, bit_at-trailing_zeros, same_from_bits_below}
 use Rattle.std.proofs.lemmas.Grind.{same_number_lists}
-use Rattle.std.proofs.lemmas.Bool.{cases_lt, cond-true, both_ways, and_parts, and_from, cases_Bool, eqb-true, false_from_ne_true}
+use Rattle.std.proofs.lemmas.Bool.{cases_lt, cond-true, le-leb, both_ways, and_parts, and_from, cases_Bool, eqb-true, false_from_ne_true}
 use Rattle.hibitset_base.specs.Members.{members}
 use Rattle.hibitset_base.specs.Places.{bits_from}
-use Rattle.hibitset_base.specs.Deciding.{eq_same, eq_other}
-use Rattle.hibitset_base.proofs.Members.{members-none, members-same, members-append}
-use Rattle.hibitset_base.proofs.Counting.{bits-count}
-use Rattle.hibitset.specs.Numbers.{stands_in}
+use Rattle.hibitset_base.specs.Decisions.{eq_same, eq_other}
+use Rattle.hibitset_base.proofs.MemberLemmas.{members-none, members-same, members-append}
+use Rattle.hibitset_base.proofs.OneCountLemmas.{bits-count}
+use Rattle.hibitset.specs.WordBits.{stands_in}
 use Rattle.hibitset_roaring.specs.Numbers.{u16_at, u32_at, u64_at, any_below, ones_in}
-use Rattle.hibitset_roaring.specs.Format.{has_runs, container_count, has_offsets, offsets_at, first_at, key_of, cardinality_of, is_run, container_at, in_array, in_bits, in_container, holds, IsStream, IsPlainStream, AreBytes}
+use Rattle.hibitset_roaring.specs.Format.{has_runs, container_count, has_offsets, offsets_at, first_at, key_of, cardinality_of, is_run, run_count, run_first, run_last, run_total, in_run, in_runs, container_at, in_array, in_bits, in_container, holds, IsStream, IsPlainStream, AreBytes}
 use Rattle.hibitset_roaring.specs.Streams.{SameBefore, start, AreHeads}
 use Rattle.hibitset_roaring.specs.Words.{ones_from, ones_under}
 use Rattle.hibitset_roaring.proofs.TestLemmas.{any_true, any_some}
 use Rattle.hibitset_roaring.proofs.SequenceLemmas.{Ascends, AreAmong, one_index, same_numbers, no_more, as_many}
 use Rattle.hibitset_roaring.proofs.HeaderLemmas.{u32_is, u64_is, runs_from, count_without, keys_without, offsets_at_is}
 use Rattle.hibitset_roaring.proofs.LayoutLemmas.{at_first}
-use Rattle.hibitset_roaring.proofs.ContainerLemmas.{at_array, in_array_is, at_bits, in_bits_is}
+use Rattle.hibitset_roaring.proofs.ContainerLemmas.{in_runs_is, at_array, in_array_is, at_bits, in_bits_is}
+use Rattle.hibitset_roaring.proofs.PartLemmas.{total_none}
 use Rattle.hibitset_roaring.proofs.FrameLemmas.{before_less}
 use Rattle.hibitset_roaring.proofs.WordLemmas.{ones_first, ones_more}
 use Rattle.hibitset_roaring.proofs.HeadsLemmas.{start_first, start_next, flat_is_small, flat_is_large}
 use Rattle.hibitset_roaring.proofs.BitLemmas.{ones_marked}
 use Rattle.hibitset_roaring.proofs.StreamLemmas.{some_under, word_there}
+use Rattle.hibitset_roaring.proofs.RunPartLemmas.{first_last, run_numbers}
 
 -- ---- bits and counts
 
 -- bits that are tested alike are the same
-bit_same : (x y : ℕ) → x < 2 → y < 2 → (x == 1) ≡ (y == 1) → x ≡ y
+pub bit_same : (x y : ℕ) → x < 2 → y < 2 → (x == 1) ≡ (y == 1) → x ≡ y
 bit_same zero zero small small' e = refl
 bit_same zero (suc y) small small' e = absurd (let one : suc y ≡ 1 = omega (arith, small') in both_ways (0 == 1) (eq_other 0 1 (λ h. absurd (omega (arith, h)))) (e ∙ eq_same (suc y) 1 one))
 bit_same (suc x) zero small small' e = absurd (let one : suc x ≡ 1 = omega (arith, small) in both_ways (0 == 1) (eq_other 0 1 (λ h. absurd (omega (arith, h)))) (sym e ∙ eq_same (suc x) 1 one))
@@ -76,7 +78,7 @@ module _ (words : List ℕ) (fits : (p : ℕ) → get_or words p 0 < 2 ^ 64) (ke
       ap (λ q. bit_at (get_or words q 0) ((65536 * key + i) % 64) == 1) p ∙ ap (λ b. bit_at (get_or words (1024 * key + n) 0) b == 1) r)
 
   -- as many bits are set as there are members
-  ones_members : (n : ℕ) → ones_from words (1024 * key) n ≡ length (members (λ v. stands_in words (65536 * key + v)) 0 (64 * n))
+  pub ones_members : (n : ℕ) → ones_from words (1024 * key) n ≡ length (members (λ v. stands_in words (65536 * key + v)) 0 (64 * n))
   ones_members zero = ones_first words (1024 * key) ∙ sym (ap length (members-none (λ v. stands_in words (65536 * key + v)) 0 0 (λ i from below. absurd (omega (arith, below)))))
   ones_members (suc n) =
       let e : n + 1 ≡ suc n = omega arith in
@@ -105,10 +107,14 @@ module _ (words : List ℕ) (fits : (p : ℕ) → get_or words p 0 < 2 ^ 64) (ke
       let r : (65536 * key + (64 * q + b)) % 64 ≡ b = omega (arith, small) in
       (64 * q + b, omega (arith, below, small), ap (λ x. bit_at (get_or words x 0) ((65536 * key + (64 * q + b)) % 64) == 1) p ∙ (ap (λ x. bit_at (get_or words (1024 * key + q) 0) x == 1) r ∙ eq_same (bit_at (get_or words (1024 * key + q) 0) b) 1 h.2))
 
--- ---- a stream without runs
+-- ---- one stream
+
+pub no_run : (bytes : List ℕ) → has_runs bytes ≡ false → (k : ℕ) → is_run bytes k ≡ false
+unfolding is_run
+no_run bytes plain k = ap (λ r. r && (bit_at (get_or bytes (4 + k / 8) 0) (k % 8) == 1)) plain
 
 module _ (bytes : List ℕ) (are : AreBytes bytes) where
-  u16_small : (at : ℕ) → u16_at bytes at < 65536
+  pub u16_small : (at : ℕ) → u16_at bytes at < 65536
   unfolding u16_at
   u16_small at = let a = are.small at in let b = are.small (at + 1) in omega (arith, a, b)
 
@@ -118,11 +124,7 @@ module _ (bytes : List ℕ) (are : AreBytes bytes) where
   u64_small : (at : ℕ) → u64_at bytes at < 2 ^ 64
   u64_small at = let a = u32_small at in let b = u32_small (at + 4) in let e = u64_is bytes at in omega (arith, a, b, e)
 
-  module _ (stream : IsStream bytes) (plain : has_runs bytes ≡ false) where
-    no_run : (k : ℕ) → is_run bytes k ≡ false
-    unfolding is_run
-    no_run k = ap (λ r. r && (bit_at (get_or bytes (4 + k / 8) 0) (k % 8) == 1)) plain
-
+  module _ (stream : IsStream bytes) where
     keys_ascend : Ascends (key_of bytes) (container_count bytes)
     keys_ascend = record { step = stream.ascending }
 
@@ -144,12 +146,27 @@ module _ (bytes : List ℕ) (are : AreBytes bytes) where
         ]
 
     -- each container has a member
-    one_member : (k : ℕ) → k < container_count bytes → (v : ℕ) × (v < 65536) × (in_container bytes k v ≡ true)
+    one_run_member : (k : ℕ) → k < container_count bytes → is_run bytes k ≡ true → (v : ℕ) × (v < 65536) × (in_container bytes k v ≡ true)
+    unfolding in_runs cardinality_of
+    one_run_member k below run =
+        let at : ℕ = container_at bytes k in
+        let runs = (stream.containers k below).runs run in
+        let some : 0 < run_count bytes at = elim (cases_lt 0 (run_count bytes at)) [
+          | inl more ↦ more
+          | inr none ↦ absurd (let e : run_count bytes at ≡ 0 = omega (arith, none) in let z : run_total bytes at (run_count bytes at) ≡ 0 = ap (λ n. run_total bytes at n) e ∙ total_none bytes at in let t = runs.total in omega (arith, z, t))
+        ] in
+        let first : ℕ = run_first bytes at 0 in
+        let order : first ≤ run_last bytes at 0 = first_last bytes at 0 in
+        let small = runs.within 0 some in
+        let here : in_run bytes at 0 first ≡ true = and_from (nat_le first first) (nat_le first (run_last bytes at 0)) (le-leb first first (omega arith)) (le-leb first (run_last bytes at 0) order) in
+        (first, omega (arith, order, small), sym (in_runs_is bytes k run first) ∙ any_true (run_count bytes at) (λ r. in_run bytes at r first) 0 some here)
+
+    one_flat_member : (k : ℕ) → k < container_count bytes → is_run bytes k ≡ false → (v : ℕ) × (v < 65536) × (in_container bytes k v ≡ true)
     unfolding in_bits in_array cardinality_of
-    one_member k below = elim (cases_lt 4096 (cardinality_of bytes k)) [
+    one_flat_member k below flat = elim (cases_lt 4096 (cardinality_of bytes k)) [
       | inl large ↦
           let at : ℕ = container_at bytes k in
-          let ones = (stream.containers k below).bits (no_run k) large in
+          let ones = (stream.containers k below).bits flat large in
           let w = one_word_in bytes at 1024 (omega (arith, ones, large)) in
           let q : ℕ = w.0 in
           let within : q < 1024 = w.1 in
@@ -158,15 +175,18 @@ module _ (bytes : List ℕ) (are : AreBytes bytes) where
           let small : b < 64 = h.1 in
           let p : (64 * q + b) / 64 ≡ q = omega (arith, small) in
           let r : (64 * q + b) % 64 ≡ b = omega (arith, small) in
-          (64 * q + b, omega (arith, within, small), sym (in_bits_is bytes k (no_run k) large (64 * q + b)) ∙ (ap (λ x. bit_at (u64_at bytes (at + 8 * x)) ((64 * q + b) % 64) == 1) p ∙ (ap (λ x. bit_at (u64_at bytes (at + 8 * q)) x == 1) r ∙ eq_same (bit_at (u64_at bytes (at + 8 * q)) b) 1 h.2)))
+          (64 * q + b, omega (arith, within, small), sym (in_bits_is bytes k flat large (64 * q + b)) ∙ (ap (λ x. bit_at (u64_at bytes (at + 8 * x)) ((64 * q + b) % 64) == 1) p ∙ (ap (λ x. bit_at (u64_at bytes (at + 8 * q)) x == 1) r ∙ eq_same (bit_at (u64_at bytes (at + 8 * q)) b) 1 h.2)))
       | inr few ↦
           let at : ℕ = container_at bytes k in
           let first : ℕ = u16_at bytes (at + 2 * 0) in
-          (first, u16_small (at + 2 * 0), sym (in_array_is bytes k (no_run k) few first) ∙ any_true (cardinality_of bytes k) (λ j. u16_at bytes (at + 2 * j) == first) 0 (omega arith) (eq_same first first refl))
+          (first, u16_small (at + 2 * 0), sym (in_array_is bytes k flat few first) ∙ any_true (cardinality_of bytes k) (λ j. u16_at bytes (at + 2 * j) == first) 0 (omega arith) (eq_same first first refl))
     ]
 
+    one_member : (k : ℕ) → k < container_count bytes → (v : ℕ) × (v < 65536) × (in_container bytes k v ≡ true)
+    one_member k below = elim (cases_Bool (is_run bytes k)) [ inl run ↦ one_run_member k below run | inr flat ↦ one_flat_member k below flat ]
+
     module _ (words keys counts : List ℕ) (bound : ℕ) (fits : (p : ℕ) → get_or words p 0 < 2 ^ 64) (heads : AreHeads words keys counts bound) (short : length words ≤ 1024 * bound) (same : (i : ℕ) → holds bytes i ≡ stands_in words i) where
-      in_container_same : (k v : ℕ) → k < container_count bytes → v < 65536 → in_container bytes k v ≡ stands_in words (65536 * key_of bytes k + v)
+      pub in_container_same : (k v : ℕ) → k < container_count bytes → v < 65536 → in_container bytes k v ≡ stands_in words (65536 * key_of bytes k + v)
       in_container_same k v below small = sym (holds_under k v below small) ∙ same (65536 * key_of bytes k + v)
 
       heads_ascend : Ascends (λ k. get_or keys k 0) (length keys)
@@ -214,9 +234,9 @@ module _ (bytes : List ℕ) (are : AreBytes bytes) where
       key_same k below = same_numbers (key_of bytes) (λ k. get_or keys k 0) (container_count bytes) (length keys) keys_ascend heads_ascend keys_among heads_among k below
 
       -- the words of bits are those of the members
-      pub word_same : (k : ℕ) → k < container_count bytes → 4096 < cardinality_of bytes k → (q : ℕ) → q < 1024 → u64_at bytes (container_at bytes k + 8 * q) ≡ get_or words (1024 * key_of bytes k + q) 0
+      pub word_same : (k : ℕ) → k < container_count bytes → is_run bytes k ≡ false → 4096 < cardinality_of bytes k → (q : ℕ) → q < 1024 → u64_at bytes (container_at bytes k + 8 * q) ≡ get_or words (1024 * key_of bytes k + q) 0
       unfolding in_bits
-      word_same k below large q within = same_from_bits_below 64 (u64_at bytes (container_at bytes k + 8 * q)) (get_or words (1024 * key_of bytes k + q) 0) (u64_small (container_at bytes k + 8 * q)) (fits (1024 * key_of bytes k + q)) (λ b small.
+      word_same k below flat large q within = same_from_bits_below 64 (u64_at bytes (container_at bytes k + 8 * q)) (get_or words (1024 * key_of bytes k + q) 0) (u64_small (container_at bytes k + 8 * q)) (fits (1024 * key_of bytes k + q)) (λ b small.
           let at : ℕ = container_at bytes k in
           let key : ℕ = key_of bytes k in
           let v : ℕ = 64 * q + b in
@@ -227,67 +247,83 @@ module _ (bytes : List ℕ) (are : AreBytes bytes) where
           let left : in_bits bytes at v ≡ (bit_at (u64_at bytes (at + 8 * q)) b == 1) = ap (λ x. bit_at (u64_at bytes (at + 8 * x)) (v % 64) == 1) p ∙ ap (λ x. bit_at (u64_at bytes (at + 8 * q)) x == 1) r in
           let right : stands_in words (65536 * key + v) ≡ (bit_at (get_or words (1024 * key + q) 0) b == 1) = ap (λ x. bit_at (get_or words x 0) ((65536 * key + v) % 64) == 1) p' ∙ ap (λ x. bit_at (get_or words (1024 * key + q) 0) x == 1) r' in
           bit_same (bit_at (u64_at bytes (at + 8 * q)) b) (bit_at (get_or words (1024 * key + q) 0) b) (bit_at-lt (u64_at bytes (at + 8 * q)) b) (bit_at-lt (get_or words (1024 * key + q) 0) b)
-          (sym left ∙ (in_bits_is bytes k (no_run k) large v ∙ (in_container_same k v below (omega (arith, within, small)) ∙ right))))
+          (sym left ∙ (in_bits_is bytes k flat large v ∙ (in_container_same k v below (omega (arith, within, small)) ∙ right))))
 
-      numbers_ascend : (k : ℕ) → k < container_count bytes → cardinality_of bytes k ≤ 4096 → Ascends (λ j. u16_at bytes (container_at bytes k + 2 * j)) (cardinality_of bytes k)
-      numbers_ascend k below few = record { step = ((stream.containers k below).array (no_run k) few).ascending }
+      numbers_ascend : (k : ℕ) → k < container_count bytes → is_run bytes k ≡ false → cardinality_of bytes k ≤ 4096 → Ascends (λ j. u16_at bytes (container_at bytes k + 2 * j)) (cardinality_of bytes k)
+      numbers_ascend k below flat few = record { step = ((stream.containers k below).array flat few).ascending }
 
-      cardinality_under : (k : ℕ) → k < container_count bytes → cardinality_of bytes k ≡ ones_under words (key_of bytes k)
+      flat_under : (k : ℕ) → k < container_count bytes → is_run bytes k ≡ false → cardinality_of bytes k ≡ ones_under words (key_of bytes k)
       unfolding in_array
-      cardinality_under k below = elim (cases_lt 4096 (cardinality_of bytes k)) [
-        | inl large ↦ sym ((stream.containers k below).bits (no_run k) large) ∙ ones_marked bytes words (container_at bytes k) (1024 * key_of bytes k) 1024 (λ q within. word_same k below large q within)
+      flat_under k below flat = elim (cases_lt 4096 (cardinality_of bytes k)) [
+        | inl large ↦ sym ((stream.containers k below).bits flat large) ∙ ones_marked bytes words (container_at bytes k) (1024 * key_of bytes k) 1024 (λ q within. word_same k below flat large q within)
         | inr few ↦
             let at : ℕ = container_at bytes k in
             let key : ℕ = key_of bytes k in
             let n : ℕ = cardinality_of bytes k in
-            let many = as_many (λ j. u16_at bytes (at + 2 * j)) 65536 n (numbers_ascend k below few) (λ j less. u16_small (at + 2 * j)) in
+            let many = as_many (λ j. u16_at bytes (at + 2 * j)) 65536 n (numbers_ascend k below flat few) (λ j less. u16_small (at + 2 * j)) in
             let one : members (λ v. any_below n (λ j. u16_at bytes (at + 2 * j) == v)) 0 65536 ≡ members (λ v. stands_in words (65536 * key + v)) 0 65536 =
-            members-same (λ v. any_below n (λ j. u16_at bytes (at + 2 * j) == v)) (λ v. stands_in words (65536 * key + v)) 0 65536 (λ v from less. in_array_is bytes k (no_run k) few v ∙ in_container_same k v below (omega (arith, less))) in
+            members-same (λ v. any_below n (λ j. u16_at bytes (at + 2 * j) == v)) (λ v. stands_in words (65536 * key + v)) 0 65536 (λ v from less. in_array_is bytes k flat few v ∙ in_container_same k v below (omega (arith, less))) in
             let ones = ones_members words fits key 1024 in
             sym many ∙ (ap length one ∙ sym ones)
       ]
+
+      runs_under : (k : ℕ) → k < container_count bytes → is_run bytes k ≡ true → cardinality_of bytes k ≡ ones_under words (key_of bytes k)
+      unfolding in_runs
+      runs_under k below run =
+          let at : ℕ = container_at bytes k in
+          let key : ℕ = key_of bytes k in
+          let n : ℕ = run_count bytes at in
+          let runs = (stream.containers k below).runs run in
+          let numbers = run_numbers bytes at n runs.apart n 65536 (omega arith) runs.within in
+          let one : members (λ v. any_below n (λ r. in_run bytes at r v)) 0 65536 ≡ members (λ v. stands_in words (65536 * key + v)) 0 65536 =
+          members-same (λ v. any_below n (λ r. in_run bytes at r v)) (λ v. stands_in words (65536 * key + v)) 0 65536 (λ v from less. in_runs_is bytes k run v ∙ in_container_same k v below (omega (arith, less))) in
+          sym runs.total ∙ (sym numbers ∙ (ap length one ∙ sym (ones_members words fits key 1024)))
+
+      cardinality_under : (k : ℕ) → k < container_count bytes → cardinality_of bytes k ≡ ones_under words (key_of bytes k)
+      cardinality_under k below = elim (cases_Bool (is_run bytes k)) [ inl run ↦ runs_under k below run | inr flat ↦ flat_under k below flat ]
 
       pub cardinality_same : (k : ℕ) → k < container_count bytes → cardinality_of bytes k ≡ get_or counts k 0
       cardinality_same k below =
           let c = count_same in
           cardinality_under k below ∙ (ap (λ x. ones_under words x) (key_same k below) ∙ sym (heads.counted k (omega (arith, below, c))))
 
-      has_all_offsets : has_offsets bytes ≡ true
-      unfolding has_offsets
-      has_all_offsets = ap (λ r. not r || nat_le 4 (container_count bytes)) plain
+      module _ (plain : has_runs bytes ≡ false) where
+        has_all_offsets : has_offsets bytes ≡ true
+        unfolding has_offsets
+        has_all_offsets = ap (λ r. not r || nat_le 4 (container_count bytes)) plain
 
-      offsets_here : offsets_at bytes ≡ 8 + 4 * length keys
-      offsets_here = let o = offsets_at_is bytes in let k = keys_without bytes plain in let c = count_same in omega (arith, o, k, c)
+        offsets_here : offsets_at bytes ≡ 8 + 4 * length keys
+        offsets_here = let o = offsets_at_is bytes in let k = keys_without bytes plain in let c = count_same in omega (arith, o, k, c)
 
-      first_here : first_at bytes ≡ 8 + 8 * length keys
-      unfolding first_at
-      first_here = cond-true (has_offsets bytes) _ _ has_all_offsets ∙ (let o = offsets_here in let c = count_same in omega (arith, o, c))
+        first_here : first_at bytes ≡ 8 + 8 * length keys
+        unfolding first_at
+        first_here = cond-true (has_offsets bytes) _ _ has_all_offsets ∙ (let o = offsets_here in let c = count_same in omega (arith, o, c))
 
-      -- where the containers begin follows from the counts
-      pub starts : (k : ℕ) → k ≤ length keys → container_at bytes k ≡ start counts k
-      starts zero order = let s = heads.same in let f = start_first counts in let p = at_first bytes in let q = first_here in omega (arith, s, f, p, q)
-      starts (suc k) order =
-          let e : k + 1 ≡ suc k = omega arith in
-          let h = starts k (omega (arith, order)) in
-          let c = count_same in
-          let below : k < container_count bytes = omega (arith, c, order) in
-          let n = cardinality_same k below in
-          let s = start_next counts k in
-          let a : container_at bytes (k + 1) ≡ container_at bytes (suc k) = ap (λ m. container_at bytes m) e in
-          let b : start counts (k + 1) ≡ start counts (suc k) = ap (λ m. start counts m) e in
-          elim (cases_lt 4096 (cardinality_of bytes k)) [
-            | inl large ↦ (let p = at_bits bytes k (no_run k) large in let f = flat_is_large (get_or counts k 0) (omega (arith, large, n)) in omega (arith, h, s, a, b, p, f))
-            | inr few ↦ (let p = at_array bytes k (no_run k) few in let f = flat_is_small (get_or counts k 0) (omega (arith, few, n)) in omega (arith, h, s, a, b, p, f, n))
-          ]
+        -- where the containers begin follows from the counts
+        pub starts : (k : ℕ) → k ≤ length keys → container_at bytes k ≡ start counts k
+        starts zero order = let s = heads.same in let f = start_first counts in let p = at_first bytes in let q = first_here in omega (arith, s, f, p, q)
+        starts (suc k) order =
+            let e : k + 1 ≡ suc k = omega arith in
+            let h = starts k (omega (arith, order)) in
+            let c = count_same in
+            let below : k < container_count bytes = omega (arith, c, order) in
+            let n = cardinality_same k below in
+            let s = start_next counts k in
+            let a : container_at bytes (k + 1) ≡ container_at bytes (suc k) = ap (λ m. container_at bytes m) e in
+            let b : start counts (k + 1) ≡ start counts (suc k) = ap (λ m. start counts m) e in
+            elim (cases_lt 4096 (cardinality_of bytes k)) [
+              | inl large ↦ (let p = at_bits bytes k (no_run bytes plain k) large in let f = flat_is_large (get_or counts k 0) (omega (arith, large, n)) in omega (arith, h, s, a, b, p, f))
+              | inr few ↦ (let p = at_array bytes k (no_run bytes plain k) few in let f = flat_is_small (get_or counts k 0) (omega (arith, few, n)) in omega (arith, h, s, a, b, p, f, n))
+            ]
 
-      pub length_same : length bytes ≡ start counts (length keys)
-      length_same = sym stream.whole ∙ (ap (λ n. container_at bytes n) count_same ∙ starts (length keys) (omega arith))
+        pub length_same : length bytes ≡ start counts (length keys)
+        length_same = sym stream.whole ∙ (ap (λ n. container_at bytes n) count_same ∙ starts (length keys) (omega arith))
 
 -- ---- two of them
 
 -- the next numbers are the same too
 module _ (a b : List ℕ) (ab : AreBytes a) (bb : AreBytes b) where
-  next_u16 : (end : ℕ) → SameBefore end a b → u16_at b end ≡ u16_at a end → SameBefore (end + 2) a b
+  pub next_u16 : (end : ℕ) → SameBefore end a b → u16_at b end ≡ u16_at a end → SameBefore (end + 2) a b
   unfolding u16_at
   next_u16 end same e =
       let a0 = ab.small end in
@@ -325,19 +361,19 @@ module _ (a b : List ℕ) (ab : AreBytes a) (bb : AreBytes b) where
       before_less (end + 4 + 4) (end + 8) a b (omega arith) (next_u32 (end + 4) (next_u32 end same low) high)
 
   -- a row of numbers of two bytes
-  next_numbers : (at n : ℕ) → SameBefore at a b → ((j : ℕ) → j < n → u16_at b (at + 2 * j) ≡ u16_at a (at + 2 * j)) → SameBefore (at + 2 * n) a b
+  pub next_numbers : (at n : ℕ) → SameBefore at a b → ((j : ℕ) → j < n → u16_at b (at + 2 * j) ≡ u16_at a (at + 2 * j)) → SameBefore (at + 2 * n) a b
   next_numbers at zero same each = before_less at (at + 2 * 0) a b (omega arith) same
   next_numbers at (suc n) same each =
       before_less (at + 2 * n + 2) (at + 2 * suc n) a b (omega arith) (next_u16 (at + 2 * n) (next_numbers at n same (λ j below. each j (omega (arith, below)))) (each n (omega arith)))
 
   -- of four
-  next_offsets : (at n : ℕ) → SameBefore at a b → ((k : ℕ) → k < n → u32_at b (at + 4 * k) ≡ u32_at a (at + 4 * k)) → SameBefore (at + 4 * n) a b
+  pub next_offsets : (at n : ℕ) → SameBefore at a b → ((k : ℕ) → k < n → u32_at b (at + 4 * k) ≡ u32_at a (at + 4 * k)) → SameBefore (at + 4 * n) a b
   next_offsets at zero same each = before_less at (at + 4 * 0) a b (omega arith) same
   next_offsets at (suc n) same each =
       before_less (at + 4 * n + 4) (at + 4 * suc n) a b (omega arith) (next_u32 (at + 4 * n) (next_offsets at n same (λ j below. each j (omega (arith, below)))) (each n (omega arith)))
 
   -- of eight
-  next_words : (at n : ℕ) → SameBefore at a b → ((q : ℕ) → q < n → u64_at b (at + 8 * q) ≡ u64_at a (at + 8 * q)) → SameBefore (at + 8 * n) a b
+  pub next_words : (at n : ℕ) → SameBefore at a b → ((q : ℕ) → q < n → u64_at b (at + 8 * q) ≡ u64_at a (at + 8 * q)) → SameBefore (at + 8 * n) a b
   next_words at zero same each = before_less at (at + 8 * 0) a b (omega arith) same
   next_words at (suc n) same each =
       before_less (at + 8 * n + 8) (at + 8 * suc n) a b (omega arith) (next_u64 (at + 8 * n) (next_words at n same (λ j below. each j (omega (arith, below)))) (each n (omega arith)))
@@ -345,13 +381,13 @@ module _ (a b : List ℕ) (ab : AreBytes a) (bb : AreBytes b) where
 module _ (words keys counts : List ℕ) (bound : ℕ) (fits : (p : ℕ) → get_or words p 0 < 2 ^ 64) (heads : AreHeads words keys counts bound) (short : length words ≤ 1024 * bound) where
   module _ (bytes : List ℕ) (is : IsPlainStream (stands_in words) bytes) where
     pub plain_length : length bytes ≡ start counts (length keys)
-    plain_length = length_same bytes is.are is.stream is.plain words keys counts bound fits heads short is.members
+    plain_length = length_same bytes is.are is.stream words keys counts bound fits heads short is.members is.plain
 
     count_is : container_count bytes ≡ length keys
-    count_is = count_same bytes is.are is.stream is.plain words keys counts bound fits heads short is.members
+    count_is = count_same bytes is.are is.stream words keys counts bound fits heads short is.members
 
     start_is : (k : ℕ) → k ≤ length keys → container_at bytes k ≡ start counts k
-    start_is = starts bytes is.are is.stream is.plain words keys counts bound fits heads short is.members
+    start_is = starts bytes is.are is.stream words keys counts bound fits heads short is.members is.plain
 
     cookie_is : u32_at bytes 0 ≡ 12346
     cookie_is = elim is.stream.cookie [ inl e ↦ e | inr e ↦ absurd (both_ways (has_runs bytes) is.plain (runs_from bytes e)) ]
@@ -363,31 +399,31 @@ module _ (words keys counts : List ℕ) (bound : ℕ) (fits : (p : ℕ) → get_
     unfolding key_of
     key_is k below =
         let c = count_is in
-        ap (λ p. u16_at bytes (p + 4 * k)) (sym (keys_without bytes is.plain)) ∙ key_same bytes is.are is.stream is.plain words keys counts bound fits heads short is.members k (omega (arith, c, below))
+        ap (λ p. u16_at bytes (p + 4 * k)) (sym (keys_without bytes is.plain)) ∙ key_same bytes is.are is.stream words keys counts bound fits heads short is.members k (omega (arith, c, below))
 
     cardinality_is : (k : ℕ) → k < length keys → u16_at bytes (8 + 4 * k + 2) + 1 ≡ get_or counts k 0
     unfolding cardinality_of
     cardinality_is k below =
         let c = count_is in
-        ap (λ p. u16_at bytes (p + 4 * k + 2) + 1) (sym (keys_without bytes is.plain)) ∙ cardinality_same bytes is.are is.stream is.plain words keys counts bound fits heads short is.members k (omega (arith, c, below))
+        ap (λ p. u16_at bytes (p + 4 * k + 2) + 1) (sym (keys_without bytes is.plain)) ∙ cardinality_same bytes is.are is.stream words keys counts bound fits heads short is.members k (omega (arith, c, below))
 
     count_of : (k : ℕ) → k < length keys → cardinality_of bytes k ≡ get_or counts k 0
-    count_of k below = let c = count_is in cardinality_same bytes is.are is.stream is.plain words keys counts bound fits heads short is.members k (omega (arith, c, below))
+    count_of k below = let c = count_is in cardinality_same bytes is.are is.stream words keys counts bound fits heads short is.members k (omega (arith, c, below))
 
     offset_is : (k : ℕ) → k < length keys → u32_at bytes (8 + 4 * length keys + 4 * k) ≡ start counts k
     offset_is k below =
         let c = count_is in
-        ap (λ p. u32_at bytes (p + 4 * k)) (sym (offsets_here bytes is.are is.stream is.plain words keys counts bound fits heads short is.members))
-        ∙ (is.stream.offsets (has_all_offsets bytes is.are is.stream is.plain words keys counts bound fits heads short is.members) k (omega (arith, c, below)) ∙ start_is k (omega (arith, below)))
+        ap (λ p. u32_at bytes (p + 4 * k)) (sym (offsets_here bytes is.are is.stream words keys counts bound fits heads short is.members is.plain))
+        ∙ (is.stream.offsets (has_all_offsets bytes is.are is.stream words keys counts bound fits heads short is.members is.plain) k (omega (arith, c, below)) ∙ start_is k (omega (arith, below)))
 
     -- the words of bits
     bits_are : (k : ℕ) → k < length keys → 4096 < get_or counts k 0 → (q : ℕ) → q < 1024 → u64_at bytes (start counts k + 8 * q) ≡ get_or words (1024 * get_or keys k 0 + q) 0
     bits_are k below large q within =
         let c = count_is in
         let n = count_of k below in
-        let key = key_same bytes is.are is.stream is.plain words keys counts bound fits heads short is.members k (omega (arith, c, below)) in
+        let key = key_same bytes is.are is.stream words keys counts bound fits heads short is.members k (omega (arith, c, below)) in
         ap (λ p. u64_at bytes (p + 8 * q)) (sym (start_is k (omega (arith, below))))
-        ∙ (word_same bytes is.are is.stream is.plain words keys counts bound fits heads short is.members k (omega (arith, c, below)) (omega (arith, n, large)) q within ∙ ap (λ x. get_or words (1024 * x + q) 0) key)
+        ∙ (word_same bytes is.are is.stream words keys counts bound fits heads short is.members k (omega (arith, c, below)) (no_run bytes is.plain k) (omega (arith, n, large)) q within ∙ ap (λ x. get_or words (1024 * x + q) 0) key)
 
     -- the numbers of an array ascend
     array_ascends : (k : ℕ) → k < length keys → get_or counts k 0 ≤ 4096 → Ascends (λ j. u16_at bytes (start counts k + 2 * j)) (get_or counts k 0)
@@ -395,7 +431,7 @@ module _ (words keys counts : List ℕ) (bound : ℕ) (fits : (p : ℕ) → get_
         let c = count_is in
         let n = count_of k below in
         let at = start_is k (omega (arith, below)) in
-        let up = (is.stream.containers k (omega (arith, c, below))).array (no_run bytes is.are is.stream is.plain k) (omega (arith, n, few)) in
+        let up = (is.stream.containers k (omega (arith, c, below))).array (no_run bytes is.plain k) (omega (arith, n, few)) in
         rw (← at, ← n) (record { step = up.ascending })
 
     array_members : (k : ℕ) → k < length keys → get_or counts k 0 ≤ 4096 → (v : ℕ) → v < 65536 → any_below (get_or counts k 0) (λ j. u16_at bytes (start counts k + 2 * j) == v) ≡ stands_in words (65536 * get_or keys k 0 + v)
@@ -405,10 +441,10 @@ module _ (words keys counts : List ℕ) (bound : ℕ) (fits : (p : ℕ) → get_
         let n = count_of k below in
         let within : k < container_count bytes = omega (arith, c, below) in
         let at = start_is k (omega (arith, below)) in
-        let key = key_same bytes is.are is.stream is.plain words keys counts bound fits heads short is.members k within in
+        let key = key_same bytes is.are is.stream words keys counts bound fits heads short is.members k within in
         ap (λ m. any_below m (λ j. u16_at bytes (start counts k + 2 * j) == v)) (sym n) ∙ (ap (λ p. any_below (cardinality_of bytes k) (λ j. u16_at bytes (p + 2 * j) == v)) (sym at)
-        ∙ (in_array_is bytes k (no_run bytes is.are is.stream is.plain k) (omega (arith, n, few)) v
-        ∙ (in_container_same bytes is.are is.stream is.plain words keys counts bound fits heads short is.members k v within small ∙ ap (λ x. stands_in words (65536 * x + v)) key)))
+        ∙ (in_array_is bytes k (no_run bytes is.plain k) (omega (arith, n, few)) v
+        ∙ (in_container_same bytes is.are is.stream words keys counts bound fits heads short is.members k v within small ∙ ap (λ x. stands_in words (65536 * x + v)) key)))
 
   module _ (a b : List ℕ) (first : IsPlainStream (stands_in words) a) (second : IsPlainStream (stands_in words) b) where
     -- the numbers of an array are those of the other stream's

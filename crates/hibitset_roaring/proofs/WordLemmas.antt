@@ -5,11 +5,11 @@ use Rattle.std.specs.Int.{bit_at, trailing_zeros}
 use Rattle.std.specs.Int.RustNames.{count_ones}
 use Rattle.std.proofs.lemmas.Bool.{cases_lt, cases_eq, le-leb, lt-leb, lt-ltb, le-ltb}
 use Rattle.std.proofs.lemmas.Nat.Bits.{bit_at-zero}
-use Rattle.hibitset_base.specs.Deciding.{eq_same, eq_other}
-use Rattle.hibitset_base.proofs.Masks.{takes_first}
-use Rattle.hibitset_base.proofs.Counting.{bits-count}
-use Rattle.hibitset_base.proofs.Left.{bits-first}
-use Rattle.hibitset.specs.Numbers.{stands_in}
+use Rattle.hibitset_base.specs.Decisions.{eq_same, eq_other}
+use Rattle.hibitset_base.proofs.MaskLemmas.{takes_first}
+use Rattle.hibitset_base.proofs.OneCountLemmas.{bits-count}
+use Rattle.hibitset_base.proofs.PlaceLemmas.{bits-first}
+use Rattle.hibitset.specs.WordBits.{stands_in}
 use Rattle.hibitset_roaring.specs.Words.{TakesLowest, in_word, ones_from}
 use Rattle.hibitset_roaring.proofs.TestLemmas.{and_false, or_false}
 
@@ -58,7 +58,7 @@ taken_word first bit old new v taken = elim (cases_lt v first) [
   ]
 ]
 
--- a word that is 0 has none
+-- a zero word has none
 pub no_word : (first v : ℕ) → in_word first 0 v ≡ false
 no_word first v =
     let z : (bit_at 0 (v - first) == 1) ≡ false = ap (λ x. x == 1) (bit_at-zero (v - first)) in

@@ -5,3 +5,6 @@ pub mod Headers
 pub mod Words
 pub mod Streams
 pub mod Transfers
+pub mod Runs
+pub mod RunStreams
+pub mod RunParts

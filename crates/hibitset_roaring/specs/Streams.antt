@@ -1,6 +1,6 @@
 -- What is known of the bytes of a stream while it is written.
 use Rattle.std.specs.Prelude.{◌≡◌, ℕ, zero, suc, ◌+◌, ◌*◌, ◌<◌, ◌≤◌, if◌then◌else◌, nat_le, List, get_or, length}
-use Rattle.hibitset.specs.Numbers.{stands_in}
+use Rattle.hibitset.specs.WordBits.{stands_in}
 use Rattle.hibitset_roaring.specs.Numbers.{u16_at, u32_at, ones_in}
 use Rattle.hibitset_roaring.specs.Format.{in_array, IsArray, in_bits}
 use Rattle.hibitset_roaring.specs.Words.{ones_under}

@@ -2,7 +2,7 @@
 use Rattle.std.specs.Prelude.{◌≡◌, ◌≢◌, ℕ, zero, suc, ◌+◌, ◌-◌, ◌*◌, ◌/◌, ◌%◌, ◌<◌, ◌≤◌, Bool, ◌==◌, ◌&&◌, ◌||◌, nat_le, nat_lt, List, get_or}
 use Rattle.std.specs.Int.{bit_at}
 use Rattle.std.specs.Int.RustNames.{count_ones}
-use Rattle.hibitset.specs.Numbers.{stands_in}
+use Rattle.hibitset.specs.WordBits.{stands_in}
 
 -- The new words have the bits of the old ones, and those of the numbers with these high bits whose low bits pass the
 -- test.
@@ -37,6 +37,6 @@ pub record IsRest (above : List ℕ) (key slot rest : ℕ) : Type 0 where
   pub upper : (b : ℕ) → slot % 64 < b → b < 64 → bit_at rest b ≡ bit_at (get_or above (16 * key + slot / 64) 0) b
   pub lower : (b : ℕ) → b ≤ slot % 64 → bit_at rest b ≡ 0
 
--- Over each word that is not 0 the bit of layer 1 is set.
+-- Over each nonzero word the bit of layer 1 is set.
 pub record AreSummaries (words above : List ℕ) : Type 0 where
   pub bits : (p : ℕ) → 0 < get_or words p 0 → bit_at (get_or above (p / 64) 0) (p % 64) ≡ 1

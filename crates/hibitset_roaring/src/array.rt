@@ -2,7 +2,7 @@
 
 ghost use Rattle.std.specs.Prelude.{◌≡◌, ℕ, ◌+◌, ◌-◌, ◌*◌, ◌^◌, ◌<◌, ◌≤◌, ◌||◌, ◌&&◌, nat_lt, length};
 ghost use Rattle.std.specs.Int.RustNames.{count_ones};
-ghost use Rattle.hibitset.specs.Numbers.{stands_in};
+ghost use Rattle.hibitset.specs.WordBits.{stands_in};
 ghost use Rattle.hibitset_roaring.specs.Numbers.{u16_at};
 ghost use Rattle.hibitset_roaring.specs.Format.{in_array, IsArray};
 ghost use Rattle.hibitset_roaring.specs.Streams.{SameBefore};
@@ -20,10 +20,12 @@ fn write_word(out: &mut [u8], at: usize, len: usize, first: usize, word: usize) 
     requires first { first + 64 ≤ 65536 }
     ensures len { result ≡ len + count_ones word }
     ensures before { SameBefore (at + 2 * len) out.old out.new }
-    ensures members { (v : ℕ) → in_array out.new at result v ≡ (in_array out.old at len v || in_word first word v) }
+    ensures members { (v : ℕ) → in_array out.new at result v
+        ≡ (in_array out.old at len v || in_word first word v) }
     ensures low { (i : ℕ) → len ≤ i → i < result → first ≤ u16_at out.new (at + 2 * i) }
     ensures high { (i : ℕ) → len ≤ i → i < result → u16_at out.new (at + 2 * i) < first + 64 }
-    ensures ascending { (i : ℕ) → len ≤ i → i + 1 < result → u16_at out.new (at + 2 * i) < u16_at out.new (at + 2 * (i + 1)) }
+    ensures ascending { (i : ℕ) → len ≤ i → i + 1 < result
+        → u16_at out.new (at + 2 * i) < u16_at out.new (at + 2 * (i + 1)) }
 {
     let mut end = len;
     let mut rest = word;
@@ -42,7 +44,8 @@ pub(crate) fn write_array(out: &mut [u8], at: usize, words: &[usize], above: &[u
     requires above { AreSummaries words.now above.now }
     ensures before { SameBefore at out.old out.new }
     ensures array { IsArray out.new at (ones_under words.now key) }
-    ensures members { (v : ℕ) → v < 65536 → in_array out.new at (ones_under words.now key) v ≡ stands_in words.now (65536 * key + v) }
+    ensures members { (v : ℕ) → v < 65536
+        → in_array out.new at (ones_under words.now key) v ≡ stands_in words.now (65536 * key + v) }
 {
     let base = CONTAINER_WORDS * key;
     let mut len = 0;

@@ -10,7 +10,7 @@ ghost use Rattle.hibitset_roaring.specs.Headers.{IsHeader};
 
 use crate::error::{Fault, Malformed, ReadError};
 use crate::header::{CONTAINER_NUMBERS, Header};
-use crate::layout::{CONTAINER_WORDS, MOST_IN_ARRAY};
+use crate::layout::{CONTAINER_WORDS, MAX_ARRAY_LEN};
 use crate::number::{read_u16, read_u64};
 use crate::slots::CONTAINER_BLOCKS;
 use crate::words::{lengthen, set_bit, set_range};
@@ -32,7 +32,8 @@ fn read_array(
     requires room { 1024 * (key + 1) ≤ length words.old }
     ensures array { OnOk result (IsArray bytes.now at len) }
     ensures members { OnOk result (Adds key (in_array bytes.now at len) words.old words.new) }
-    ensures fault { IfErr result (λ m. (m.fault ≡ faults.NotAscending) × IsLowNumber bytes.now at len m.at) }
+    ensures fault { IfErr result (λ m. (m.fault ≡ faults.NotAscending)
+        × IsLowNumber bytes.now at len m.at) }
 {
     let mut next = 0;
     'numbers: for j in 0..len {
@@ -53,9 +54,12 @@ fn read_array(
 fn append_block(bytes: &[u8], at: usize, words: &mut Vec<usize>) -> Result<usize, AllocError>
     requires { at + 512 ≤ length bytes.now }
     ensures length { OnOk result (length words.new.items ≡ length words.old.items + 64) }
-    ensures before { OnOk result ((p : ℕ) → p < length words.old.items → get_or words.new.items p 0 ≡ get_or words.old.items p 0) }
-    ensures here { OnOk result ((q : ℕ) → q < 64 → get_or words.new.items (length words.old.items + q) 0 ≡ u64_at bytes.now (at + 8 * q)) }
-    ensures count { IfOk result (λ ones. (from n : ℕ) → from + 8 * n ≡ at → ones_in bytes.now from (n + 64) ≡ ones_in bytes.now from n + ones) }
+    ensures before { OnOk result ((p : ℕ) → p < length words.old.items
+        → get_or words.new.items p 0 ≡ get_or words.old.items p 0) }
+    ensures here { OnOk result ((q : ℕ) → q < 64
+        → get_or words.new.items (length words.old.items + q) 0 ≡ u64_at bytes.now (at + 8 * q)) }
+    ensures count { IfOk result (λ ones. (from n : ℕ) → from + 8 * n ≡ at
+        → ones_in bytes.now from (n + 64) ≡ ones_in bytes.now from n + ones) }
     ensures few { IfOk result (λ ones. ones ≤ 4096) }
 {
     let mut block = [0; BLOCK_WORDS];
@@ -73,7 +77,8 @@ fn append_block(bytes: &[u8], at: usize, words: &mut Vec<usize>) -> Result<usize
 fn append_bits(bytes: &[u8], at: usize, words: &mut Vec<usize>) -> Result<usize, AllocError>
     requires { at + 8192 ≤ length bytes.now }
     ensures length { OnOk result (length words.new.items ≡ length words.old.items + 1024) }
-    ensures members { OnOk result ((key : ℕ) → length words.old.items ≡ 1024 * key → Adds key (in_bits bytes.now at) words.old.items words.new.items) }
+    ensures members { OnOk result ((key : ℕ) → length words.old.items ≡ 1024 * key
+        → Adds key (in_bits bytes.now at) words.old.items words.new.items) }
     ensures count { IfOk result (λ ones. ones ≡ ones_in bytes.now at 1024) }
 {
     let mut ones = 0;
@@ -90,10 +95,14 @@ fn read_runs(bytes: &[u8], at: usize, words: &mut [usize], key: usize) -> Result
     requires key { key < 65536 }
     requires room { 1024 * (key + 1) ≤ length words.old }
     ensures total { IfOk result (λ total. total ≡ run_total bytes.now at (run_count bytes.now at)) }
-    ensures apart { OnOk result ((r : ℕ) → r + 1 < run_count bytes.now at → run_last bytes.now at r + 1 < run_first bytes.now at (r + 1)) }
-    ensures inside { OnOk result ((r : ℕ) → r < run_count bytes.now at → run_last bytes.now at r < 65536) }
+    ensures apart { OnOk result ((r : ℕ) → r + 1 < run_count bytes.now at
+        → run_last bytes.now at r + 1 < run_first bytes.now at (r + 1)) }
+    ensures inside { OnOk result ((r : ℕ) → r < run_count bytes.now at
+        → run_last bytes.now at r < 65536) }
     ensures members { OnOk result (Adds key (in_runs bytes.now at) words.old words.new) }
-    ensures fault { IfErr result (λ m. ((m.fault ≡ faults.RunsNotApart) × IsCloseRun bytes.now at m.at) ⊎ ((m.fault ≡ faults.RunPastEnd) × IsLongRun bytes.now at m.at)) }
+    ensures fault { IfErr result (λ m.
+        ((m.fault ≡ faults.RunsNotApart) × IsCloseRun bytes.now at m.at)
+        ⊎ ((m.fault ≡ faults.RunPastEnd) × IsLongRun bytes.now at m.at)) }
 {
     let count = read_u16(bytes, at);
     let mut next = 0;
@@ -128,7 +137,8 @@ fn read_runs(bytes: &[u8], at: usize, words: &mut [usize], key: usize) -> Result
 // Checks that a container has as many members as the header says.
 fn check_count(count: usize, cardinality: usize, at: usize) -> Result<(), Malformed>
     ensures same { OnOk result (count ≡ cardinality) }
-    ensures fault { IfErr result (λ m. (m.fault ≡ faults.WrongCardinality) × (m.at ≡ at) × (count ≢ cardinality)) }
+    ensures fault { IfErr result (λ m. (m.fault ≡ faults.WrongCardinality) × (m.at ≡ at)
+        × (count ≢ cardinality)) }
 {
     if count == cardinality {
         Ok(())
@@ -153,7 +163,11 @@ fn read_runs_of(
     requires room { 1024 * (key + 1) ≤ length words.old }
     ensures runs { OnOk result (AreRuns bytes.now at cardinality) }
     ensures members { OnOk result (Adds key (in_runs bytes.now at) words.old words.new) }
-    ensures fault { IfErr result (λ m. ((m.fault ≡ faults.RunsNotApart) × IsCloseRun bytes.now at m.at) ⊎ ((m.fault ≡ faults.RunPastEnd) × IsLongRun bytes.now at m.at) ⊎ ((m.fault ≡ faults.WrongCardinality) × (m.at ≡ at) × (run_total bytes.now at (run_count bytes.now at) ≢ cardinality))) }
+    ensures fault { IfErr result (λ m.
+        ((m.fault ≡ faults.RunsNotApart) × IsCloseRun bytes.now at m.at)
+        ⊎ ((m.fault ≡ faults.RunPastEnd) × IsLongRun bytes.now at m.at)
+        ⊎ ((m.fault ≡ faults.WrongCardinality) × (m.at ≡ at)
+        × (run_total bytes.now at (run_count bytes.now at) ≢ cardinality))) }
 {
     let total = read_runs(bytes, at, words, key)?;
     check_count(total, cardinality, at)
@@ -174,7 +188,8 @@ fn read_numbers(
     requires numbers { is_run bytes.now k ≡ false → cardinality_of bytes.now k ≤ 4096 }
     requires room { 1024 * (key_of bytes.now k + 1) ≤ length words.old }
     ensures container { OnOk result (IsContainer bytes.now k) }
-    ensures members { OnOk result (Adds (key_of bytes.now k) (in_container bytes.now k) words.old words.new) }
+    ensures members { OnOk result (Adds (key_of bytes.now k) (in_container bytes.now k) words.old
+        words.new) }
     ensures fault { IfErr result (λ m. (end : ℕ) → IsFault bytes.now end m.fault m.at) }
 {
     let key = header.key(bytes, k);
@@ -200,12 +215,13 @@ pub(crate) fn read_container(
     requires order { length words.old.items ≤ 1024 * key_of bytes.now k }
     ensures container { OnOk result (IsContainer bytes.now k) }
     ensures length { OnOk result (length words.new.items ≡ 1024 * (key_of bytes.now k + 1)) }
-    ensures members { OnOk result (Adds (key_of bytes.now k) (in_container bytes.now k) words.old.items words.new.items) }
+    ensures members { OnOk result (Adds (key_of bytes.now k) (in_container bytes.now k)
+        words.old.items words.new.items) }
     ensures reason { IfErr result (λ error. (end : ℕ) → IsReason bytes.now end error) }
 {
     let key = header.key(bytes, k);
     let cardinality = header.cardinality(bytes, k);
-    if header.is_run(bytes, k) || cardinality <= MOST_IN_ARRAY {
+    if header.is_run(bytes, k) || cardinality <= MAX_ARRAY_LEN {
         lengthen(words, CONTAINER_WORDS * (key + 1))?;
         return Ok(read_numbers(bytes, header, k, at, words)?);
     }

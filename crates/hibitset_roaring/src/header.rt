@@ -16,7 +16,7 @@ pub(crate) const NO_RUNS: usize = 12346;
 pub(crate) const RUNS: usize = 12347;
 
 // A stream with runs has offsets if it has at least this many containers.
-const LEAST_WITH_OFFSETS: usize = 4;
+pub(crate) const LEAST_WITH_OFFSETS: usize = 4;
 
 // How many containers there are at most, and how many numbers each has at most.
 pub(crate) const CONTAINER_NUMBERS: usize = 65536;
@@ -70,7 +70,7 @@ fn read_count(bytes: &[u8]) -> Result<(bool, usize), Malformed>
 }
 
 // Where the keys begin.
-fn keys_after(runs: bool, count: usize) -> usize
+pub(crate) fn keys_after(runs: bool, count: usize) -> usize
     requires { count ≤ 65536 }
     ensures { result ≡ (if runs then 4 + (count + 7) / 8 else 8) }
 {
@@ -78,14 +78,14 @@ fn keys_after(runs: bool, count: usize) -> usize
 }
 
 // Whether there are offsets.
-fn offsets_are(runs: bool, count: usize) -> bool
+pub(crate) fn offsets_are(runs: bool, count: usize) -> bool
     ensures { result ≡ (not runs || nat_le 4 count) }
 {
     !runs || count >= LEAST_WITH_OFFSETS
 }
 
 // Where the first container begins.
-fn first_after(offsets: bool, keys: usize, count: usize) -> usize
+pub(crate) fn first_after(offsets: bool, keys: usize, count: usize) -> usize
     requires count { count ≤ 65536 }
     requires keys { keys ≤ 65536 }
     ensures { result ≡ (if offsets then keys + 4 * count + 4 * count else keys + 4 * count) }
@@ -165,7 +165,8 @@ impl Header {
         requires header { IsHeader bytes.now self.now }
         requires within { k < self.now.count }
         requires at { at ≡ container_at bytes.now k }
-        ensures ok { OnOk result (has_offsets bytes.now ≡ true → u32_at bytes.now (offsets_at bytes.now + 4 * k) ≡ at) }
+        ensures ok { OnOk result (has_offsets bytes.now ≡ true
+            → u32_at bytes.now (offsets_at bytes.now + 4 * k) ≡ at) }
         ensures fault { IfErr result (λ m. (end : ℕ) → IsFault bytes.now end m.fault m.at) }
     {
         if !self.offsets {
@@ -185,10 +186,12 @@ impl Header {
     // Checks that the keys ascend and lie below `end`, and returns the number after the last.
     pub(crate) fn check_keys(&self, bytes: &[u8], end: usize) -> Result<usize, Malformed>
         requires header { IsHeader bytes.now self.now }
-        ensures ascending { OnOk result ((k : ℕ) → k + 1 < container_count bytes.now → key_of bytes.now k < key_of bytes.now (k + 1)) }
+        ensures ascending { OnOk result ((k : ℕ) → k + 1 < container_count bytes.now
+            → key_of bytes.now k < key_of bytes.now (k + 1)) }
         ensures below { IfOk result (λ next. HasKeysBelow bytes.now next) }
         ensures few { IfOk result (λ next. next ≤ end) }
-        ensures least { IfOk result (λ next. (bound : ℕ) → HasKeysBelow bytes.now bound → next ≤ bound) }
+        ensures least { IfOk result (λ next. (bound : ℕ) → HasKeysBelow bytes.now bound
+            → next ≤ bound) }
         ensures fault { IfErr result (λ m. IsFault bytes.now end m.fault m.at) }
     {
         let mut next = 0;

@@ -8,7 +8,7 @@ use crate::layout::CONTAINER_WORDS;
 use crate::slots::{CONTAINER_BLOCKS, next_slot, rest_over, slot_after, word_of};
 use std::alloc::{AllocError, Global};
 
-// From this many words that are not 0 on, all words of a container are counted.
+// From this many nonzero words on, all words of a container are counted.
 const MANY_WORDS: usize = 256;
 
 /// The keys of the containers of a set, and how many members each has.
@@ -81,7 +81,8 @@ impl Heads {
         requires key { key < 65536 }
         requires above { AreSummaries words.now above.now }
         requires heads { AreHeads words.now self.old.keys.items self.old.counts.items key }
-        ensures { OnOk result (AreHeads words.now self.new.keys.items self.new.counts.items (key + 1)) }
+        ensures { OnOk result (AreHeads words.now self.new.keys.items self.new.counts.items
+            (key + 1)) }
     {
         let count = count_under(words, above, key);
         if count == 0 {
@@ -96,7 +97,8 @@ impl Heads {
     pub(crate) fn of(alloc: Global, words: &[usize], above: &[usize]) -> Result<Heads, AllocError>
         requires short { length words.now ≤ 16777216 }
         requires above { AreSummaries words.now above.now }
-        ensures { IfOk result (λ heads. AreHeads words.now heads.keys.items heads.counts.items ((length words.now + 1023) / 1024)) }
+        ensures { IfOk result (λ heads. AreHeads words.now heads.keys.items heads.counts.items
+            ((length words.now + 1023) / 1024)) }
     {
         let mut heads = Heads {
             keys: Vec::new(alloc),

@@ -43,7 +43,8 @@ pub fn read_from<R: Read>(
 ) -> Result<BitSet, ReadFromError>
     requires { end ≤ KEYS }
     ensures stream { OnOk result (IfSome (R.remaining reader.old) IsStream) }
-    ensures below { OnOk result (IfSome (R.remaining reader.old) (λ bytes. HasKeysBelow bytes end)) }
+    ensures below { OnOk result (IfSome (R.remaining reader.old)
+        (λ bytes. HasKeysBelow bytes end)) }
     ensures members { IfOk result (λ set. IfSome (R.remaining reader.old)
         (λ bytes. (i : ℕ) → has set i ≡ holds bytes i)) }
     ensures length { IfOk result (λ set. slice_len set 0 ≤ CONTAINER_WORDS * end) }
@@ -52,7 +53,8 @@ pub fn read_from<R: Read>(
         (λ bytes. IsFromReason bytes end error)) }
     ensures accepts { IfErr result (λ error. IfSome (R.remaining reader.old)
         (λ bytes. IsStream bytes → HasKeysBelow bytes end → IsOutside error)) }
-    ensures front { GivesFront (longest_below end + CHUNK) (R.remaining reader.old) (R.remaining reader.new) }
+    ensures front { GivesFront (longest_below end + CHUNK) (R.remaining reader.old)
+        (R.remaining reader.new) }
 {
     let bytes = read_all(alloc, reader, LONGEST_START + LONGEST_CONTAINER * end)?;
     Ok(read_below(alloc, &bytes, end)?)
@@ -60,7 +62,8 @@ pub fn read_from<R: Read>(
 
 // All bytes of a reader, unless they are more than `most`.
 fn read_all<R: Read>(alloc: Global, reader: &mut R, most: usize) -> Result<Vec<u8>, ReadFromError>
-    ensures bytes { IfOk result (λ input. IfSome (R.remaining reader.old) (λ bytes. input.items ≡ bytes)) }
+    ensures bytes { IfOk result (λ input. IfSome (R.remaining reader.old)
+        (λ bytes. input.items ≡ bytes)) }
     ensures end { OnOk result (IsAtEnd (R.remaining reader.new)) }
     ensures reason { IfErr result (IsInputReason (R.remaining reader.old) most) }
     ensures front { GivesFront (most + CHUNK) (R.remaining reader.old) (R.remaining reader.new) }
@@ -78,7 +81,7 @@ fn read_all<R: Read>(alloc: Global, reader: &mut R, most: usize) -> Result<Vec<u
     Err(ReadFromError::Io(io::Error::other("each read was interrupted")))
 }
 
-// Reads once, and tells whether the reader has ended.
+// Reads once, and returns whether the reader has ended.
 fn read_some<R: Read>(reader: &mut R, input: &mut Vec<u8>) -> Result<bool, ReadFromError>
     ensures bytes { OnOk result ((bytes : List ℕ) × (input.new.items ≡ input.old.items ++ bytes)
         × Consumes (R.remaining reader.old) (R.remaining reader.new) bytes) }

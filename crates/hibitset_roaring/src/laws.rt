@@ -6,6 +6,7 @@ ghost use Rattle.hibitset_roaring.specs.declared.error.ReadError.TheVariants as 
 
 use crate::error::ReadError;
 use crate::reader::read;
+use crate::run_writer::write_run_optimized;
 use crate::writer::write;
 use hibitset::BitSet;
 use std::alloc::Global;
@@ -16,5 +17,15 @@ pub fn round_trip(alloc: Global, set: &BitSet) -> Result<BitSet, ReadError>
     ensures reason { IfErr result (λ error. error ≡ errors.Memory) }
 {
     let bytes = write(alloc, set)?;
+    read(alloc, &bytes)
+}
+
+/// A set, written with runs where these are shorter and read again: it has the same members, and fails only if an
+/// allocation does.
+pub fn round_trip_optimized(alloc: Global, set: &BitSet) -> Result<BitSet, ReadError>
+    ensures members { IfOk result (λ copy. (i : ℕ) → has copy i ≡ has set.now i) }
+    ensures reason { IfErr result (λ error. error ≡ errors.Memory) }
+{
+    let bytes = write_run_optimized(alloc, set)?;
     read(alloc, &bytes)
 }

@@ -11,7 +11,7 @@ use crate::header::Header;
 use crate::number::read_u16;
 
 /// How many members an array has at most.
-pub(crate) const MOST_IN_ARRAY: usize = 4096;
+pub(crate) const MAX_ARRAY_LEN: usize = 4096;
 
 /// How many words the bits of a container are.
 pub const CONTAINER_WORDS: usize = 1024;
@@ -23,7 +23,7 @@ pub(crate) fn flat_size(cardinality: usize) -> usize
     ensures small { cardinality ≤ 4096 → result ≡ 2 * cardinality }
     ensures large { 4096 < cardinality → result ≡ 8192 }
 {
-    if cardinality <= MOST_IN_ARRAY {
+    if cardinality <= MAX_ARRAY_LEN {
         2 * cardinality
     } else {
         8 * CONTAINER_WORDS
@@ -73,7 +73,8 @@ impl Header {
         requires which { k < self.now.count }
         requires at { at ≡ container_at bytes.now k }
         requires within { at ≤ length bytes.now }
-        ensures offset { OnOk result (has_offsets bytes.now ≡ true → u32_at bytes.now (offsets_at bytes.now + 4 * k) ≡ container_at bytes.now k) }
+        ensures offset { OnOk result (has_offsets bytes.now ≡ true
+            → u32_at bytes.now (offsets_at bytes.now + 4 * k) ≡ container_at bytes.now k) }
         ensures end { IfOk result (λ end. end ≡ container_at bytes.now (k + 1)) }
         ensures within { IfOk result (λ end. end ≤ length bytes.now) }
         ensures fault { IfErr result (λ m. (end : ℕ) → IsFault bytes.now end m.fault m.at) }
@@ -92,8 +93,11 @@ impl Header {
     // Checks that the containers begin where the offsets say, and that the bytes end with the last.
     pub(crate) fn check_layout(&self, bytes: &[u8]) -> Result<(), Malformed>
         requires { IsHeader bytes.now self.now }
-        ensures offsets { OnOk result (has_offsets bytes.now ≡ true → (k : ℕ) → k < container_count bytes.now → u32_at bytes.now (offsets_at bytes.now + 4 * k) ≡ container_at bytes.now k) }
-        ensures whole { OnOk result (container_at bytes.now (container_count bytes.now) ≡ length bytes.now) }
+        ensures offsets { OnOk result (has_offsets bytes.now ≡ true → (k : ℕ)
+            → k < container_count bytes.now
+            → u32_at bytes.now (offsets_at bytes.now + 4 * k) ≡ container_at bytes.now k) }
+        ensures whole { OnOk result (container_at bytes.now (container_count bytes.now)
+            ≡ length bytes.now) }
         ensures fault { IfErr result (λ m. (end : ℕ) → IsFault bytes.now end m.fault m.at) }
     {
         let mut at = self.first;

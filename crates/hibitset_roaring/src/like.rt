@@ -15,7 +15,8 @@ use std::alloc::{AllocError, Global};
 /// It makes a `BitSet` of the set first, by whole words, which takes 8,192 bytes for each 65,536 numbers up to the last
 /// member, and a sixty-third more. The error is a failed allocation. For a `BitSet` itself, `write` makes no copy.
 pub fn write_like<T: BitSetLike>(alloc: Global, set: &T) -> Result<Vec<u8>, AllocError>
-    ensures stream { IfOk result (λ out. IsCanonicalStream (is_member (T.holds set.now)) out.items) }
+    ensures stream { IfOk result (λ out. IsCanonicalStream (is_member (T.holds set.now))
+        out.items) }
     ensures below { IfOk result (λ out. HasKeysBelow out.items KEYS) }
 {
     let mut copy = BitSet::new(alloc);

@@ -1,6 +1,6 @@
 //! Numbers in bytes, the lowest byte first.
 
-ghost use Rattle.std.specs.Prelude.{◌≡◌, ◌+◌, ◌<◌, ◌≤◌, ◌^◌, length};
+ghost use Rattle.std.specs.Prelude.{◌≡◌, ◌+◌, ◌<◌, ◌≤◌, ◌^◌, get_or, length};
 ghost use Rattle.hibitset_roaring.specs.Numbers.{u16_at, u32_at, u64_at};
 ghost use Rattle.hibitset_roaring.specs.Streams.{SameBefore};
 
@@ -43,6 +43,17 @@ pub(crate) fn read_u64(bytes: &[u8], at: usize) -> usize
         bytes[at + 6],
         bytes[at + 7],
     ])
+}
+
+// Writes a number in a byte.
+#[inline]
+pub(crate) fn put_u8(out: &mut [u8], at: usize, number: usize)
+    requires room { at < length out.old }
+    requires small { number < 256 }
+    ensures here { get_or out.new at 0 ≡ number }
+    ensures before { SameBefore at out.old out.new }
+{
+    out[at] = number as u8;
 }
 
 // Writes a number in two bytes.

@@ -22,7 +22,8 @@ pub fn write_into<W: Write>(alloc: Global, set: &BitSet, writer: &mut W) -> io::
     ensures stream { OnOk result
         (Writes (IsCanonicalStream (has set.now)) (W.contents writer.old) (W.contents writer.new)) }
     ensures below { OnOk result
-        (Writes (λ bytes. HasKeysBelow bytes KEYS) (W.contents writer.old) (W.contents writer.new)) }
+        (Writes (λ bytes. HasKeysBelow bytes KEYS) (W.contents writer.old)
+        (W.contents writer.new)) }
     ensures err { OnErr result ((bytes : List ℕ) → IsPlainStream (has set.now) bytes
         → WritesFront (W.contents writer.old) (W.contents writer.new) bytes) }
 {
@@ -35,7 +36,8 @@ pub fn write_into<W: Write>(alloc: Global, set: &BitSet, writer: &mut W) -> io::
 // `write_all` does not say what it wrote before it failed.
 fn put_bytes<W: Write>(writer: &mut W, bytes: &[u8]) -> io::Result<()>
     ensures ok { OnOk result (Appends (W.contents writer.old) (W.contents writer.new) bytes.now) }
-    ensures err { OnErr result (WritesFront (W.contents writer.old) (W.contents writer.new) bytes.now) }
+    ensures err { OnErr result (WritesFront (W.contents writer.old) (W.contents writer.new)
+        bytes.now) }
 {
     let mut rest = bytes;
     'rounds: for _round in 0..u64::MAX {

@@ -2,7 +2,7 @@
 
 ghost use Rattle.std.specs.Prelude.{◌≡◌, ℕ, ◌+◌, ◌*◌, ◌/◌, ◌%◌, ◌^◌, ◌<◌, ◌≤◌, ◌==◌, ◌||◌, ◌&&◌, true, false, [], get_or, length, IfOk, OnOk, IfErr};
 ghost use Rattle.hibitset.specs.BitSet.{has, slice_len};
-ghost use Rattle.hibitset.specs.Numbers.{stands_in};
+ghost use Rattle.hibitset.specs.WordBits.{stands_in};
 ghost use Rattle.hibitset_roaring.specs.Numbers.{u32_at, any_below};
 ghost use Rattle.hibitset_roaring.specs.Format.{container_count, key_of, has_offsets, offsets_at, container_at, in_container, holds, IsContainer, IsStream, HasKeysBelow};
 ghost use Rattle.hibitset_roaring.specs.Faults.{IsFault, IsReason};
@@ -22,11 +22,14 @@ use std::alloc::Global;
 fn read_containers(bytes: &[u8], header: &Header, words: &mut Vec<usize>) -> Result<(), ReadError>
     requires header { IsHeader bytes.now header.now }
     requires whole { container_at bytes.now (container_count bytes.now) ≡ length bytes.now }
-    requires ascending { (k : ℕ) → k + 1 < container_count bytes.now → key_of bytes.now k < key_of bytes.now (k + 1) }
+    requires ascending { (k : ℕ) → k + 1 < container_count bytes.now
+        → key_of bytes.now k < key_of bytes.now (k + 1) }
     requires empty { words.old.items ≡ [] }
-    ensures containers { OnOk result ((k : ℕ) → k < container_count bytes.now → IsContainer bytes.now k) }
+    ensures containers { OnOk result ((k : ℕ) → k < container_count bytes.now
+        → IsContainer bytes.now k) }
     ensures members { OnOk result ((i : ℕ) → stands_in words.new.items i ≡ holds bytes.now i) }
-    ensures least { OnOk result ((bound : ℕ) → HasKeysBelow bytes.now bound → length words.new.items ≤ 1024 * bound) }
+    ensures least { OnOk result ((bound : ℕ) → HasKeysBelow bytes.now bound
+        → length words.new.items ≤ 1024 * bound) }
     ensures reason { IfErr result (λ error. (end : ℕ) → IsReason bytes.now end error) }
 {
     let mut at = header.first;
@@ -51,9 +54,11 @@ pub fn read_below(alloc: Global, bytes: &[u8], end: usize) -> Result<BitSet, Rea
     ensures below { OnOk result (HasKeysBelow bytes.now end) }
     ensures members { IfOk result (λ set. (i : ℕ) → has set i ≡ holds bytes.now i) }
     ensures length { IfOk result (λ set. slice_len set 0 ≤ CONTAINER_WORDS * end) }
-    ensures least { IfOk result (λ set. (bound : ℕ) → HasKeysBelow bytes.now bound → slice_len set 0 ≤ CONTAINER_WORDS * bound) }
+    ensures least { IfOk result (λ set. (bound : ℕ) → HasKeysBelow bytes.now bound
+        → slice_len set 0 ≤ CONTAINER_WORDS * bound) }
     ensures reason { IfErr result (λ error. IsReason bytes.now end error) }
-    ensures accepts { IsStream bytes.now → HasKeysBelow bytes.now end → IfErr result (λ error. error ≡ errors.Memory) }
+    ensures accepts { IsStream bytes.now → HasKeysBelow bytes.now end
+        → IfErr result (λ error. error ≡ errors.Memory) }
 {
     let header = Header::read(bytes)?;
     let keys = header.check_keys(bytes, end)?;
@@ -69,9 +74,11 @@ pub fn read(alloc: Global, bytes: &[u8]) -> Result<BitSet, ReadError>
     ensures stream { OnOk result (IsStream bytes.now) }
     ensures below { OnOk result (HasKeysBelow bytes.now KEYS) }
     ensures members { IfOk result (λ set. (i : ℕ) → has set i ≡ holds bytes.now i) }
-    ensures least { IfOk result (λ set. (bound : ℕ) → HasKeysBelow bytes.now bound → slice_len set 0 ≤ CONTAINER_WORDS * bound) }
+    ensures least { IfOk result (λ set. (bound : ℕ) → HasKeysBelow bytes.now bound
+        → slice_len set 0 ≤ CONTAINER_WORDS * bound) }
     ensures reason { IfErr result (λ error. IsReason bytes.now KEYS error) }
-    ensures accepts { IsStream bytes.now → HasKeysBelow bytes.now KEYS → IfErr result (λ error. error ≡ errors.Memory) }
+    ensures accepts { IsStream bytes.now → HasKeysBelow bytes.now KEYS
+        → IfErr result (λ error. error ≡ errors.Memory) }
 {
     read_below(alloc, bytes, KEYS)
 }

@@ -31,11 +31,12 @@ pub(crate) fn take_lowest(word: &mut usize) -> usize
 
 // The lowest bit that is set in a word, from one on; or 64.
 #[inline]
-fn next_bit(word: usize, from: usize) -> usize
+pub(crate) fn next_bit(word: usize, from: usize) -> usize
     requires { from < 64 }
     ensures order { from ≤ result }
     ensures within { result ≤ 64 }
     ensures skips { (b : ℕ) → from ≤ b → b < result → bit_at word b ≡ 0 }
+    ensures found { result < 64 → bit_at word result ≡ 1 }
 {
     let rest = word >> from;
     if rest == 0 {
@@ -52,7 +53,8 @@ pub(crate) fn next_slot(above: &[usize], key: usize, from: usize) -> usize
     requires from { from ≤ 1024 }
     ensures order { from ≤ result }
     ensures within { result ≤ 1024 }
-    ensures skips { (words : List ℕ) → AreSummaries words above.now → (q : ℕ) → from ≤ q → q < result → get_or words (1024 * key + q) 0 ≡ 0 }
+    ensures skips { (words : List ℕ) → AreSummaries words above.now → (q : ℕ) → from ≤ q
+        → q < result → get_or words (1024 * key + q) 0 ≡ 0 }
 {
     let mut slot = from;
     'slots: while slot < CONTAINER_WORDS {
@@ -85,7 +87,8 @@ pub(crate) fn slot_after(above: &[usize], key: usize, slot: usize, rest: &mut us
     requires rest { IsRest above.now key slot rest.old }
     ensures order { slot < result }
     ensures within { result ≤ 1024 }
-    ensures skips { (words : List ℕ) → AreSummaries words above.now → (q : ℕ) → slot + 1 ≤ q → q < result → get_or words (1024 * key + q) 0 ≡ 0 }
+    ensures skips { (words : List ℕ) → AreSummaries words above.now → (q : ℕ) → slot + 1 ≤ q
+        → q < result → get_or words (1024 * key + q) 0 ≡ 0 }
     ensures rest { IsRest above.now key result rest.new }
 {
     let block = slot / 64;

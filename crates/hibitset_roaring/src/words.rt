@@ -3,12 +3,12 @@
 ghost use Rattle.std.specs.Prelude.{◌≡◌, ℕ, ◌+◌, ◌*◌, ◌/◌, ◌^◌, ◌<◌, ◌≤◌, ◌==◌, ◌||◌, nat_lt, length, OnOk};
 ghost use Rattle.std.specs.Int.{bit_at};
 ghost use Rattle.hibitset_base.specs.Sets.{bit_of};
-ghost use Rattle.hibitset.specs.Numbers.{stands_in, in_range};
+ghost use Rattle.hibitset.specs.WordBits.{stands_in, in_range};
 
 use hibitset_base::bits::with_bit;
 use std::alloc::AllocError;
 
-// Puts words that are 0 behind others, up to a length.
+// Puts zero words behind others, up to a length.
 pub(crate) fn lengthen(words: &mut Vec<usize>, len: usize) -> Result<(), AllocError>
     requires { length words.old.items ≤ len }
     ensures same { (i : ℕ) → stands_in words.new.items i ≡ stands_in words.old.items i }
@@ -67,7 +67,8 @@ fn set_some(words: &mut [usize], start: usize, end: usize)
 fn fill(words: &mut [usize], from: usize, to: usize)
     requires order { from ≤ to }
     requires room { to ≤ length words.old }
-    ensures { (i : ℕ) → stands_in words.new i ≡ (stands_in words.old i || in_range (64 * from) (64 * to) i) }
+    ensures { (i : ℕ) → stands_in words.new i
+        ≡ (stands_in words.old i || in_range (64 * from) (64 * to) i) }
 {
     'slots: for slot in from..to {
         words[slot] = usize::MAX;

@@ -2,7 +2,7 @@
 
 ghost use Rattle.std.specs.Prelude.{◌≡◌, ℕ, ◌+◌, ◌-◌, ◌*◌, ◌/◌, ◌^◌, ◌<◌, ◌≤◌, List, drop, get_or, length, take, vec_len, IfOk, OnOk, OnErr};
 ghost use Rattle.hibitset.specs.BitSet.{has};
-ghost use Rattle.hibitset.specs.Numbers.{stands_in};
+ghost use Rattle.hibitset.specs.WordBits.{stands_in};
 ghost use Rattle.hibitset_roaring.specs.Numbers.{u16_at, u32_at, u64_at, ones_in};
 ghost use Rattle.hibitset_roaring.specs.Format.{in_bits, holds, IsStream, HasKeysBelow, IsPlainStream, IsCanonicalStream, Appends};
 ghost use Rattle.hibitset_roaring.specs.declared.header.TheConstants.{KEYS};
@@ -12,7 +12,7 @@ ghost use Rattle.hibitset_roaring.specs.Words.{ones_from, ones_under, AreSummari
 use crate::array::write_array;
 use crate::header::NO_RUNS;
 use crate::heads::{Heads, count_under};
-use crate::layout::{CONTAINER_WORDS, MOST_IN_ARRAY, flat_size};
+use crate::layout::{CONTAINER_WORDS, MAX_ARRAY_LEN, flat_size};
 use crate::number::{put_u16, put_u32, put_u64};
 use hibitset::BitSet;
 use std::alloc::{AllocError, Global};
@@ -22,14 +22,15 @@ fn write_words_of(out: &mut [u8], at: usize, words: &[usize], base: usize, count
     requires room { at + 8 * count ≤ length out.old }
     requires within { 0 < count → base + count ≤ length words.now }
     ensures before { SameBefore at out.old out.new }
-    ensures here { (q : ℕ) → q < count → u64_at out.new (at + 8 * q) ≡ get_or words.now (base + q) 0 }
+    ensures here { (q : ℕ) → q < count
+        → u64_at out.new (at + 8 * q) ≡ get_or words.now (base + q) 0 }
 {
     'words: for j in 0..count {
         put_u64(out, at + 8 * j, words[base + j]);
     }
 }
 
-// Writes words that are 0.
+// Writes zero words.
 fn write_zeros(out: &mut [u8], at: usize, count: usize)
     requires { at + 8 * count ≤ length out.old }
     ensures before { SameBefore at out.old out.new }
@@ -46,7 +47,8 @@ fn write_bits(out: &mut [u8], at: usize, words: &[usize], key: usize)
     requires key { key < 65536 }
     ensures before { SameBefore at out.old out.new }
     ensures ones { ones_in out.new at 1024 ≡ ones_under words.now key }
-    ensures members { (v : ℕ) → v < 65536 → in_bits out.new at v ≡ stands_in words.now (65536 * key + v) }
+    ensures members { (v : ℕ) → v < 65536
+        → in_bits out.new at v ≡ stands_in words.now (65536 * key + v) }
 {
     let base = CONTAINER_WORDS * key;
     let count = words.len().saturating_sub(base).min(CONTAINER_WORDS);
@@ -55,7 +57,7 @@ fn write_bits(out: &mut [u8], at: usize, words: &[usize], key: usize)
 }
 
 // Writes a container.
-fn write_container(
+pub(crate) fn write_container(
     out: &mut [u8],
     at: usize,
     words: &[usize],
@@ -70,7 +72,7 @@ fn write_container(
     ensures before { SameBefore at out.old out.new }
     ensures written { IsWritten words.now out.new at key count }
 {
-    if count <= MOST_IN_ARRAY {
+    if count <= MAX_ARRAY_LEN {
         write_array(out, at, words, above, key);
     } else {
         write_bits(out, at, words, key);
@@ -101,7 +103,8 @@ fn write_offsets(out: &mut [u8], counts: &[usize])
     requires few { length counts.now ≤ 16384 }
     requires counts { (k : ℕ) → k < length counts.now → get_or counts.now k 0 ≤ 65536 }
     ensures before { SameBefore (8 + 4 * length counts.now) out.old out.new }
-    ensures offsets { (k : ℕ) → k < length counts.now → u32_at out.new (8 + 4 * length counts.now + 4 * k) ≡ start counts.now k }
+    ensures offsets { (k : ℕ) → k < length counts.now
+        → u32_at out.new (8 + 4 * length counts.now + 4 * k) ≡ start counts.now k }
 {
     let offsets = 8 + 4 * counts.len();
     let mut at = 8 + 8 * counts.len();
@@ -124,10 +127,13 @@ fn write_containers(
     requires few { length keys.now ≤ 16384 }
     requires room { start counts.now (length keys.now) ≤ length out.old }
     requires keys { (k : ℕ) → k < length keys.now → get_or keys.now k 0 < 16384 }
-    requires counts { (k : ℕ) → k < length keys.now → get_or counts.now k 0 ≡ ones_under words.now (get_or keys.now k 0) }
+    requires counts { (k : ℕ) → k < length keys.now
+        → get_or counts.now k 0 ≡ ones_under words.now (get_or keys.now k 0) }
     requires small { (k : ℕ) → k < length keys.now → get_or counts.now k 0 ≤ 65536 }
     ensures before { SameBefore (8 + 8 * length counts.now) out.old out.new }
-    ensures written { (k : ℕ) → k < length keys.now → IsWritten words.now out.new (start counts.now k) (get_or keys.now k 0) (get_or counts.now k 0) }
+    ensures written { (k : ℕ) → k < length keys.now
+        → IsWritten words.now out.new (start counts.now k) (get_or keys.now k 0)
+        (get_or counts.now k 0) }
 {
     let mut at = 8 + 8 * counts.len();
     'containers: for k in 0..keys.len() {
@@ -151,7 +157,13 @@ fn len_of(counts: &[usize]) -> usize
 }
 
 // Writes a stream.
-fn write_stream(out: &mut [u8], keys: &[usize], counts: &[usize], words: &[usize], above: &[usize])
+pub(crate) fn write_stream(
+    out: &mut [u8],
+    keys: &[usize],
+    counts: &[usize],
+    words: &[usize],
+    above: &[usize],
+)
     requires heads { AreHeads words.now keys.now counts.now ((length words.now + 1023) / 1024) }
     requires short { length words.now ≤ 16777216 }
     requires above { AreSummaries words.now above.now }
@@ -166,10 +178,12 @@ fn write_stream(out: &mut [u8], keys: &[usize], counts: &[usize], words: &[usize
 
 // Writes a stream behind the first bytes.
 fn write_behind(out: &mut [u8], from: usize, heads: &Heads, words: &[usize], above: &[usize])
-    requires heads { AreHeads words.now heads.now.keys.items heads.now.counts.items ((length words.now + 1023) / 1024) }
+    requires heads { AreHeads words.now heads.now.keys.items heads.now.counts.items
+        ((length words.now + 1023) / 1024) }
     requires short { length words.now ≤ 16777216 }
     requires above { AreSummaries words.now above.now }
-    requires room { length out.old ≡ from + start heads.now.counts.items (length heads.now.keys.items) }
+    requires room { length out.old ≡ from
+        + start heads.now.counts.items (length heads.now.keys.items) }
     ensures before { SameBefore from out.old out.new }
     ensures stream { IsCanonicalStream (stands_in words.now) (drop from out.new) }
     ensures below { HasKeysBelow (drop from out.new) 16384 }
@@ -179,7 +193,8 @@ fn write_behind(out: &mut [u8], from: usize, heads: &Heads, words: &[usize], abo
 
 // Writes a stream into the first bytes.
 fn write_first(out: &mut [u8], len: usize, heads: &Heads, words: &[usize], above: &[usize])
-    requires heads { AreHeads words.now heads.now.keys.items heads.now.counts.items ((length words.now + 1023) / 1024) }
+    requires heads { AreHeads words.now heads.now.keys.items heads.now.counts.items
+        ((length words.now + 1023) / 1024) }
     requires short { length words.now ≤ 16777216 }
     requires above { AreSummaries words.now above.now }
     requires room { len ≤ length out.old }
@@ -220,9 +235,12 @@ pub fn write_words(
 ) -> Result<usize, AllocError>
     requires short { length words.now ≤ 16777216 }
     requires above { AreSummaries words.now above.now }
-    ensures len { IfOk result (λ len. (bytes : List ℕ) → IsPlainStream (stands_in words.now) bytes → length bytes ≡ len) }
-    ensures stream { IfOk result (λ len. len ≤ length out.old → IsCanonicalStream (stands_in words.now) (take len out.new)) }
-    ensures below { IfOk result (λ len. len ≤ length out.old → HasKeysBelow (take len out.new) KEYS) }
+    ensures len { IfOk result (λ len. (bytes : List ℕ) → IsPlainStream (stands_in words.now) bytes
+        → length bytes ≡ len) }
+    ensures stream { IfOk result (λ len. len ≤ length out.old
+        → IsCanonicalStream (stands_in words.now) (take len out.new)) }
+    ensures below { IfOk result (λ len. len ≤ length out.old
+        → HasKeysBelow (take len out.new) KEYS) }
     ensures rest { IfOk result (λ len. drop len out.new ≡ drop len out.old) }
     ensures few { IfOk result (λ len. length out.old < len → out.new ≡ out.old) }
     ensures err { OnErr result (out.new ≡ out.old) }
@@ -248,7 +266,8 @@ pub fn serialized_len(set: &BitSet) -> usize
 /// It allocates 16 bytes for each 65,536 numbers with members, and the stream's bytes. The error is a failed
 /// allocation; `out` is as it was then.
 pub fn write_to(alloc: Global, set: &BitSet, out: &mut Vec<u8>) -> Result<(), AllocError>
-    ensures stream { OnOk result (Appends (IsCanonicalStream (has set.now)) out.old.items out.new.items) }
+    ensures stream { OnOk result (Appends (IsCanonicalStream (has set.now)) out.old.items
+        out.new.items) }
     ensures below { OnOk result (HasKeysBelow (drop (vec_len out.old) out.new.items) KEYS) }
     ensures err { OnErr result (out.new.items ≡ out.old.items) }
 {

@@ -1,12 +1,14 @@
 //! What is read and written: values from outside, and each public call at least once.
 mod callers;
+mod optimized;
 mod transfers;
 mod vectors;
 
 use hibitset::{BitSet, BitSetLike, Index, MAX_EID};
 use hibitset_roaring::{
-    Fault, KEYS, Malformed, ReadError, ReadFromError, read, read_below, read_from, serialized_len,
-    write, write_into, write_like, write_to,
+    Fault, KEYS, Malformed, ReadError, ReadFromError, read, read_below, read_from,
+    run_optimized_len, serialized_len, write, write_into, write_like, write_run_optimized,
+    write_run_optimized_to, write_to,
 };
 use std::alloc::{AllocError, Global};
 use std::test::Fail;
@@ -22,14 +24,14 @@ fn set_of(alloc: Global, ranges: &[(Index, Index)]) -> Result<BitSet, AllocError
     Ok(set)
 }
 
-// Tells whether bytes are read as a set, which is written as these bytes in turn.
+// Returns whether bytes are read as a set, which is written as these bytes in turn.
 fn is_read_as(alloc: Global, bytes: &[u8], set: &BitSet, plain: &[u8]) -> Result<bool, ReadError> {
     let found = read(alloc, bytes)?;
     let written = write(alloc, &found)?;
     Ok(found == *set && written.as_slice() == plain && serialized_len(set) == plain.len())
 }
 
-// Tells whether bytes are refused for this fault at this position.
+// Returns whether bytes are refused for this fault at this position.
 fn is_refused(alloc: Global, bytes: &[u8], fault: Fault, at: usize) -> bool {
     match read(alloc, bytes) {
         Ok(_) => false,

@@ -20,12 +20,13 @@ fn bytes_of(alloc: Global, text: &str) -> Result<Vec<u8>, AllocError> {
     Ok(bytes)
 }
 
-// Tells whether a stream is read as the set of these ranges.
+// Returns whether a stream is read as the set of these ranges, and this is written so with runs where they are shorter.
 fn is_accepted(alloc: Global, text: &str, ranges: &[(Index, Index)]) -> Result<bool, ReadError> {
     let stream = bytes_of(alloc, text)?;
     let set = set_of(alloc, ranges)?;
     let plain = write(alloc, &set)?;
-    is_read_as(alloc, &stream, &set, &plain)
+    let optimized = write_run_optimized(alloc, &set)?;
+    Ok(optimized.as_slice() == stream.as_slice() && is_read_as(alloc, &stream, &set, &plain)?)
 }
 
 #[test]
@@ -156,7 +157,7 @@ fn bytes_with_one_fault(rt: HostRuntime) -> Result<(), Fail> {
     Ok(())
 }
 
-// Tells whether every prefix of a stream but itself is refused, and for its end.
+// Returns whether every prefix of a stream but itself is refused, and for its end.
 fn prefixes_end_too_soon(alloc: Global, stream: &[u8]) -> bool {
     for len in 0..stream.len() {
         match read(alloc, &stream[..len]) {

@@ -1,6 +1,6 @@
 use Rattle.std.proofs.Common.{◌≡◌, ℕ, ◌+◌, ◌-◌, ◌*◌, ◌<◌, ◌≤◌, ◌&&◌}
 use Rattle.std.specs.Prelude.{nat_lt}
-use Rattle.hibitset.specs.Numbers.{stands_in}
+use Rattle.hibitset.specs.WordBits.{stands_in}
 use Rattle.hibitset_roaring.specs.Numbers.{u16_at}
 use Rattle.hibitset_roaring.specs.Format.{in_array}
 use Rattle.hibitset_roaring.specs.Streams.{SameBefore}

@@ -2,7 +2,7 @@ use Rattle.std.proofs.Common.{◌≡◌, ℕ, ◌+◌, ◌*◌, ◌<◌, length,
 use Rattle.std.specs.Int.RustNames.{count_ones}
 use Rattle.std.proofs.lemmas.Bool.{cases_lt}
 use Rattle.std.proofs.lemmas.List.{get_or-set_same, get_or-set_other, length-set}
-use Rattle.hibitset_base.proofs.Counting.{few_ones}
+use Rattle.hibitset_base.proofs.OneCountLemmas.{few_ones}
 use Rattle.hibitset_roaring.specs.Numbers.{u64_at, ones_in}
 use Rattle.hibitset_roaring.proofs.PartLemmas.{ones_next}
 use Rattle.hibitset_roaring.proofs.container.append_block.Goals as goal

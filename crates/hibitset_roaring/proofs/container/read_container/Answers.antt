@@ -1,5 +1,5 @@
 use Rattle.std.proofs.Common.{◌≡◌, ℕ, ◌/◌, ◌%◌, ◌==◌, ◌||◌, ◌&&◌, Bool, List, ap, sym, ◌∙◌, arith}
-use Rattle.hibitset.specs.Numbers.{stands_in}
+use Rattle.hibitset.specs.WordBits.{stands_in}
 use Rattle.hibitset_roaring.specs.Format.{in_bits, in_container}
 use Rattle.hibitset_roaring.specs.Words.{Adds}
 use Rattle.hibitset_roaring.proofs.AddLemmas.{adds_same}
@@ -9,7 +9,7 @@ use Rattle.hibitset_roaring.proofs.container.read_container.Goals as goal
 pub append_bits-requires : goal.append_bits-requires
 append_bits-requires c =
     let card = c.cardinality-cardinality.ensures.cardinality in
-    let more = c.if-cardinality-le-MOST_IN_ARRAY.false in
+    let more = c.if-cardinality-le-MAX_ARRAY_LEN.false in
     let p = at_bits c.args.bytes.now c.args.k (sym c.is_run.ensures ∙ c.if-is_run.false) (omega (arith, card, more)) in
     let w = c.requires.within in
     let at = c.requires.at in
@@ -24,7 +24,7 @@ returns-clause-members c =
     let bytes = c.args.bytes.now in
     let key : ℕ = c.key-key.result in
     let card = c.cardinality-cardinality.ensures.cardinality in
-    let more = c.if-cardinality-le-MOST_IN_ARRAY.false in
+    let more = c.if-cardinality-le-MAX_ARRAY_LEN.false in
     let adds = adds_after key (in_bits bytes c.args.at) c.args.words.now.items c.lengthen-2.new.words.items c.append_bits.new.words.items c.lengthen-2.ensures.same (c.in_ok-count.ensures.members key c.in_ok-lengthen-2.ensures.length) in
     rw (← c.key-key.ensures.key) (adds_same key (in_bits bytes c.args.at) (in_container bytes c.args.k) _ _
     (λ v. ap (λ a. in_bits bytes a v) c.requires.at ∙ in_bits_is bytes c.args.k (sym c.is_run.ensures ∙ c.if-is_run.false) (omega (arith, card, more)) v) adds)

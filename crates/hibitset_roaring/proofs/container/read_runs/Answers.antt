@@ -1,7 +1,7 @@
 use Rattle.std.proofs.Common.{◌≡◌, ℕ, ◌+◌, ◌-◌, ◌*◌, ◌/◌, ◌%◌, ◌<◌, ◌≤◌, ◌==◌, ◌&&◌, ap, ◌∙◌, sym, refl, arith, inl, inr}
 use Rattle.std.specs.Prelude.{nat_le}
 use Rattle.std.proofs.lemmas.Bool.{cases_lt}
-use Rattle.hibitset.specs.Numbers.{in_range}
+use Rattle.hibitset.specs.WordBits.{in_range}
 use Rattle.hibitset_roaring.specs.Numbers.{any_below}
 use Rattle.hibitset_roaring.specs.Format.{run_count, run_first, run_last, run_total, in_run, in_runs}
 use Rattle.hibitset_roaring.proofs.TestLemmas.{any_next, any_none, range_test}

@@ -1,6 +1,6 @@
 use Rattle.std.proofs.Common.{◌≡◌, ℕ, ◌+◌, get_or, sym, refl, arith}
 use Rattle.std.specs.Int.RustNames.{count_ones}
-use Rattle.hibitset_base.proofs.Counting.{few_ones}
+use Rattle.hibitset_base.proofs.OneCountLemmas.{few_ones}
 use Rattle.hibitset_roaring.proofs.WordLemmas.{ones_first, ones_more}
 use Rattle.hibitset_roaring.proofs.heads.count_whole.Goals as goal
 

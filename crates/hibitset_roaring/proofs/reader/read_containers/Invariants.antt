@@ -1,5 +1,5 @@
 use Rattle.std.proofs.Common.{◌≡◌, ℕ, ◌+◌, ◌*◌, ◌/◌, ◌%◌, ◌<◌, ◌==◌, ◌&&◌, length}
-use Rattle.hibitset.specs.Numbers.{stands_in}
+use Rattle.hibitset.specs.WordBits.{stands_in}
 use Rattle.hibitset_roaring.specs.Numbers.{any_below}
 use Rattle.hibitset_roaring.specs.Format.{key_of, container_at, in_container, IsContainer}
 use Rattle.hibitset_roaring.proofs.reader.read_containers.Given as goal

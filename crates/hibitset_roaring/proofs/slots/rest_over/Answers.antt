@@ -2,7 +2,7 @@ use Rattle.std.proofs.Common.{ℕ, ◌+◌, ◌%◌, ◌<◌, ◌==◌, cond, fa
 use Rattle.std.specs.Int.{bit_at}
 use Rattle.std.proofs.lemmas.Bool.{lt-ltb, le-ltb}
 use Rattle.hibitset_base.specs.Sets.{bit_of}
-use Rattle.hibitset.proofs.Ranging.{clear_at}
+use Rattle.hibitset.proofs.RangeBitLemmas.{clear_at}
 use Rattle.hibitset_roaring.proofs.slots.rest_over.Goals as goal
 
 pub returns : goal.returns

@@ -1,5 +1,5 @@
 use Rattle.std.proofs.Common.{arith}
-use Rattle.hibitset.proofs.Ranging.{within_at}
+use Rattle.hibitset.proofs.RangeBitLemmas.{within_at}
 use Rattle.hibitset_roaring.proofs.words.bits_within.Goals as goal
 
 pub returns : goal.returns

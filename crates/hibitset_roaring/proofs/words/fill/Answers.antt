@@ -4,9 +4,9 @@ use Rattle.std.specs.Int.{bit_at}
 use Rattle.std.proofs.lemmas.Bool.{cases_lt, lt-ltb}
 use Rattle.std.proofs.lemmas.Bool.Decides.{nat_tests}
 use Rattle.std.proofs.lemmas.List.{get_or-set_same, get_or-set_other}
-use Rattle.hibitset_base.proofs.Holding.{bit_test}
-use Rattle.hibitset.specs.Numbers.{stands_in, in_range}
-use Rattle.hibitset.proofs.Ranging.{low_at}
+use Rattle.hibitset_base.proofs.MembershipLemmas.{bit_test}
+use Rattle.hibitset.specs.WordBits.{stands_in, in_range}
+use Rattle.hibitset.proofs.RangeBitLemmas.{low_at}
 use Rattle.hibitset_roaring.proofs.TestLemmas.{or_true, or_false}
 use Rattle.hibitset_roaring.proofs.words.fill.Goals as goal
 

@@ -1,5 +1,5 @@
 use Rattle.std.proofs.Common.{arith}
-use Rattle.hibitset.proofs.Ranging.{low_at, shifted_at}
+use Rattle.hibitset.proofs.RangeBitLemmas.{low_at, shifted_at}
 use Rattle.hibitset_roaring.proofs.words.low_bits.Goals as goal
 
 pub returns-then-count-eq64 : goal.returns-then-count-eq64

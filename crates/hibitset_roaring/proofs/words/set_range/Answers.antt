@@ -1,6 +1,6 @@
 use Rattle.std.proofs.Common.{◌≡◌, ℕ, ◌+◌, ◌*◌, ◌/◌, ◌≤◌, ◌||◌, Bool, ap, ◌∙◌, arith}
 use Rattle.std.proofs.lemmas.Bool.Decides.{nat_tests}
-use Rattle.hibitset.specs.Numbers.{stands_in, in_range}
+use Rattle.hibitset.specs.WordBits.{stands_in, in_range}
 use Rattle.hibitset_roaring.proofs.TestLemmas.{or_assoc}
 use Rattle.hibitset_roaring.proofs.words.set_range.Goals as goal
 

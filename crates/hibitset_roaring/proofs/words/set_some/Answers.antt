@@ -4,8 +4,8 @@ use Rattle.std.proofs.lemmas.Bool.{cases_lt}
 use Rattle.std.proofs.lemmas.Bool.Decides.{nat_tests}
 use Rattle.std.proofs.lemmas.List.{get_or-set_same, get_or-set_other}
 use Rattle.hibitset_base.specs.Sets.{bit_of}
-use Rattle.hibitset_base.proofs.Holding.{bit_test}
-use Rattle.hibitset.specs.Numbers.{stands_in, in_range}
+use Rattle.hibitset_base.proofs.MembershipLemmas.{bit_test}
+use Rattle.hibitset.specs.WordBits.{stands_in, in_range}
 use Rattle.hibitset.specs.Operators.{or_bits}
 use Rattle.hibitset_roaring.proofs.TestLemmas.{or_false}
 use Rattle.hibitset_roaring.proofs.words.set_some.Goals as goal

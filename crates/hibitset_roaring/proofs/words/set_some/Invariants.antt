@@ -1,7 +1,7 @@
 use Rattle.std.proofs.Common.{◌≡◌, ◌⊎◌, ℕ, ◌+◌, ◌*◌, ◌/◌, ◌<◌, ◌≤◌, ◌==◌, ◌||◌, get_or}
 use Rattle.std.specs.Int.{bit_at}
 use Rattle.hibitset_base.specs.Sets.{bit_of}
-use Rattle.hibitset.specs.Numbers.{in_range}
+use Rattle.hibitset.specs.WordBits.{in_range}
 use Rattle.hibitset_roaring.proofs.words.set_some.Given as goal
 
 -- the words up to a slot have the bits of the range too, and the others are as they were

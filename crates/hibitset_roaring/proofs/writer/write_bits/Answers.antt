@@ -7,7 +7,7 @@ use Rattle.hibitset_roaring.proofs.FrameLemmas.{before_both, before_less, u64_sa
 use Rattle.hibitset_roaring.proofs.BitLemmas.{ones_marked, bits_marked}
 use Rattle.hibitset_roaring.proofs.writer.write_bits.Goals as goal
 
--- the words that there are, and then words that are 0
+-- the words that there are, and then zero words
 all_words : (words mid new : List ℕ) (at base count : ℕ) → ((q : ℕ) → q < count → u64_at mid (at + 8 * q) ≡ get_or words (base + q) 0) → SameBefore (at + 8 * count) mid new → ((q : ℕ) → q < 1024 - count → u64_at new (at + 8 * count + 8 * q) ≡ 0) → ((q : ℕ) → count ≤ q → q < 1024 → length words ≤ base + q)
     → (q : ℕ) → q < 1024 → u64_at new (at + 8 * q) ≡ get_or words (base + q) 0
 all_words words mid new at base count here before zeros past q below = elim (cases_lt q count) [

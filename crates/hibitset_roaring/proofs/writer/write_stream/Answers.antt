@@ -1,5 +1,5 @@
 use Rattle.std.proofs.Common.{◌≡◌, ℕ, ◌+◌, ◌*◌, ◌/◌, length, ap, ◌∙◌, arith}
-use Rattle.hibitset.specs.Numbers.{stands_in}
+use Rattle.hibitset.specs.WordBits.{stands_in}
 use Rattle.hibitset_roaring.specs.Numbers.{u32_at}
 use Rattle.hibitset_roaring.specs.Format.{IsPlainStream}
 use Rattle.hibitset_roaring.specs.Streams.{IsHeaded}

@@ -1,6 +1,6 @@
 use Rattle.std.proofs.Common.{◌≡◌, ℕ, ◌<◌, List, drop, get_or, length, ap, ◌∙◌, arith}
 use Rattle.hibitset.specs.BitSet.{has}
-use Rattle.hibitset.specs.Numbers.{stands_in}
+use Rattle.hibitset.specs.WordBits.{stands_in}
 use Rattle.hibitset_roaring.specs.Format.{IsCanonicalStream, Appends}
 use Rattle.hibitset_roaring.proofs.HeadsLemmas.{start_most}
 use Rattle.hibitset_roaring.proofs.SummaryLemmas.{summaries_of}
