@@ -48,8 +48,11 @@ both() { # proofs, and beside it mutants tests, whose output comes when both hav
     local status=0
     # A process group of its own, which the trap can end whole.
     set -m
-    # The lowest crates are proved one after the other, which leaves processors to these.
-    TOGETHER=$(($(nproc) > 3 ? 3 : 1)) part 3 mutants tests --gate </dev/null >"$log" 2>&1 &
+    (
+        # The lowest crate goes before all others: it has all processors first.
+        while [ ! -e "$top/crates/hibitset_base/out/rlib" ]; do sleep 2; done
+        TOGETHER=$(($(nproc) > 3 ? 2 : 1)) part 3 mutants tests --gate
+    ) </dev/null >"$log" 2>&1 &
     beside=$!
     set +m
     echo "test.sh: part 3 of $parts, mutants tests, runs beside part 2"
