@@ -1,34 +1,14 @@
 //! Values from outside: worked rows, and each public call at least once.
 mod callers;
 
-use hibitset::{BitSet, BitSetLike, Index, MAX_EID};
+use hibitset::{BitSetLike, Index};
 use hibitset_store::{Column, join, join_masked};
+use hibitset_testing::columns::column_of;
+use hibitset_testing::sets::set_of;
 use std::alloc::{AllocError, Global};
 use std::test::Fail;
 
-// A column of these indices and values.
-fn column_of(alloc: Global, rows: &[(Index, u32)]) -> Result<Column<u32>, AllocError> {
-    let mut column = Column::new(alloc);
-    for (id, value) in rows {
-        if (*id as usize) < MAX_EID && column.insert(*id, *value).is_err() {
-            return Err(AllocError);
-        }
-    }
-    Ok(column)
-}
-
-// A set of these indices.
-fn set_of(alloc: Global, ids: &[Index]) -> Result<BitSet, AllocError> {
-    let mut set = BitSet::new(alloc);
-    for id in ids {
-        if (*id as usize) < MAX_EID {
-            set.add(*id)?;
-        }
-    }
-    Ok(set)
-}
-
-// Tells whether a column has exactly these indices and values, and its mask these indices.
+// Returns whether a column has exactly these indices and values, and its mask these indices.
 fn has_exactly(
     alloc: Global,
     column: &Column<u32>,

@@ -16,30 +16,9 @@ mod walks;
 
 use hibitset::{BitSet, BitSetLike, Index};
 use hibitset_base::util::MAX_EID;
+use hibitset_testing::sets::list;
 use std::alloc::{AllocError, AllocGlobal, Global};
 use std::process::Abort;
-
-// The set of these indices, those that are out of range left out.
-fn set_of(alloc: Global, ids: &[Index]) -> Result<BitSet, AllocError> {
-    let mut set = BitSet::new(alloc);
-    for id in ids {
-        if (*id as usize) < MAX_EID {
-            set.add(*id)?;
-        }
-    }
-    Ok(set)
-}
-
-// The set of all indices below a bound.
-fn run_of(alloc: Global, end: Index) -> Result<BitSet, AllocError> {
-    let mut set = BitSet::new(alloc);
-    for id in 0..end {
-        if (id as usize) < MAX_EID {
-            set.add(id)?;
-        }
-    }
-    Ok(set)
-}
 
 // So many of every second index, from the first on.
 fn every_second(alloc: Global, first: Index, count: u32) -> Result<BitSet, AllocError> {
@@ -53,24 +32,8 @@ fn every_second(alloc: Global, first: Index, count: u32) -> Result<BitSet, Alloc
     Ok(set)
 }
 
-// What a walk over a set gives.
-fn list<T: BitSetLike>(alloc: Global, set: T) -> Result<Vec<Index>, AllocError> {
-    set.iter().collect(alloc)
-}
-
 // The functions below compare for many tests: a comparison in a test makes the proof of all that follows there longer,
 // and a call of one of these hardly does.
-
-// Sees that a walk over a set gives these indices.
-fn assert_members<T: BitSetLike>(
-    rt: &(impl Abort + AllocGlobal),
-    set: T,
-    ids: &[Index],
-) -> Result<(), AllocError> {
-    let members = list(rt.alloc(), set)?;
-    assert_eq!(rt; members.as_slice(), ids);
-    Ok(())
-}
 
 // Sees that these indices were given.
 fn assert_indices(rt: &impl Abort, found: &[Index], ids: &[Index]) {
@@ -88,4 +51,15 @@ fn assert_words(rt: &impl Abort, found: &[usize], wanted: &[usize]) {
 
 fn assert_count(rt: &impl Abort, found: usize, wanted: usize) {
     assert_eq!(rt; found, wanted);
+}
+
+// Sees that a walk over a set gives these indices.
+fn assert_members<T: BitSetLike>(
+    rt: &(impl Abort + AllocGlobal),
+    set: T,
+    ids: &[Index],
+) -> Result<(), AllocError> {
+    let members = list(rt.alloc(), set)?;
+    assert_eq!(rt; members.as_slice(), ids);
+    Ok(())
 }

@@ -1,15 +1,21 @@
 //! What callers know of columns and joins, from the public contracts alone.
+//! Callers that promise the same by other bodies repeat its clauses, since each function has its own.
 ghost use Rattle.std.specs.Prelude.{◌≡◌, ℕ, ◌+◌, ◌-◌, ◌*◌, ◌<◌, ◌≤◌, ◌==◌, ◌∷◌, if◌then◌else◌, length, map, min, IfOk, IfSome, IsOk, OnOk, OnErr, Some, None, true, false};
 ghost use Rattle.std.specs.Option.{is_some, option_map};
 ghost use Rattle.hibitset_base.specs.declared.util.TheConstants.{LAYERS};
 ghost use Rattle.hibitset_store.specs.Columns.{entries_of, entry_seen, keys_of, value_of};
-ghost use Rattle.hibitset_store.specs.Joins.{joined, joined_within, seen};
-ghost use Rattle.hibitset_store.specs.Room.{HasRoom, list_len, made_pages};
+ghost use Rattle.hibitset_store.specs.Joins.{join_of, joined_within, seen};
+ghost use Rattle.hibitset_store.specs.Capacity.{HasRoom, list_len, made_pages};
 ghost use Rattle.hibitset_store.specs.Walks.{reads_of};
-ghost use Rattle.hibitset_store.specs.declared.pages.TheConstants.{PAGE, SPARSEST};
+ghost use Rattle.hibitset_store.specs.declared.pages.TheConstants.{PAGE, MAX_SLOTS_PER_MADE_SLOT};
 
-use super::*;
-use hibitset_store::{Join, PAGE};
+use crate::tests::has_exactly;
+use hibitset::{BitSet, BitSetLike, Index, MAX_EID};
+use hibitset_store::{Column, Join, PAGE, join, join_masked};
+use hibitset_testing::columns::column_of;
+use hibitset_testing::sets::set_of;
+use std::alloc::{AllocError, Global};
+use std::test::Fail;
 
 // The pairs, by a loop.
 fn looped<'a, V: Drop, W: Drop>(
@@ -17,7 +23,8 @@ fn looped<'a, V: Drop, W: Drop>(
     a: &'a Column<V>,
     b: &'a Column<W>,
 ) -> Result<Vec<(Index, &'a V, &'a W)>, AllocError>
-    ensures { IfOk result (λ list. map seen list.items ≡ joined (value_of a.now) (value_of b.now)) }
+    ensures { IfOk result (λ list. map seen list.items
+        ≡ join_of (value_of a.now) (value_of b.now)) }
 {
     let mut list = Vec::new(alloc);
     for item in join(a, b) {
@@ -28,7 +35,7 @@ fn looped<'a, V: Drop, W: Drop>(
 
 // How many there are.
 fn counted<V: Drop, W: Drop>(a: &Column<V>, b: &Column<W>) -> usize
-    ensures { result ≡ length (joined (value_of a.now) (value_of b.now)) }
+    ensures { result ≡ length (join_of (value_of a.now) (value_of b.now)) }
 {
     a.join(b).count()
 }
@@ -39,7 +46,8 @@ fn collected<'a, V: Drop, W: Drop>(
     a: &'a Column<V>,
     b: &'a Column<W>,
 ) -> Result<Vec<(Index, &'a V, &'a W)>, AllocError>
-    ensures { IfOk result (λ list. map seen list.items ≡ joined (value_of a.now) (value_of b.now)) }
+    ensures { IfOk result (λ list. map seen list.items
+        ≡ join_of (value_of a.now) (value_of b.now)) }
 {
     join(a, b).collect(alloc)
 }
@@ -58,7 +66,8 @@ fn collected_within<'a, V: Drop, W: Drop, M: BitSetLike>(
     b: &'a Column<W>,
     m: M,
 ) -> Result<Vec<(Index, &'a V, &'a W)>, AllocError>
-    ensures { IfOk result (λ list. map seen list.items ≡ joined_within (value_of a.now) (value_of b.now) (M.holds m)) }
+    ensures { IfOk result (λ list. map seen list.items
+        ≡ joined_within (value_of a.now) (value_of b.now) (M.holds m)) }
 {
     a.join_masked(b, m).collect(alloc)
 }
@@ -80,15 +89,17 @@ fn of_three<'a, V: Drop, W: Drop, X: Drop>(
     b: &'a Column<W>,
     third: &Column<X>,
 ) -> Result<Vec<(Index, &'a V, &'a W)>, AllocError>
-    ensures { IfOk result (λ list. map seen list.items ≡ joined_within (value_of a.now) (value_of b.now) (λ i. is_some (value_of third.now i))) }
+    ensures { IfOk result (λ list. map seen list.items
+        ≡ joined_within (value_of a.now) (value_of b.now) (λ i. is_some (value_of third.now i))) }
 {
     join_masked(a, b, third.mask()).collect(alloc)
 }
 
 // Makes each value 0, by a walk over a copy of the mask.
 fn reset(column: &mut Column<u32>) -> Result<(), AllocError>
-    ensures reset { OnOk result ((i : ℕ) → value_of column.new i ≡ option_map (λ value. 0) (value_of column.old i)) }
-    ensures refused { OnErr result ((i : ℕ) → value_of column.new i ≡ value_of column.old i) }
+    ensures reset { OnOk result ((i : ℕ)
+        → value_of column.new i ≡ option_map (λ value. 0) (value_of column.old i)) }
+    ensures err { OnErr result ((i : ℕ) → value_of column.new i ≡ value_of column.old i) }
 {
     let mask: BitSet = column.mask().clone()?;
     for id in &mask {
@@ -102,7 +113,8 @@ fn reset(column: &mut Column<u32>) -> Result<(), AllocError>
 // Changes the value of an index that has one.
 fn change<V: Drop>(column: &mut Column<V>, id: Index, value: V) -> bool
     ensures was { result ≡ is_some (value_of column.old id) }
-    ensures changed { result ≡ true → (i : ℕ) → value_of column.new i ≡ (if i == id then Some value else value_of column.old i) }
+    ensures changed { result ≡ true → (i : ℕ)
+        → value_of column.new i ≡ (if i == id then Some value else value_of column.old i) }
     ensures unchanged { result ≡ false → (i : ℕ) → value_of column.new i ≡ value_of column.old i }
 {
     match column.get_mut(id) {
@@ -116,7 +128,8 @@ fn change<V: Drop>(column: &mut Column<V>, id: Index, value: V) -> bool
 
 // Two steps of a join: what they give comes first, and by then it has read no more than its bound.
 fn two_steps<'a>(a: &'a Column<u32>, b: &'a Column<u32>) -> Join<'a, u32, u32>
-    ensures { reads_of result ≤ (LAYERS - 1) * min (length (keys_of (value_of a.now))) (length (keys_of (value_of b.now))) + 1 }
+    ensures { reads_of result ≤ (LAYERS - 1) * min (length (keys_of (value_of a.now)))
+        (length (keys_of (value_of b.now))) + 1 }
 {
     let mut walk = join(a, b);
     let _ = walk.next();
@@ -127,8 +140,9 @@ fn two_steps<'a>(a: &'a Column<u32>, b: &'a Column<u32>) -> Join<'a, u32, u32>
 // Puts a value where there is none yet.
 fn put_new<V: Drop>(column: &mut Column<V>, id: Index, value: V) -> Result<bool, V>
     requires { id < MAX_EID }
-    ensures put { OnOk result ((i : ℕ) → value_of column.new i ≡ (if i == id then Some value else value_of column.old i)) }
-    ensures refused { OnErr result ((i : ℕ) → value_of column.new i ≡ value_of column.old i) }
+    ensures put { OnOk result ((i : ℕ)
+        → value_of column.new i ≡ (if i == id then Some value else value_of column.old i)) }
+    ensures err { OnErr result ((i : ℕ) → value_of column.new i ≡ value_of column.old i) }
 {
     Ok(column.insert(id, value)?.is_none())
 }
@@ -196,7 +210,7 @@ fn fill(column: &mut Column<u32>, value: u32) -> bool
 // The column of these indices, each with itself as its value, as far as there is memory. However they lie, it has at
 // most four times as many places as those of its pages.
 fn spread(alloc: Global, ids: &[Index]) -> Column<u32>
-    ensures { list_len result ≤ SPARSEST * (PAGE * made_pages result) }
+    ensures { list_len result ≤ MAX_SLOTS_PER_MADE_SLOT * (PAGE * made_pages result) }
 {
     let mut column = Column::new(alloc);
     for id in ids {

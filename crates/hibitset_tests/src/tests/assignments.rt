@@ -1,25 +1,30 @@
 //! Assignments, by sets that keep their words and by virtual ones.
-use crate::tests::{assert_count, assert_members, list, set_of};
+use crate::tests::{assert_count, assert_members};
 use hibitset::{BitSet, BitSetAnd, BitSetLike, BitSetXor, Index, MAX_EID};
+use hibitset_testing::sets::{list, set_of};
 use std::alloc::{AllocError, Global};
 
-// Tells whether these indices are left where a set keeps what another has too, under this word of layer 3.
-fn leaves_of_both(
-    alloc: Global,
-    ours: &[Index],
-    theirs: &[Index],
-    left: &[Index],
-    layer3: usize,
-) -> Result<bool, AllocError> {
+// The indices of two sets, those that an assignment leaves in the first, and the word of layer 3 over these.
+type Row<'a> = (&'a [Index], &'a [Index], &'a [Index], usize);
+
+// Returns whether a set has the indices that a row leaves, under its word of layer 3.
+fn has_left(alloc: Global, set: &BitSet, row: Row<'_>) -> Result<bool, AllocError> {
+    let (_, _, left, layer3) = row;
+    let is_empty = set.is_empty() == left.is_empty();
+    Ok(is_empty && set.layer3(0) == layer3 && list(alloc, set)?.as_slice() == left)
+}
+
+// Returns whether a set that keeps what another has too has what the row leaves.
+fn leaves_of_both(alloc: Global, row: Row<'_>) -> Result<bool, AllocError> {
+    let (ours, theirs, _, layer3) = row;
     let mut set = set_of(alloc, ours)?;
     set &= &set_of(alloc, theirs)?;
-    let is_top = set.layer3(0) == layer3 && set.layer4() == layer3.min(1);
-    Ok(is_top && set.is_empty() == left.is_empty() && list(alloc, &set)?.as_slice() == left)
+    Ok(set.layer4() == layer3.min(1) && has_left(alloc, &set, row)?)
 }
 
 #[test]
 fn intersections(rt: HostRuntime) -> Result<(), AllocError> {
-    let rows: [(&[Index], &[Index], &[Index], usize); 7] = [
+    let rows: [Row<'_>; 7] = [
         (
             &[1, 3, 5, 15, 200, 50001],
             &[1, 3, 50000, 50001],
@@ -33,9 +38,13 @@ fn intersections(rt: HostRuntime) -> Result<(), AllocError> {
         (&[0, 1], &[2], &[], 0),
         (&[532544], &[532545], &[], 0),
     ];
-    for (ours, theirs, left, layer3) in rows {
-        let is_left = leaves_of_both(rt.alloc(), ours, theirs, left, layer3)?;
-        assert!(rt; is_left, "{ours:?} and {theirs:?}");
+    for row in rows {
+        assert!(rt;
+            leaves_of_both(rt.alloc(), row)?,
+            "{:?} and {:?}",
+            row.0,
+            row.1
+        );
     }
     Ok(())
 }
@@ -108,7 +117,7 @@ fn adding_after_an_intersection(rt: HostRuntime) -> Result<(), AllocError> {
     assert_members(&rt, &set, &[0, 4160])
 }
 
-// Where memory is refused, the members are those from before. A run under failing allocations takes the other branch.
+// If an allocation fails, the members are those from before. A run under failing allocations takes the other branch.
 #[test]
 fn a_union_that_grows(rt: HostRuntime) -> Result<(), AllocError> {
     let mut set = set_of(rt.alloc(), &[0])?;
@@ -122,7 +131,7 @@ fn a_union_that_grows(rt: HostRuntime) -> Result<(), AllocError> {
     Ok(())
 }
 
-// Summary bits over words that are 0 take no room.
+// Summary bits over zero words take no room.
 #[test]
 fn room_for_words_alone(rt: HostRuntime) -> Result<(), AllocError> {
     let a = set_of(rt.alloc(), &[200, 4_096, 1_000_000, 16_777_215])?;
@@ -144,21 +153,16 @@ fn room_for_one_word(rt: HostRuntime) -> Result<(), AllocError> {
     Ok(())
 }
 
-// Tells whether these indices are left where a set loses those of another, once and once more, under this word of layer
-// 3 and over as many words as before.
-fn leaves_of_first(
-    alloc: Global,
-    ours: &[Index],
-    theirs: &[Index],
-    left: &[Index],
-    layer3: usize,
-) -> Result<bool, AllocError> {
+// Returns whether a set that loses what another has, once and once more, has what the row leaves, over as many words as
+// before.
+fn leaves_of_first(alloc: Global, row: Row<'_>) -> Result<bool, AllocError> {
+    let (ours, theirs, _, _) = row;
     let mut set = set_of(alloc, ours)?;
     let words = set.layer0_as_slice().len();
     let other = set_of(alloc, theirs)?;
     set.subtract_assign(&other);
-    let has_words = set.layer3(0) == layer3 && set.layer0_as_slice().len() == words;
-    let is_left = list(alloc, &set)?.as_slice() == left && set.is_empty() == left.is_empty();
+    let has_words = set.layer0_as_slice().len() == words;
+    let is_left = has_left(alloc, &set, row)?;
     let once = set.clone()?;
     set.subtract_assign(&other);
     Ok(has_words && is_left && set == once)
@@ -166,7 +170,7 @@ fn leaves_of_first(
 
 #[test]
 fn differences(rt: HostRuntime) -> Result<(), AllocError> {
-    let rows: [(&[Index], &[Index], &[Index], usize); 8] = [
+    let rows: [Row<'_>; 8] = [
         (
             &[1, 3, 5, 15, 200, 50001],
             &[1, 3, 50000, 50001],
@@ -181,9 +185,13 @@ fn differences(rt: HostRuntime) -> Result<(), AllocError> {
         (&[], &[5], &[], 0),
         (&[5, 300000], &[], &[5, 300000], 3),
     ];
-    for (ours, theirs, left, layer3) in rows {
-        let is_left = leaves_of_first(rt.alloc(), ours, theirs, left, layer3)?;
-        assert!(rt; is_left, "{ours:?} without {theirs:?}");
+    for row in rows {
+        assert!(rt;
+            leaves_of_first(rt.alloc(), row)?,
+            "{:?} without {:?}",
+            row.0,
+            row.1
+        );
     }
     Ok(())
 }

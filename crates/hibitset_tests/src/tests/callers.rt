@@ -1,16 +1,17 @@
 //! What callers know of walks and assignments, from the public contracts alone.
 ghost use Rattle.std.specs.Prelude.{◌≡◌, ℕ, ◌+◌, ◌-◌, ◌*◌, ◌^◌, ◌/◌, ◌<◌, ◌≤◌, ◌==◌, ◌&&◌, ◌||◌, true, false, [], ◌∷◌, ◌++◌, drop, length, IfOk, IfSome, IsOk, OnOk, OnErr};
-ghost use Rattle.hibitset_base.specs.Connectives.{IsIntersection, IsUnion, IsExclusive};
+ghost use Rattle.hibitset_base.specs.Connectives.{IsIntersection, IsUnion, IsSymmetricDifference};
 ghost use Rattle.hibitset_base.specs.Members.{members, members_below};
-ghost use Rattle.hibitset_base.specs.Walk.{IsDrawn, words_read, words_ahead, items_left};
+ghost use Rattle.hibitset_base.specs.Walk.{BitsAreFromSet, words_read, words_ahead, items_left};
 ghost use Rattle.hibitset_base.specs.declared.util.TheConstants.{LAYERS, MAX_EID};
 ghost use Rattle.hibitset.specs.BitSet.{has, word_of, slice_len};
-ghost use Rattle.hibitset.specs.Merging.{NoWordsFrom};
+ghost use Rattle.hibitset.specs.Merge.{NoWordsFrom};
 
-use crate::tests::{assert_count, assert_index, assert_indices, assert_words, set_of};
-use hibitset::laws::{laws, list_laws, slice_laws};
+use crate::tests::{assert_count, assert_index, assert_indices, assert_words};
+use hibitset::laws::{laws, list_laws};
 use hibitset::{BitIter, BitSet, BitSetLike, DrainableBitSet, Index, Ranked};
 use hibitset_base::util::{MAX_EID, SHIFT2};
+use hibitset_testing::sets::{copied_by_slices, set_of};
 use std::alloc::{AllocError, Global};
 
 // The members, by a loop.
@@ -40,7 +41,8 @@ fn collected(alloc: Global, set: &BitSet) -> Result<Vec<Index>, AllocError>
 
 // The members of both, by the list of a walk.
 fn shared_by(alloc: Global, a: &BitSet, b: &BitSet) -> Result<Vec<Index>, AllocError>
-    ensures { IfOk result (λ list. list.items ≡ members_below MAX_EID (λ i. has a.now i && has b.now i)) }
+    ensures { IfOk result (λ list. list.items
+        ≡ members_below MAX_EID (λ i. has a.now i && has b.now i)) }
 {
     (a & b).iter().collect(alloc)
 }
@@ -61,8 +63,8 @@ fn drained(alloc: Global, set: &mut BitSet) -> Result<Vec<Index>, AllocError>
 
 // One step of a walk, which reads at most a word of each layer below the top.
 fn step<'a>(walk: &mut BitIter<&'a BitSet>) -> Option<Index>
-    requires { IsDrawn (λ set. word_of set.now) walk.old }
-    ensures drawn { IsDrawn (λ set. word_of set.now) walk.new }
+    requires { BitsAreFromSet (λ set. word_of set.now) walk.old }
+    ensures drawn { BitsAreFromSet (λ set. word_of set.now) walk.new }
     ensures few { words_read walk.new ≤ words_read walk.old + (LAYERS - 1) }
 {
     laws();
@@ -71,8 +73,10 @@ fn step<'a>(walk: &mut BitIter<&'a BitSet>) -> Option<Index>
 
 // A copy of a walk, which has as many words ahead.
 fn copied<'a>(walk: &BitIter<&'a BitSet>) -> Result<BitIter<&'a BitSet>, AllocError>
-    ensures ahead { IfOk result (λ copy. words_ahead (λ set. word_of set.now) copy ≡ words_ahead (λ set. word_of set.now) walk.now) }
-    ensures items { IfOk result (λ copy. items_left (λ set. has set.now) copy ≡ items_left (λ set. has set.now) walk.now) }
+    ensures ahead { IfOk result (λ copy. words_ahead (λ set. word_of set.now) copy
+        ≡ words_ahead (λ set. word_of set.now) walk.now) }
+    ensures items { IfOk result (λ copy. items_left (λ set. has set.now) copy
+        ≡ items_left (λ set. has set.now) walk.now) }
 {
     walk.clone()
 }
@@ -87,7 +91,7 @@ fn narrow(set: &mut BitSet, other: &BitSet)
 // Adds what is in the other.
 fn widen(set: &mut BitSet, other: &BitSet) -> Result<(), AllocError>
     ensures members { OnOk result (IsUnion (has set.old) (has other.now) (has set.new)) }
-    ensures refused { OnErr result ((i : ℕ) → has set.new i ≡ has set.old i) }
+    ensures err { OnErr result ((i : ℕ) → has set.new i ≡ has set.old i) }
 {
     laws();
     set.bitor_assign(other)
@@ -95,8 +99,9 @@ fn widen(set: &mut BitSet, other: &BitSet) -> Result<(), AllocError>
 
 // Adds what is in the other alone, and takes out what is in both.
 fn exchange(set: &mut BitSet, other: &BitSet) -> Result<(), AllocError>
-    ensures members { OnOk result (IsExclusive (has set.old) (has other.now) (has set.new)) }
-    ensures refused { OnErr result ((i : ℕ) → has set.new i ≡ has set.old i) }
+    ensures members { OnOk result (IsSymmetricDifference (has set.old) (has other.now)
+        (has set.new)) }
+    ensures err { OnErr result ((i : ℕ) → has set.new i ≡ has set.old i) }
 {
     laws();
     set.bitxor_assign(other)
@@ -116,7 +121,8 @@ fn alone(alloc: Global, id: Index) -> Result<BitSet, AllocError>
 // Room for the indices below 4,096, which are 64 words of layer 0 and one of each layer above.
 fn room_for_a_block(alloc: Global) -> Result<BitSet, AllocError>
     ensures lowest { IfOk result (λ set. slice_len set 0 ≡ 64) }
-    ensures above { IfOk result (λ set. (slice_len set 1 ≤ 1) × (slice_len set 2 ≤ 1) × (slice_len set 3 ≤ 1)) }
+    ensures above { IfOk result (λ set. (slice_len set 1 ≤ 1) × (slice_len set 2 ≤ 1)
+        × (slice_len set 3 ≤ 1)) }
 {
     let set = BitSet::with_capacity(alloc, 4_096)?;
     Ok(set)
@@ -126,7 +132,7 @@ fn room_for_a_block(alloc: Global) -> Result<BitSet, AllocError>
 fn add_one(set: &mut BitSet, id: Index) -> Result<(), AllocError>
     requires { id < MAX_EID }
     ensures added { OnOk result ((i : ℕ) → has set.new i ≡ (has set.old i || i == id)) }
-    ensures room { id / 64 < slice_len set.old 0 → IsOk result }
+    ensures succeeds { id / 64 < slice_len set.old 0 → IsOk result }
 {
     set.add_range(id, id + 1)
 }
@@ -147,23 +153,6 @@ fn read_again(alloc: Global, set: &BitSet) -> Result<BitSet, AllocError>
     BitSet::from_words(alloc, set.layer0_as_slice())
 }
 
-// A copy of a set, by the slices of its layers.
-fn copied_by_slices(alloc: Global, set: &BitSet) -> Result<BitSet, AllocError>
-    ensures members { IfOk result (λ copy. (i : ℕ) → has copy i ≡ has set.now i) }
-    ensures words { IfOk result (λ copy. (l p : ℕ) → l < LAYERS - 1 → word_of copy l p ≡ word_of set.now l p) }
-    ensures lengths { IfOk result (λ copy. (l : ℕ) → l < LAYERS - 1 → slice_len copy l ≡ slice_len set.now l) }
-{
-    slice_laws();
-    BitSet::from_layers(
-        alloc,
-        set.layer0_as_slice(),
-        set.layer1_as_slice(),
-        set.layer2_as_slice(),
-        set.layer3_as_slice(),
-        set.layer4(),
-    )
-}
-
 // The first index of each block of 4,096 that has a member: layer 1 has a word for each block.
 fn blocks_of(alloc: Global, set: &BitSet) -> Result<BitSet, AllocError> {
     let words = set.layer1_as_slice();
@@ -178,8 +167,10 @@ fn blocks_of(alloc: Global, set: &BitSet) -> Result<BitSet, AllocError> {
 
 // The members that the list begins and ends with, if there is one.
 fn ends(set: &BitSet) -> Option<(Index, Index)>
-    ensures head { IfSome result (λ r. members_below MAX_EID (has set.now) ≡ r.0 ∷ drop 1 (members_below MAX_EID (has set.now))) }
-    ensures end { IfSome result (λ r. members_below MAX_EID (has set.now) ≡ members_below r.1 (has set.now) ++ (r.1 ∷ [])) }
+    ensures head { IfSome result (λ r. members_below MAX_EID (has set.now)
+        ≡ r.0 ∷ drop 1 (members_below MAX_EID (has set.now))) }
+    ensures end { IfSome result (λ r. members_below MAX_EID (has set.now)
+        ≡ members_below r.1 (has set.now) ++ (r.1 ∷ [])) }
 {
     list_laws();
     Some((set.first()?, set.last()?))

@@ -1,11 +1,12 @@
 //! Sets compared, and copied.
 ghost use Rattle.std.specs.Prelude.{◌≤◌};
 
-use crate::tests::{assert_members, set_of};
+use crate::tests::assert_members;
 use hibitset::{BitSet, Index};
+use hibitset_testing::sets::set_of;
 use std::alloc::{AllocError, Global};
 
-// Tells whether the first set contains the second, as it is said, and whether they contain each other and are equal,
+// Returns whether the first set contains the second, as it is said, and whether they contain each other and are equal,
 // either way, as it is said.
 fn compare_as(
     alloc: Global,

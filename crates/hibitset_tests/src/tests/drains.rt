@@ -5,14 +5,16 @@ ghost use Rattle.hibitset_base.specs.Members.{members_below};
 ghost use Rattle.hibitset_base.specs.declared.util.TheConstants.{MAX_EID};
 ghost use Rattle.hibitset.specs.BitSet.{has, slice_len};
 
-use crate::tests::{assert_count, assert_index, assert_indices, set_of};
+use crate::tests::{assert_count, assert_index, assert_indices};
 use hibitset::{BitSet, DrainableBitSet, Index};
 use hibitset_base::util::MAX_EID;
+use hibitset_testing::sets::set_of;
 use std::alloc::{AllocError, Global};
 
 // Takes the first member out, by a drain that is dropped early.
 fn take_first(set: &mut BitSet) -> Option<Index>
-    ensures gone { IfSome result (λ first. (i : ℕ) → has set.new i ≡ (has set.old i && not (i == first))) }
+    ensures gone { IfSome result (λ first. (i : ℕ)
+        → has set.new i ≡ (has set.old i && not (i == first))) }
     ensures none { IfNone result (set.new ≡ set.old) }
     ensures room { slice_len set.new 0 ≡ slice_len set.old 0 }
 {
@@ -22,7 +24,8 @@ fn take_first(set: &mut BitSet) -> Option<Index>
 // Takes all members out, in a loop.
 fn take_all(alloc: Global, set: &mut BitSet) -> Result<Vec<Index>, AllocError>
     ensures items { IfOk result (λ items. items.items ≡ members_below MAX_EID (has set.old)) }
-    ensures gone { IfOk result (λ items. (i : ℕ) → has set.new i ≡ (has set.old i && not (list_any (λ x. i == x) items.items))) }
+    ensures gone { IfOk result (λ items. (i : ℕ)
+        → has set.new i ≡ (has set.old i && not (list_any (λ x. i == x) items.items))) }
     ensures room { slice_len set.new 0 ≡ slice_len set.old 0 }
 {
     let mut items = Vec::new(alloc);

@@ -7,7 +7,7 @@ use hibitset_base::virt::BitSetAll;
 // layers 0 to 4.
 type Vector = (Index, (usize, usize, usize, usize), [usize; LAYERS]);
 
-// Tells whether an index is made of these.
+// Returns whether an index is made of these.
 fn is_made_of(index: Index, words: (usize, usize, usize, usize), bits: [usize; LAYERS]) -> bool {
     let [b0, b1, b2, b3, b4] = bits;
     offsets(index) == words

@@ -1,8 +1,9 @@
 //! A set from `new` to `clear`.
-use crate::tests::{assert_count, assert_members, assert_words, set_of};
+use crate::tests::{assert_count, assert_members, assert_words};
 use hibitset::util::{ATOMIC_MAX_EID, Row, average_ones};
 use hibitset::{BitSet, BitSetLike, Index};
 use hibitset_base::util::{LAYERS, MAX, MAX_EID, SHIFT0, SHIFT1, SHIFT2, SHIFT3, SHIFT4};
+use hibitset_testing::sets::set_of;
 use std::alloc::{AllocError, AllocGlobal};
 use std::process::Abort;
 
@@ -193,7 +194,7 @@ fn clearing(rt: HostRuntime) -> Result<(), AllocError> {
     assert_members(&rt, &set, &[70])
 }
 
-// The test of this name in `refusals` sees what stands where memory is refused.
+// The test of this name in `hibitset_refusals` sees what stands if an allocation fails.
 #[test]
 fn room_made_before(rt: HostRuntime) -> Result<(), AllocError> {
     let mut set = BitSet::with_capacity(rt.alloc(), 1000)?;

@@ -1,6 +1,7 @@
 //! Walks that begin in a state made by hand.
-use crate::tests::{assert_index, assert_indices, set_of};
+use crate::tests::{assert_index, assert_indices};
 use hibitset::{BitIter, BitSet, DrainBitIter};
+use hibitset_testing::sets::set_of;
 use std::alloc::AllocError;
 
 #[test]

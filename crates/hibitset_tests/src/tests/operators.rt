@@ -1,6 +1,6 @@
 //! The operators of every type, of owned sets and of references. A row has the members below 4, as bits.
-use crate::tests::set_of;
 use hibitset::{BitSetAll, BitSetAnd, BitSetLike, BitSetNot, BitSetOr, BitSetXor};
+use hibitset_testing::sets::set_of;
 use std::alloc::AllocError;
 use std::process::Abort;
 

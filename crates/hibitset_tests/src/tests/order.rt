@@ -1,11 +1,10 @@
 //! Sets asked by order: places, ranges, the members before an index, and walks from the last member down.
-use crate::tests::{
-    assert_count, assert_index, assert_indices, assert_members, every_second, run_of, set_of,
-};
+use crate::tests::{assert_count, assert_index, assert_indices, assert_members, every_second};
 use hibitset::{
     BitSet, BitSetAll, BitSetAnd, BitSetLike, BitSetNot, BitSetRange, DrainableBitSet, Index,
     MAX_EID, Ranked,
 };
+use hibitset_testing::sets::{BORDERS, run_of, set_of};
 use std::alloc::AllocError;
 
 const SPREAD: [Index; 10] = [
@@ -18,20 +17,6 @@ const SPREAD: [Index; 10] = [
     70_000,
     262_144,
     16_777_215,
-    1_073_741_823,
-];
-
-// The first and the last index of a word in each layer.
-const BORDERS: [Index; 10] = [
-    0,
-    63,
-    64,
-    4_095,
-    4_096,
-    262_143,
-    262_144,
-    16_777_215,
-    16_777_216,
     1_073_741_823,
 ];
 
@@ -57,7 +42,7 @@ fn last_of(ids: &[Index], end: Index) -> Option<Index> {
     last
 }
 
-// Tells whether all answers at an index are those of a list.
+// Returns whether all answers at an index are those of a list.
 fn answers_at<T: BitSetLike>(set: &T, ids: &[Index], index: Index) -> bool {
     set.rank(index) == before(ids, index)
         && set.last_before(index) == last_of(ids, index)
@@ -77,7 +62,7 @@ fn answers_of_a_list(rt: HostRuntime) -> Result<(), AllocError> {
     Ok(())
 }
 
-// Tells whether the ranges from an index to each border have as many members as lie there in a list.
+// Returns whether the ranges from an index to each border have as many members as lie there in a list.
 fn ranges_from<T: BitSetLike>(set: &T, ids: &[Index], start: Index) -> bool {
     for end in BORDERS {
         let wanted = before(ids, end).saturating_sub(before(ids, start));
@@ -109,7 +94,7 @@ fn ranges_between_borders(rt: HostRuntime) -> Result<(), AllocError> {
     Ok(())
 }
 
-// Tells whether the ranges from an index to each border are as long as counted.
+// Returns whether the ranges from an index to each border are as long as counted.
 fn whole_ranges_from(start: Index) -> bool {
     for end in BORDERS {
         if BitSetAll.len_range(start, end) != end.saturating_sub(start) as usize {
@@ -325,7 +310,7 @@ fn differences(rt: HostRuntime) -> Result<(), AllocError> {
     assert_members(&rt, other - set, &[65])
 }
 
-// Tells whether counts beside a set give what the list of its members gives at an index and around it.
+// Returns whether counts beside a set give what the list of its members gives at an index and around it.
 fn ranks_around<T: BitSetLike>(ranked: &Ranked<T>, ids: &[Index], index: Index) -> bool {
     let below = index.saturating_sub(1);
     let above = index.saturating_add(1);
@@ -334,7 +319,7 @@ fn ranks_around<T: BitSetLike>(ranked: &Ranked<T>, ids: &[Index], index: Index) 
         && ranked.rank(above) == before(ids, above)
 }
 
-// Tells whether counts beside a set give the member at each position of a list, and none past its end.
+// Returns whether counts beside a set give the member at each position of a list, and none past its end.
 fn selects_all<T: BitSetLike>(ranked: &Ranked<T>, ids: &[Index]) -> bool {
     for place in 0..ids.len() {
         if ranked.select(place) != ids.get(place).copied() {

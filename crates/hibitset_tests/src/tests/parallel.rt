@@ -3,9 +3,11 @@ ghost use Rattle.std.specs.Prelude.{◌≡◌, ◌-◌, ◌^◌, ◌≤◌, leng
 ghost use Rattle.hibitset_base.specs.Members.{members_below};
 ghost use Rattle.hibitset_base.specs.declared.util.TheConstants.{LAYERS, MAX_EID};
 
-use crate::tests::{assert_count, assert_indices, every_second, list, run_of, set_of};
+use crate::tests::{assert_count, assert_indices, every_second};
 use hibitset::{BitParIter, BitSet, BitSetAnd, BitSetLike, Index};
 use hibitset_base::util::MAX_EID;
+use hibitset_testing::parts::sum_of;
+use hibitset_testing::sets::{BORDERS, list, run_of, set_of};
 use std::alloc::{AllocError, Global};
 use std::process::Abort;
 use std::sync::atomic::{AtomicUsize, Ordering};
@@ -128,21 +130,6 @@ fn counts_of_small_sets(rt: HostRuntime) -> Result<(), AllocError> {
     Ok(())
 }
 
-// The sum of the members of a set.
-fn sum_of<T: BitSetLike + Send + Sync>(
-    rt: &(impl Threads + Sync),
-    alloc: Global,
-    set: &T,
-) -> Result<u64, AllocError> {
-    set.par_iter().fold(
-        rt,
-        alloc,
-        || 0u64,
-        |sum: u64, index: Index| sum.wrapping_add(u64::from(index)),
-        |sum: u64, other: u64| sum.wrapping_add(other),
-    )
-}
-
 #[test]
 fn folds_of_ten_and_of_many(rt: HostRuntime) -> Result<(), AllocError> {
     let ten = run_of(rt.alloc(), 10)?;
@@ -260,18 +247,7 @@ fn counts_of_many_words(rt: HostRuntime) -> Result<(), AllocError> {
 // What `for_each` visits of a small set, which it walks over in one thread: each index by itself, up to the last.
 #[test]
 fn visits_of_border_indices(rt: HostRuntime) -> Result<(), AllocError> {
-    for index in [
-        0,
-        63,
-        64,
-        4_095,
-        4_096,
-        262_143,
-        262_144,
-        16_777_215,
-        16_777_216,
-        1_073_741_823,
-    ] {
+    for index in BORDERS {
         let set = set_of(rt.alloc(), &[index])?;
         for layers in 1..5u8 {
             let walk = (&set).par_iter().layers_split(layers);

@@ -1,6 +1,7 @@
 //! Ranges added and taken out, the ends of a set, and words in and out.
-use crate::tests::{assert_count, assert_index, assert_members, assert_words, run_of, set_of};
+use crate::tests::{assert_count, assert_index, assert_members, assert_words};
 use hibitset::{BitSet, BitSetAll, BitSetAnd, BitSetLike, BitSetNot, BitSetOr, Index, MAX_EID};
+use hibitset_testing::sets::{run_of, set_of};
 use std::alloc::AllocError;
 
 #[test]
@@ -91,7 +92,7 @@ fn last_members(rt: HostRuntime) -> Result<(), AllocError> {
     Ok(())
 }
 
-// Where bits stand over words that are 0, the last member lies under a bit before them.
+// Where bits are set over zero words, the last member lies under a bit before them.
 #[test]
 fn last_members_under_phantoms(rt: HostRuntime) -> Result<(), AllocError> {
     let a = set_of(rt.alloc(), &[1, 70, 4_096, 300_000])?;

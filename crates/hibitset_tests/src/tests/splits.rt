@@ -1,13 +1,15 @@
 //! Walks that are split, and parts of them.
 ghost use Rattle.std.specs.Prelude.{◌≡◌, ◌++◌, ◌<◌, length, IfOk, IfSome};
 ghost use Rattle.hibitset_base.specs.Members.{members_below};
-ghost use Rattle.hibitset_base.specs.Splits.{part_items, other_items};
+ghost use Rattle.hibitset_base.specs.Splits.{part_items, items_of_second};
 ghost use Rattle.hibitset_base.specs.declared.util.TheConstants.{MAX_EID};
 
-use crate::tests::{assert_count, assert_index, assert_indices, run_of, set_of};
+use crate::tests::{assert_count, assert_index, assert_indices};
 use hibitset::laws::laws;
 use hibitset::{BitProducer, BitSet, BitSetLike, Index};
 use hibitset_base::util::{LAYERS, MAX_EID, average_ones};
+use hibitset_testing::parts::parts_to_the_end;
+use hibitset_testing::sets::{run_of, set_of};
 use std::alloc::{AllocError, AllocGlobal, Global};
 use std::process::Abort;
 use std::test::Fail;
@@ -24,30 +26,6 @@ fn halving_bits(rt: HostRuntime) {
     ] {
         assert_eq!(rt; average_ones(word), half);
     }
-}
-
-// How many parts there are where each is split to its end.
-fn parts_to_the_end(alloc: Global, set: &BitSet, layers: u8) -> Result<usize, AllocError> {
-    let mut open = Vec::new(alloc);
-    open.push(BitProducer(set.iter(), layers))?;
-    let mut ended = 0usize;
-    for _ in 0..40_000u32 {
-        let Some(part) = open.pop() else {
-            break;
-        };
-        if part.1 as usize >= LAYERS {
-            break;
-        }
-        let (first, second) = part.split();
-        match second {
-            None => ended = ended.wrapping_add(1),
-            Some(other) => {
-                open.push(first)?;
-                open.push(other)?;
-            }
-        }
-    }
-    Ok(ended)
 }
 
 #[test]
@@ -133,7 +111,7 @@ fn list_of<'a, T: BitSetLike + Send + Sync>(
     alloc: Global,
     part: Option<BitProducer<'a, T>>,
 ) -> Result<Vec<Index>, AllocError>
-    ensures { IfOk result (λ list. list.items ≡ other_items T.holds part.entry) }
+    ensures { IfOk result (λ list. list.items ≡ items_of_second T.holds part.entry) }
 {
     let mut list = Vec::new(alloc);
     let Some(part) = part else {
@@ -153,7 +131,8 @@ struct Thirds {
 }
 
 fn in_thirds<T: BitSetLike + Send + Sync>(alloc: Global, set: &T) -> Result<Thirds, AllocError>
-    ensures { IfOk result (λ thirds. thirds.low.items ++ thirds.middle.items ++ thirds.high.items ≡ members_below MAX_EID (T.holds set.now)) }
+    ensures { IfOk result (λ thirds. thirds.low.items ++ thirds.middle.items ++ thirds.high.items
+        ≡ members_below MAX_EID (T.holds set.now)) }
 {
     let whole = BitProducer(set.iter(), 4);
     let (lower, high) = whole.split();
@@ -167,7 +146,9 @@ fn in_thirds<T: BitSetLike + Send + Sync>(alloc: Global, set: &T) -> Result<Thir
 
 // Two parts of a set: neither is empty, where there is a second one.
 fn halves<'a>(set: &'a BitSet) -> (BitProducer<'a, BitSet>, Option<BitProducer<'a, BitSet>>)
-    ensures { IfSome result.1 (λ other. (0 < length (part_items ⟦<BitSet as BitSetLike>⟧.holds result.0)) × (0 < length (part_items ⟦<BitSet as BitSetLike>⟧.holds other))) }
+    ensures { IfSome result.1 (λ other.
+        (0 < length (part_items ⟦<BitSet as BitSetLike>⟧.holds result.0))
+        × (0 < length (part_items ⟦<BitSet as BitSetLike>⟧.holds other))) }
 {
     laws();
     BitProducer(set.iter(), 4).split()

@@ -1,20 +1,19 @@
 //! Walks, drains and virtual sets over sets that keep their words.
 ghost use Rattle.std.specs.Prelude.{◌≡◌, ◌≤◌, ℕ, length, min};
-ghost use Rattle.hibitset_base.specs.Reading.{IsBoundBy, words_in};
+ghost use Rattle.hibitset_base.specs.WordsRead.{AreBoundByMembers, words_in};
 ghost use Rattle.hibitset_base.specs.Walk.{words_read, words_ahead};
 ghost use Rattle.hibitset_base.specs.declared.util.TheConstants.{LAYERS};
 ghost use Rattle.hibitset.specs.BitSet.{has, members_of};
-ghost use Rattle.hibitset.specs.Laws.{intersected};
+ghost use Rattle.hibitset.specs.Laws.{intersection_word};
 
-use crate::tests::{
-    assert_count, assert_index, assert_indices, assert_members, every_second, list, set_of,
-};
+use crate::tests::{assert_count, assert_index, assert_indices, assert_members, every_second};
 use hibitset::laws::laws;
 use hibitset::{
     BitIter, BitSet, BitSetAll, BitSetAnd, BitSetLike, BitSetNot, BitSetOr, BitSetXor,
     DrainableBitSet, Index,
 };
 use hibitset_base::util::LAYERS;
+use hibitset_testing::sets::{list, set_of};
 use std::alloc::AllocError;
 
 #[test]
@@ -171,8 +170,11 @@ fn added_up(set: BitSet) -> u32 {
 // each layer at most as many as the smaller set has members.
 fn walk_both<'a>(a: &'a BitSet, b: &'a BitSet) -> BitIter<BitSetAnd<&'a BitSet, &'a BitSet>>
     ensures read { words_read result ≡ 1 }
-    ensures bound { IsBoundBy LAYERS (has a.now) (words_ahead (λ both. intersected both.0.now both.1.now) result) }
-    ensures each { (l : ℕ) → words_in l (words_ahead (λ both. intersected both.0.now both.1.now) result) ≤ min (length (members_of a.now)) (length (members_of b.now)) }
+    ensures bound { AreBoundByMembers LAYERS (has a.now)
+        (words_ahead (λ both. intersection_word both.0.now both.1.now) result) }
+    ensures each { (l : ℕ) → words_in l
+        (words_ahead (λ both. intersection_word both.0.now both.1.now) result)
+        ≤ min (length (members_of a.now)) (length (members_of b.now)) }
 {
     laws();
     (a & b).iter()

@@ -1,5 +1,5 @@
 use Rattle.std.proofs.Common.{ℕ, ◌<◌}
-use Rattle.hibitset_store.specs.Room.{HasRoom}
+use Rattle.hibitset_store.specs.Capacity.{HasRoom}
 use Rattle.hibitset_store.specs.declared.pages.TheConstants.{PAGE}
 use Rattle.hibitset_store_tests.proofs.tests.callers.fill.Given as goal
 

@@ -3,7 +3,7 @@ use Rattle.std.specs.Prelude.{if◌then◌else◌}
 use Rattle.std.specs.Option.{is_some, option_map}
 use Rattle.std.proofs.lemmas.Bool.Decides.{nat_tests}
 use Rattle.hibitset.specs.BitSet.{has}
-use Rattle.hibitset_base.specs.Deciding.{same_or_not}
+use Rattle.hibitset_base.specs.Decisions.{same_or_not}
 use Rattle.hibitset_base.specs.Walk.{items_left}
 use Rattle.hibitset_store.specs.Columns.{Map, IsWith, value_of}
 use Rattle.hibitset_store.proofs.CallerLemmas.{none_unlisted}

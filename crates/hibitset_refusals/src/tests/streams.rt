@@ -1,0 +1,151 @@
+//! Sets read from streams and written to them.
+use crate::tests::{ask, assert_has, say};
+use hibitset::BitSet;
+use hibitset_roaring::laws::{round_trip, round_trip_optimized};
+use hibitset_roaring::{
+    read, read_below, read_from, write, write_into, write_like, write_run_optimized,
+    write_run_optimized_to, write_to, write_words,
+};
+use hibitset_testing::sets::set_of;
+use std::alloc::{AllocError, Global};
+use std::test::Fail;
+
+// The stream of {5, 70000}.
+const STREAM: [u8; 28] = [
+    58, 48, 0, 0, 2, 0, 0, 0, 0, 0, 0, 0, 1, 0, 0, 0, 24, 0, 0, 0, 26, 0, 0, 0, 5, 0, 112, 17,
+];
+
+// The set's words.
+#[test]
+fn read_a_stream(rt: HostRuntime) -> Result<(), Fail> {
+    let set = retried!(&rt, read(rt.alloc(), &STREAM));
+    assert_has(&rt, &set, &[5, 70_000]);
+    Ok(())
+}
+
+#[test]
+fn read_with_a_bound(rt: HostRuntime) -> Result<(), Fail> {
+    let set = retried!(&rt, read_below(rt.alloc(), &STREAM, 2));
+    assert_has(&rt, &set, &[5, 70_000]);
+    Ok(())
+}
+
+// The bytes, the words, and the set of them.
+#[test]
+fn read_from_a_reader(rt: HostRuntime) -> Result<(), Fail> {
+    let set = retried!(&rt, read_from(rt.alloc(), &mut STREAM.as_slice(), 2));
+    assert_has(&rt, &set, &[5, 70_000]);
+    Ok(())
+}
+
+// Returns whether bytes are the stream.
+fn is_stream(bytes: &[u8]) -> bool {
+    bytes == STREAM.as_slice()
+}
+
+// The keys, the numbers of members, and the stream.
+#[test]
+fn write_a_set(rt: HostRuntime) -> Result<(), Fail> {
+    let set = set_of(rt.alloc(), &[5, 70_000])?;
+    let stream = retried!(&rt, write(rt.alloc(), &set));
+    assert!(rt; is_stream(&stream));
+    Ok(())
+}
+
+// The words of what two sets have in common, in four layers, and then as a `BitSet` is written.
+#[test]
+fn write_a_virtual_set(rt: HostRuntime) -> Result<(), Fail> {
+    let first = set_of(rt.alloc(), &[5, 6, 70_000])?;
+    let second = set_of(rt.alloc(), &[5, 70_000, 70_001])?;
+    let both = &first & &second;
+    let stream = retried!(&rt, write_like(rt.alloc(), &both));
+    assert!(rt; is_stream(&stream));
+    Ok(())
+}
+
+// The same behind a byte, which is all that is there where one failed.
+#[test]
+fn write_behind_a_byte(rt: HostRuntime) -> Result<(), Fail> {
+    let set = set_of(rt.alloc(), &[5, 70_000])?;
+    let mut out = Vec::from_slice(rt.alloc(), &[7])?;
+    let refused = tried!(&rt, write_to(rt.alloc(), &set, &mut out)).is_err();
+    if refused {
+        assert!(rt; out.len() == 1);
+        write_to(rt.alloc(), &set, &mut out)?;
+    }
+    assert!(rt; out.len() == 29 && out[0] == 7);
+    assert!(rt; is_stream(&out[1..]));
+    Ok(())
+}
+
+// As a set is written. Nothing is written where one failed.
+#[test]
+fn write_into_a_writer(rt: HostRuntime) -> Result<(), Fail> {
+    let set = set_of(rt.alloc(), &[5, 70_000])?;
+    let mut out = [7; 28];
+    let refused = tried!(&rt, write_into(rt.alloc(), &set, &mut out.as_mut_slice())).is_err();
+    if refused {
+        assert!(rt; out[0] == 7 && out[27] == 7);
+        write_into(rt.alloc(), &set, &mut out.as_mut_slice())?;
+    }
+    assert!(rt; is_stream(&out));
+    Ok(())
+}
+
+fn write_words_of(alloc: Global, set: &BitSet, out: &mut [u8]) -> Result<usize, AllocError> {
+    write_words(alloc, set.layer0_as_slice(), set.layer1_as_slice(), out)
+}
+
+// The keys and the numbers of members. The buffer is as it was where one failed.
+#[test]
+fn write_into_a_buffer(rt: HostRuntime) -> Result<(), Fail> {
+    let set = set_of(rt.alloc(), &[5, 70_000])?;
+    let mut out = [7; 28];
+    let refused = tried!(&rt, write_words_of(rt.alloc(), &set, &mut out)).is_err();
+    if refused {
+        assert!(rt; out[0] == 7 && out[27] == 7);
+        write_words_of(rt.alloc(), &set, &mut out)?;
+    }
+    assert!(rt; is_stream(&out));
+    Ok(())
+}
+
+#[test]
+fn round_trip_of_a_set(rt: HostRuntime) -> Result<(), Fail> {
+    let set = set_of(rt.alloc(), &[5, 70_000])?;
+    let copy: BitSet = retried!(&rt, round_trip(rt.alloc(), &set));
+    assert_has(&rt, &copy, &[5, 70_000]);
+    Ok(())
+}
+
+// The keys, the numbers of members, those of runs, and the stream: none of its containers is runs.
+#[test]
+fn write_a_set_without_runs(rt: HostRuntime) -> Result<(), Fail> {
+    let set = set_of(rt.alloc(), &[5, 70_000])?;
+    let stream = retried!(&rt, write_run_optimized(rt.alloc(), &set));
+    assert!(rt; is_stream(&stream));
+    Ok(())
+}
+
+// The same behind a byte, which is all that is there where one failed.
+#[test]
+fn write_runs_behind_a_byte(rt: HostRuntime) -> Result<(), Fail> {
+    let set = set_of(rt.alloc(), &[5, 70_000])?;
+    let mut out = Vec::from_slice(rt.alloc(), &[7])?;
+    let refused = tried!(&rt, write_run_optimized_to(rt.alloc(), &set, &mut out)).is_err();
+    if refused {
+        assert!(rt; out.len() == 1);
+        write_run_optimized_to(rt.alloc(), &set, &mut out)?;
+    }
+    assert!(rt; out.len() == 29 && out[0] == 7);
+    assert!(rt; is_stream(&out[1..]));
+    Ok(())
+}
+
+#[test]
+fn round_trip_with_runs(rt: HostRuntime) -> Result<(), Fail> {
+    let set = set_of(rt.alloc(), &[5, 70_000])?;
+    let copy: BitSet = retried!(&rt, round_trip_optimized(rt.alloc(), &set));
+    assert_has(&rt, &copy, &[5, 70_000]);
+    Ok(())
+}
