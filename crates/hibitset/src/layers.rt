@@ -146,7 +146,7 @@ impl Layers {
         Vec::with_capacity(alloc, end)
     }
 
-    // These words in layer 0, and zero words behind them. It makes one request for memory at most, and none if the
+    // These words in layer 0, and zero words behind them. It allocates at most once, and not at all if the
     // vector has room for both.
     fn before_zeros(words: Vec<usize>) -> Result<Layers, AllocError>
         requires { length words.items ≤ 64 ^ (LAYERS - 1) }
@@ -398,8 +398,8 @@ impl Layers {
         self.lens = lens_over(len);
     }
 
-    /// Makes layer 0 `len` words long, and the layers above it as long as they are over it, by zero words. It makes one
-    /// request for memory at most, and then makes room for `room` words of layer 0, where that is more and not too
+    /// Makes layer 0 `len` words long, and the layers above it as long as they are over it, by zero words. It allocates
+    /// at most once, and then makes room for `room` words of layer 0, where that is more and not too
     /// much; refused, nothing changes.
     pub(crate) fn set_len(&mut self, len: usize, room: usize) -> Result<(), AllocError>
         requires more { len_in self.old 0 ≤ len }

@@ -59,7 +59,7 @@ pub(crate) fn next_capacity(room: usize, len: usize) -> usize
         .max(len)
 }
 
-// Lengthens a list by zero words. It makes one request for memory at most, for no more than it needs; refused, nothing
+// Lengthens a list by zero words. It allocates at most once, for no more than it needs; refused, nothing
 // changes.
 pub(crate) fn lengthen_to(words: &mut Vec<usize>, end: usize) -> Result<(), AllocError>
     requires { length words.old.items ≤ end }

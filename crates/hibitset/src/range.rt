@@ -201,7 +201,7 @@ impl BitSet {
     /// Adds the indices from `start` on before `end`, which is at most `MAX_EID`, by whole words. Where `end` is not
     /// above `start` there is nothing to add. If an allocation fails, the members stay. The original has no such call.
     ///
-    /// It makes one request for memory at most, and none where the word of `end - 1` lies in `layer0_as_slice`. Else it
+    /// It allocates at most once, and not at all if the word of `end - 1` lies in `layer0_as_slice`. Else it
     /// makes the slices as long as `add` of `end - 1` does; refused, it leaves the length of layer 0.
     pub fn add_range(&mut self, start: Index, end: Index) -> Result<(), AllocError>
         requires { end ≤ MAX_EID }
@@ -241,7 +241,7 @@ impl BitSet {
     /// Flips the indices from `start` on before `end`, which is at most `MAX_EID`: those in the set are taken out, and
     /// the others are added. If `end` is not above `start` nothing changes. If an allocation fails, the members stay.
     ///
-    /// It makes one request for memory at most, and none where the word of `end - 1` lies in `layer0_as_slice`. Else it
+    /// It allocates at most once, and not at all if the word of `end - 1` lies in `layer0_as_slice`. Else it
     /// makes the slices as long as `add` of `end - 1` does; refused, it leaves the length of layer 0.
     pub fn flip_range(&mut self, start: Index, end: Index) -> Result<(), AllocError>
         requires { end ≤ MAX_EID }
