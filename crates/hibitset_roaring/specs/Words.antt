@@ -32,6 +32,10 @@ ones_from words base (suc n) = ones_from words base n + count_ones (get_or words
 abbrev pub ones_under : List ℕ → ℕ → ℕ
 ones_under words key = ones_from words (1024 * key) 1024
 
+-- These bits tell which of the 16 words of layer 1 over a container are not 0.
+pub record AreBlocks (above : List ℕ) (key blocks : ℕ) : Type 0 where
+  pub bits : (b : ℕ) → b < 64 → (bit_at blocks b == 1) ≡ (nat_lt b 16 && nat_lt 0 (get_or above (16 * key + b) 0))
+
 -- These are the bits of the word of layer 1 over a slot of a container that lie above the slot's.
 pub record IsRest (above : List ℕ) (key slot rest : ℕ) : Type 0 where
   pub upper : (b : ℕ) → slot % 64 < b → b < 64 → bit_at rest b ≡ bit_at (get_or above (16 * key + slot / 64) 0) b

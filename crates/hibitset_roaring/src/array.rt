@@ -10,7 +10,7 @@ ghost use Rattle.hibitset_roaring.specs.Words.{in_word, ones_from, ones_under, A
 
 use crate::layout::CONTAINER_WORDS;
 use crate::number::put_u16;
-use crate::slots::{next_slot, rest_over, slot_after, take_lowest, word_of};
+use crate::slots::{blocks_over, slot_after, slot_from, take_lowest, word_of};
 
 // Writes the bits of a word, whose first bit has the number `first`, behind the `len` numbers of an array, and returns
 // how many it has then.
@@ -48,11 +48,12 @@ pub(crate) fn write_array(out: &mut [u8], at: usize, words: &[usize], above: &[u
         → in_array out.new at (ones_under words.now key) v ≡ stands_in words.now (65536 * key + v) }
 {
     let base = CONTAINER_WORDS * key;
+    let blocks = blocks_over(above, key);
     let mut len = 0;
-    let mut slot = next_slot(above, key, 0);
-    let mut rest = rest_over(above, key, slot);
+    let mut rest = 0;
+    let mut slot = slot_from(above, key, blocks, 0, &mut rest);
     'slots: while slot < CONTAINER_WORDS {
         len = write_word(out, at, len, 64 * slot, word_of(words, base + slot));
-        slot = slot_after(above, key, slot, &mut rest);
+        slot = slot_after(above, key, blocks, slot, &mut rest);
     }
 }

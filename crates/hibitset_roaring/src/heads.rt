@@ -1,15 +1,18 @@
 //! Which containers a set has, and how many members each.
 
-ghost use Rattle.std.specs.Prelude.{◌≡◌, ℕ, ◌+◌, ◌-◌, ◌*◌, ◌/◌, ◌^◌, ◌<◌, ◌≤◌, length, IfOk, OnOk};
+ghost use Rattle.std.specs.Prelude.{◌≡◌, ℕ, ◌+◌, ◌-◌, ◌*◌, ◌/◌, ◌^◌, ◌<◌, ◌≤◌, true, length, IfOk, OnOk};
 ghost use Rattle.hibitset_roaring.specs.Streams.{AreHeads};
-ghost use Rattle.hibitset_roaring.specs.Words.{ones_from, ones_under, AreSummaries};
+ghost use Rattle.hibitset_roaring.specs.Words.{ones_from, ones_under, AreBlocks, AreSummaries};
 
 use crate::layout::CONTAINER_WORDS;
-use crate::slots::{CONTAINER_BLOCKS, next_slot, rest_over, slot_after, word_of};
+use crate::slots::{CONTAINER_BLOCKS, blocks_over, slot_after, slot_from, word_of};
 use std::alloc::{AllocError, Global};
 
 // From this many nonzero words on, all words of a container are counted.
 const MANY_WORDS: usize = 256;
+
+// So many words of layer 1 that are not 0 may lie over many nonzero words.
+const MANY_BLOCKS: usize = 8;
 
 /// The keys of the containers of a set, and how many members each has.
 #[derive(Drop)]
@@ -43,21 +46,32 @@ fn count_whole(words: &[usize], base: usize) -> usize
 }
 
 // How many bits are set in the words of a container, of which those that are 0 are skipped.
-fn count_some(words: &[usize], above: &[usize], key: usize) -> usize
+fn count_some(words: &[usize], above: &[usize], key: usize, blocks: usize) -> usize
     requires key { key < 65536 }
     requires above { AreSummaries words.now above.now }
+    requires blocks { AreBlocks above.now key blocks }
     ensures count { result ≡ ones_under words.now key }
     ensures few { result ≤ 65536 }
 {
     let base = CONTAINER_WORDS * key;
     let mut ones = 0;
-    let mut slot = next_slot(above, key, 0);
-    let mut rest = rest_over(above, key, slot);
+    let mut rest = 0;
+    let mut slot = slot_from(above, key, blocks, 0, &mut rest);
     'slots: while slot < CONTAINER_WORDS {
         ones += word_of(words, base + slot).count_ones() as usize;
-        slot = slot_after(above, key, slot, &mut rest);
+        slot = slot_after(above, key, blocks, slot, &mut rest);
     }
     ones
+}
+
+// Returns whether there are so many nonzero words in a container, all of which lie in `words`, that all are counted.
+fn has_many(words: &[usize], above: &[usize], key: usize, blocks: usize) -> bool
+    requires { key < 65536 }
+    ensures { result ≡ true → 1024 * key + 1024 ≤ length words.now }
+{
+    CONTAINER_WORDS * key + CONTAINER_WORDS <= words.len()
+        && blocks.count_ones() as usize >= MANY_BLOCKS
+        && count_slots(above, key) >= MANY_WORDS
 }
 
 // How many members have these high bits.
@@ -67,11 +81,11 @@ pub(crate) fn count_under(words: &[usize], above: &[usize], key: usize) -> usize
     ensures count { result ≡ ones_under words.now key }
     ensures few { result ≤ 65536 }
 {
-    let base = CONTAINER_WORDS * key;
-    if base + CONTAINER_WORDS <= words.len() && count_slots(above, key) >= MANY_WORDS {
-        count_whole(words, base)
+    let blocks = blocks_over(above, key);
+    if has_many(words, above, key, blocks) {
+        count_whole(words, CONTAINER_WORDS * key)
     } else {
-        count_some(words, above, key)
+        count_some(words, above, key, blocks)
     }
 }
 

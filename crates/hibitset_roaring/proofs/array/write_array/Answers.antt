@@ -14,13 +14,13 @@ use Rattle.hibitset_roaring.proofs.array.write_array.Goals as goal
 
 pub slots-init : goal.slots-init
 slots-init c =
-    let next : ℕ = c.next_slot-slot.result in
+    let next : ℕ = c.slot_from-slot.result in
     let words = c.args.words.now in
     let key : ℕ = c.args.key in
-    let skips = c.next_slot-slot.ensures.skips words c.requires.above in
+    let skips = c.slot_from-slot.ensures.skips words c.requires.above in
     record {
-      within = c.next_slot-slot.ensures.within;
-      rest = c.rest_over-rest.ensures;
+      within = c.slot_from-slot.ensures.within;
+      rest = c.slot_from-slot.ensures.rest;
       count = sym (ones_skip words (1024 * key) 0 next (omega arith) skips ∙ ones_first words (1024 * key));
       before = before_none c.args.at c.args.out.now;
       members = λ v small. array_none c.args.out.now c.args.at v ∙ (sym (ap (λ x. x && stands_in words (65536 * key + v)) (le-ltb v 0 (omega arith))) ∙ slots_skip words key 0 next v (omega arith) small skips);

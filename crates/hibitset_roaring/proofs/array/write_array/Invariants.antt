@@ -11,7 +11,7 @@ use Rattle.hibitset_roaring.proofs.array.write_array.Given as goal
 abbrev pub invariant-slots : goal.invariant-slots
 invariant-slots l = record {
   within : l.slot ≤ 1024;
-  rest : IsRest l.above l.key l.slot l.rest;
+  rest : l.slot < 1024 → IsRest l.above l.key l.slot l.rest;
   count : l.len ≡ ones_from l.words l.base l.slot;
   before : SameBefore l.at l.fn.out l.out;
   members : (v : ℕ) → v < 65536 → in_array l.out l.at l.len v ≡ (nat_lt v (64 * l.slot) && stands_in l.words (65536 * l.key + v));

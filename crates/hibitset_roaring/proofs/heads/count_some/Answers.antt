@@ -7,9 +7,9 @@ use Rattle.hibitset_roaring.proofs.heads.count_some.Goals as goal
 
 pub slots-init : goal.slots-init
 slots-init c = record {
-  within = c.next_slot-slot.ensures.within;
-  rest = c.rest_over-rest.ensures;
-  count = sym (ones_skip c.args.words.now (1024 * c.args.key) 0 c.next_slot-slot.result (omega arith) (c.next_slot-slot.ensures.skips c.args.words.now c.requires.above) ∙ ones_first c.args.words.now (1024 * c.args.key));
+  within = c.slot_from-slot.ensures.within;
+  rest = c.slot_from-slot.ensures.rest;
+  count = sym (ones_skip c.args.words.now (1024 * c.args.key) 0 c.slot_from-slot.result (omega arith) (c.slot_from-slot.ensures.skips c.args.words.now c.requires.above) ∙ ones_first c.args.words.now (1024 * c.args.key));
   few = omega arith;
 }
 

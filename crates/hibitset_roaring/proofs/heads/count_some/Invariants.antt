@@ -1,4 +1,4 @@
-use Rattle.std.proofs.Common.{◌≡◌, ◌-◌, ◌*◌, ◌≤◌}
+use Rattle.std.proofs.Common.{◌≡◌, ◌-◌, ◌*◌, ◌<◌, ◌≤◌}
 use Rattle.hibitset_roaring.specs.Words.{IsRest, ones_from}
 use Rattle.hibitset_roaring.proofs.heads.count_some.Given as goal
 
@@ -6,7 +6,7 @@ use Rattle.hibitset_roaring.proofs.heads.count_some.Given as goal
 abbrev pub invariant-slots : goal.invariant-slots
 invariant-slots l = record {
   within : l.slot ≤ 1024;
-  rest : IsRest l.above l.key l.slot l.rest;
+  rest : l.slot < 1024 → IsRest l.above l.key l.slot l.rest;
   count : l.ones ≡ ones_from l.words l.base l.slot;
   few : l.ones ≤ 64 * l.slot;
 }
