@@ -49,9 +49,8 @@ both() { # proofs, and beside it mutants tests, whose output comes when both hav
     # A process group of its own, which the trap can end whole.
     set -m
     (
-        # The lowest crate goes before all others: it has all processors first.
-        while [ ! -e "$top/crates/hibitset_base/out/rlib" ]; do sleep 2; done
-        TOGETHER=$(($(nproc) > 3 ? 2 : 1)) part 3 mutants tests --gate
+        # One at a time: all other crates wait for the lowest one, whose check takes three processors.
+        TOGETHER=1 part 3 mutants tests --gate
     ) </dev/null >"$log" 2>&1 &
     beside=$!
     set +m
