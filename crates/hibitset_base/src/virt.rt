@@ -1,7 +1,7 @@
 //! Sets that are made of other sets without copying. Each word is made of the operands' words when it is asked for.
 //!
 //! A bit above layer 0 may be set over a zero word in `BitSetAnd`, `BitSetXor`, `BitSetNot` and whatever is built over
-//! them.
+//! them. The impls are written out for each: the toolchain refuses impls that a macro of the repository writes.
 ghost use Rattle.std.specs.Prelude.{◌≡◌, ℕ, Bool, true, ◌==◌, ◌&&◌, ◌||◌, not, bit_and, bit_or, IfOk, IsOk};
 ghost use Rattle.hibitset_base.specs.Sets.{SameSet, ClonesToSame};
 ghost use Rattle.hibitset_base.specs.Virtual.{differ, xor_word, not_word, all_ones, and_lawful, or_lawful, xor_lawful, not_lawful, all_lawful};
