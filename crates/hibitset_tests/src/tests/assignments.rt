@@ -61,6 +61,22 @@ fn unions_and_differences(rt: HostRuntime) -> Result<(), AllocError> {
     assert_members(&rt, &xor, &[5, 15, 200, 50000])
 }
 
+// The other set has members of the last word alone.
+#[test]
+fn the_last_word(rt: HostRuntime) -> Result<(), AllocError> {
+    let last = set_of(rt.alloc(), &[1_073_741_822, 1_073_741_823])?;
+    let mut set = set_of(rt.alloc(), &[5])?;
+    set.bitor_assign(&last)?;
+    assert_members(&rt, &set, &[5, 1_073_741_822, 1_073_741_823])?;
+    set &= &last;
+    assert_members(&rt, &set, &[1_073_741_822, 1_073_741_823])?;
+    let mut set = set_of(rt.alloc(), &[5])?;
+    set.bitxor_assign(&last)?;
+    assert_members(&rt, &set, &[5, 1_073_741_822, 1_073_741_823])?;
+    set -= &last;
+    assert_members(&rt, &set, &[5])
+}
+
 #[test]
 fn a_union_with_a_phantom(rt: HostRuntime) -> Result<(), AllocError> {
     let a = set_of(rt.alloc(), &[4096])?;
