@@ -57,7 +57,7 @@ fn is_row(column: &Column<u32>, count: Index) -> bool {
     entries.next().is_none() && column.len() == count as usize
 }
 
-// 64 pages, one after the other: the room of the table, of the places and of the mask is doubled where it is full.
+// 64 pages, one after the other: the capacity of the table, of the slots and of the mask doubles where it is used up.
 #[test]
 fn insert_a_row(rt: HostRuntime) -> Result<(), Fail> {
     let mut column = Column::new(rt.alloc());

@@ -184,7 +184,7 @@ fn columns_in_order(rt: HostRuntime) -> Result<(), Fail> {
     ask(&rt)
 }
 
-// Gives each of these indices its first value, and returns whether all had memory.
+// Gives each of these indices its first value, and returns whether no allocation failed.
 fn inserts_row(column: &mut Column<u32>, from: Index, to: Index) -> bool
     requires { to < MAX_EID }
 {
@@ -196,7 +196,7 @@ fn inserts_row(column: &mut Column<u32>, from: Index, to: Index) -> bool
     true
 }
 
-// 33 pages make room for 64: in the list of all places, in the table and in the mask.
+// With 33 pages there is capacity for 64: of slots, of the table and of the mask.
 #[test]
 fn columns_with_room_of_inserts(rt: HostRuntime) -> Result<(), Fail> {
     let mut column = Column::new(rt.alloc());

@@ -13,7 +13,8 @@ fn long_runs(rt: HostRuntime) -> Result<(), Fail> {
     Ok(())
 }
 
-// All identifiers but 0 are free, one too few for the run. No more than once is asked where a run ends that begins at 1.
+// All identifiers but 0 are free, one too few for the run. It is asked for so often that the test is cut short if each
+// identifier is tried.
 #[test]
 fn a_run_longer_than_what_is_free(rt: HostRuntime) -> Result<(), Fail> {
     let mut ids = Ids::new(rt.alloc());
