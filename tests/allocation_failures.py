@@ -78,7 +78,7 @@ CALLS = {
         "BitSet::with_capacity": "sets::with_capacity sets::add_past_the_last_word",
     },
     "hibitset_store": {
-        "Column::insert": "columns::insert columns::insert_in_order",
+        "Column::insert": "columns::insert columns::insert_a_row columns::insert_in_order",
     },
     "hibitset_roaring": {
         "read": "streams::read_a_stream",
@@ -133,7 +133,7 @@ OTHERS = "columns::collect callers::take"
 # The tests of calls that make no request.
 ROOM = """sets sets_with_room sets_with_room_of_adds sets_with_room_of_assignments vectors_with_room virtual_sets
 atomic_sets settled_sets shared_sets last_shares new_worlds worlds parts parts_in_one_thread columns columns_in_order
-identifiers pages tasks tags"""
+columns_with_room_of_inserts cleared_columns identifiers pages tasks tags"""
 
 # How many requests the call of each test makes where none is refused. A call that does its work twice is seen here alone.
 REQUESTS = {
@@ -177,6 +177,7 @@ REQUESTS = {
     "callers::windows": 1,
     "columns::collect": 1,
     "columns::insert": 3,
+    "columns::insert_a_row": 17,
     "columns::insert_in_order": 1,
     "copies::complement": 1,
     "copies::intersection": 2,
@@ -275,6 +276,7 @@ BYTES = {
     "callers::windows": 32,
     "columns::collect": 96,
     "columns::insert": 949_496,
+    "columns::insert_a_row": 66_632,
     "columns::insert_in_order": 4_096,
     "copies::complement": 634_944,
     "copies::intersection": 64,

@@ -1,5 +1,6 @@
 //! Values from outside: worked rows, and each public call at least once.
 mod callers;
+mod costs;
 
 use hibitset::{BitSetLike, Index};
 use hibitset_store::{Column, join, join_masked};
@@ -146,6 +147,22 @@ fn a_masked_join_leaves_out_what_the_set_lacks(rt: HostRuntime) -> Result<(), Fa
     let mut walk = a.join_masked(&b, &three);
     assert!(rt; walk.next() == Some((3, &30, &300)));
     assert!(rt; walk.next().is_none());
+    Ok(())
+}
+
+// The keys of the first slot and of the last one.
+#[test]
+fn keys_of_the_last_page(rt: HostRuntime) -> Result<(), Fail> {
+    let mut column = column_of(rt.alloc(), &[(1_073_741_823, 2)])?;
+    assert!(rt; column.insert(1_073_741_760, 1) == Ok(None));
+    assert!(rt;
+        has_exactly(
+            rt.alloc(),
+            &column,
+            &[(1_073_741_760, 1), (1_073_741_823, 2)]
+        )?
+    );
+    assert!(rt; column.remove(1_073_741_823) == Some(2) && column.len() == 1);
     Ok(())
 }
 

@@ -3,6 +3,7 @@ mod assignments;
 mod building;
 mod callers;
 mod comparisons;
+mod costs;
 mod drains;
 mod indices;
 mod life;

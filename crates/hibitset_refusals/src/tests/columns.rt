@@ -38,6 +38,38 @@ fn insert_in_order(rt: HostRuntime) -> Result<(), Fail> {
     Ok(())
 }
 
+// Gives each index below 4,096 itself as its value, up to the one that is refused.
+fn fill_row(column: &mut Column<u32>) -> Result<(), u32> {
+    for id in 0..4_096u32 {
+        column.insert(id, id)?;
+    }
+    Ok(())
+}
+
+// Returns whether a column has these indices alone, each with itself as its value.
+fn is_row(column: &Column<u32>, count: Index) -> bool {
+    let mut entries = column.iter();
+    for id in 0..count {
+        if entries.next() != Some((id, &id)) {
+            return false;
+        }
+    }
+    entries.next().is_none() && column.len() == count as usize
+}
+
+// 64 pages, one after the other: the capacity of the table, of the slots and of the mask doubles where it is used up.
+#[test]
+fn insert_a_row(rt: HostRuntime) -> Result<(), Fail> {
+    let mut column = Column::new(rt.alloc());
+    let filled = tried!(&rt, fill_row(&mut column));
+    if let Err(id) = filled {
+        assert!(rt; is_row(&column, id));
+        assert!(rt; fill_row(&mut column).is_ok());
+    }
+    assert!(rt; is_row(&column, 4_096));
+    Ok(())
+}
+
 // The list of a join, which std makes of its items.
 fn pairs<'a>(
     alloc: Global,

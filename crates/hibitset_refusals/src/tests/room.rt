@@ -1,5 +1,6 @@
 //! Calls that do not allocate, or none as things stand, between two requests of the test's own.
 ghost use Rattle.std.specs.Prelude.{◌≡◌, ◌<◌, IfOk};
+ghost use Rattle.hibitset_base.specs.declared.util.TheConstants.{MAX_EID};
 ghost use Rattle.hibitset_atomic.specs.Seats.{BelongsTo};
 ghost use Rattle.uses.specs.Filter.{tags_of};
 
@@ -180,6 +181,48 @@ fn columns_in_order(rt: HostRuntime) -> Result<(), Fail> {
     assert!(rt; column.insert(225, 3) == Ok(None) && column.insert(300, 4) == Ok(None));
     assert!(rt; column.insert(1, 0) == Ok(None) && column.insert(150, 2) == Ok(None));
     assert!(rt; column.insert(75, 1) == Ok(None));
+    ask(&rt)
+}
+
+// Gives each of these indices its first value, and returns whether no allocation failed.
+fn inserts_row(column: &mut Column<u32>, from: Index, to: Index) -> bool
+    requires { to < MAX_EID }
+{
+    for id in from..to {
+        if column.insert(id, 7) != Ok(None) {
+            return false;
+        }
+    }
+    true
+}
+
+// With 33 pages there is capacity for 64: of slots, of the table and of the mask.
+#[test]
+fn columns_with_room_of_inserts(rt: HostRuntime) -> Result<(), Fail> {
+    let mut column = Column::new(rt.alloc());
+    if !inserts_row(&mut column, 0, 2_112) {
+        return Err(AllocError.into());
+    }
+    ask(&rt)?;
+    assert!(rt; inserts_row(&mut column, 2_112, 4_096) && column.len() == 4_096);
+    ask(&rt)
+}
+
+// Gives three indices, each in a page of its own, their first values.
+fn assert_inserts(rt: &impl Abort, column: &mut Column<u32>) {
+    assert!(rt; column.insert(5, 1) == Ok(None) && column.insert(70, 2) == Ok(None));
+    assert!(rt; column.insert(300_000, 3) == Ok(None));
+}
+
+// The memory of the pages, the table and the mask is kept for the same keys.
+#[test]
+fn cleared_columns(rt: HostRuntime) -> Result<(), Fail> {
+    let mut column = Column::new(rt.alloc());
+    assert_inserts(&rt, &mut column);
+    ask(&rt)?;
+    column.clear();
+    assert_inserts(&rt, &mut column);
+    assert!(rt; has_values(&column, &[(5, 1), (70, 2), (300_000, 3)]));
     ask(&rt)
 }
 

@@ -61,6 +61,28 @@ fn unions_and_differences(rt: HostRuntime) -> Result<(), AllocError> {
     assert_members(&rt, &xor, &[5, 15, 200, 50000])
 }
 
+const LAST_WORD: [Index; 2] = [1_073_741_822, 1_073_741_823];
+
+#[test]
+fn a_union_with_the_last_word(rt: HostRuntime) -> Result<(), AllocError> {
+    let last = set_of(rt.alloc(), &LAST_WORD)?;
+    let mut set = set_of(rt.alloc(), &[5])?;
+    set.bitor_assign(&last)?;
+    assert_members(&rt, &set, &[5, LAST_WORD[0], LAST_WORD[1]])?;
+    set &= &last;
+    assert_members(&rt, &set, &LAST_WORD)
+}
+
+#[test]
+fn an_exclusive_or_with_the_last_word(rt: HostRuntime) -> Result<(), AllocError> {
+    let last = set_of(rt.alloc(), &LAST_WORD)?;
+    let mut set = set_of(rt.alloc(), &[5])?;
+    set.bitxor_assign(&last)?;
+    assert_members(&rt, &set, &[5, LAST_WORD[0], LAST_WORD[1]])?;
+    set -= &last;
+    assert_members(&rt, &set, &[5])
+}
+
 #[test]
 fn a_union_with_a_phantom(rt: HostRuntime) -> Result<(), AllocError> {
     let a = set_of(rt.alloc(), &[4096])?;

@@ -1,4 +1,6 @@
 //! Lists that workers put into a set.
+ghost use Rattle.std.specs.Prelude.{◌≡◌, length, IfOk};
+
 use hibitset::{ATOMIC_MAX_EID, AtomicBitSet, BitSetLike, Index};
 use std::alloc::{AllocError, Global};
 use std::test::Fail;
@@ -28,6 +30,24 @@ fn four_lists(rt: HostRuntime) -> Result<(), Fail> {
     assert_eq!(rt; added.new, 3);
     let all: Vec<Index> = (&added.set).iter().collect(alloc)?;
     assert_eq!(rt; all.as_slice(), [5, 9, 70_000, 16_777_215].as_slice());
+    Ok(())
+}
+
+// A thousand lists of the same two indices.
+fn many_lists(alloc: Global) -> Result<Vec<Vec<Index>>, AllocError>
+    ensures { IfOk result (λ lists. length lists.items ≡ 1_000) }
+{
+    vec![in alloc; pair(alloc, 7, 70_000)?; 1_000]
+}
+
+#[test]
+fn a_thousand_lists(rt: HostRuntime) -> Result<(), Fail> {
+    let alloc = rt.alloc();
+    let set = AtomicBitSet::new(alloc)?;
+    let Ok(added) = add_lists(&rt, alloc, set, many_lists(alloc)?) else {
+        panic!(rt; "refused")
+    };
+    assert_eq!(rt; (added.new, added.set.len()), (2, 2));
     Ok(())
 }
 

@@ -1,6 +1,7 @@
 //! Store commands as text.
 use crate::script::Ended;
 use crate::tests::printed;
+use std::alloc::{AllocError, Global};
 use std::test::Fail;
 
 #[test]
@@ -28,12 +29,44 @@ fn prints_one_line_a_reply(rt: HostRuntime) {
             "store\nput p 7 1\nput p 7 2\ntake p 7\ntake p 7\nget p 7\nput p 7 3\n",
             "none\n1\n2\nnone\nnone\nnone\n",
         ),
+        (
+            "store\nput p 0 0\nput q 0 0\njoin p q\nget p 0\nput p 0 1\ntake q 0\n",
+            "none\nnone\n0:0:0\n0\n0\n0\n",
+        ),
     ];
     for (script, text) in rows {
         let (output, ended) = printed(rt.alloc(), script);
         assert_eq!(rt; ended, Ended::Done, "after {script:?}");
         assert_eq!(rt; output.as_slice(), text.as_bytes(), "after {script:?}");
     }
+}
+
+// How many indices both columns have.
+const PAIRS: u32 = 10_000;
+
+// A script that gives each of these indices two values and joins the columns, and what it prints.
+fn many_pairs(alloc: Global) -> Result<(String, String), AllocError> {
+    let mut script = String::from_str(alloc, "store\n")?;
+    let mut replies = String::new(alloc);
+    let mut pairs = String::new(alloc);
+    let mut space = "";
+    for id in 0..PAIRS {
+        write!(script, "put p {id} 0\nput q {id} 7\n")?;
+        write!(replies, "none\nnone\n")?;
+        write!(pairs, "{space}{id}:0:7")?;
+        space = " ";
+    }
+    script.push_str("join p q\n")?;
+    write!(replies, "{pairs}\n")?;
+    Ok((script, replies))
+}
+
+#[test]
+fn prints_many_pairs(rt: HostRuntime) -> Result<(), Fail> {
+    let (script, replies) = many_pairs(rt.alloc())?;
+    let (output, ended) = printed(rt.alloc(), &script);
+    assert!(rt; ended == Ended::Done && output.as_slice() == replies.as_bytes());
+    Ok(())
 }
 
 #[test]
