@@ -131,6 +131,34 @@ fn a_large_set_that_is_listed(rt: HostRuntime) -> Result<(), AllocError> {
     Ok(())
 }
 
+// The choice goes on to the next bit of the top only where there is not enough below those before it.
+#[test]
+fn a_choice_that_ends_early_in_a_large_set(rt: HostRuntime) -> Result<(), AllocError> {
+    let mut set = run_of(rt.alloc(), 262_144)?;
+    set.add(16_777_216)?;
+    let tally = Tally::over(set);
+    assert_count(&rt, (&tally).par_iter().count(&rt, rt.alloc())?, 262_145);
+    tally.assert_read(&rt, [4_097 + 1, 65 + 1, 2 + 1, 2 + 1, 1 + 1, 0]);
+    Ok(())
+}
+
+// Closures at many members: the choice reads no more words than at few.
+#[test]
+fn large_sets_that_are_folded_and_visited(rt: HostRuntime) -> Result<(), AllocError> {
+    let tally = Tally::over(run_of(rt.alloc(), 262_144)?);
+    assert!(rt; sum_of(&rt, rt.alloc(), &tally)? == 34_359_607_296);
+    tally.assert_read(&rt, [4_096 + 1, 64 + 1, 1 + 1, 1 + 1, 1 + 1, 0]);
+    let sum = AtomicUsize::new(0);
+    (&tally)
+        .par_iter()
+        .for_each(&rt, rt.alloc(), |index: Index| {
+            sum.fetch_add(index as usize, Ordering::SeqCst);
+        })?;
+    assert_count(&rt, sum.load(Ordering::SeqCst), 34_359_607_296);
+    tally.assert_read(&rt, [4_096 + 1, 64 + 1, 1 + 1, 1 + 1, 1 + 1, 0]);
+    Ok(())
+}
+
 // The sum of the indices in a part.
 fn sum_of_part<'a, T: BitSetLike + Send + Sync>(part: BitProducer<'a, T>) -> u64 {
     part.fold_with(
