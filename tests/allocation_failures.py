@@ -5,8 +5,9 @@ Each test that CALLS names makes one call, between two requests of its own, and 
 and of the last request whether it was refused. With N = 1, 2 and so on the Nth request of the test is refused
 (failing_allocation.c), until the last one was: so the numbers between those of the two are the requests of the
 call. It fails where one of them was refused and the call passed (but see GO_ON), where a call makes no request or not
-as many as REQUESTS says, or asks for other bytes than BYTES says, where a call of ROOM makes one, where a public call
-that can be refused is not in CALLS, and where a test fails, which compares what stands and makes the call again.
+as many as REQUESTS says, or asks for other bytes than BYTES says, where a call of ROOM makes one, where a walk in parts
+that has one processor asks for more than its list, where a public call that can be refused is not in CALLS, and where a
+test fails, which compares what stands and makes the call again.
 SCRIPTS are run by the program, and what it prints is compared.
 """
 import os
@@ -226,12 +227,20 @@ REQUESTS = {
     "worlds::step": 1,
 }
 
-# The same of walks in parts. Where there is one processor they ask for nothing but the list of `collect`.
+# The same of walks in parts, by as many threads as there are processors.
 REQUESTS_AT_MOST = {
     "parts::collect": 5,
     "parts::count": 9,
     "parts::fold": 7,
     "parts::for_each": 7,
+}
+
+# How many bytes these ask for where they have one processor: those of the list of `collect`, in one request.
+BYTES_ON_ONE_PROCESSOR = {
+    "parts::collect": 2_097_152,
+    "parts::count": 0,
+    "parts::fold": 0,
+    "parts::for_each": 0,
 }
 
 # How many bytes the call of each test asks for in all. A call that takes twice the room that it needs is seen here alone.
@@ -328,8 +337,6 @@ BYTES = {
 # Tests of REQUESTS whose call is made by several threads.
 IN_THREADS = {"callers::lists_by_workers"}
 
-ONE_PROCESSOR = len(os.sched_getaffinity(0)) == 1
-
 # Calls that go on where one request alone is refused, and pass: std's `collect` asks a second time, for one item, where it is refused the room that a walk hints at.
 GO_ON = ("tests::columns::collect", "tests::callers::page_")
 
@@ -425,6 +432,7 @@ class Test:
 
     def __init__(self, name):
         self.name = name
+        self.is_alone = len(os.sched_getaffinity(0)) == 1  # with one processor
         self.has_room = name in {f"tests::room::{room}" for room in ROOM.split()}
         self.before, self.call, self.went_on, self.after = [], [], [], []
         self.bytes = 0
@@ -451,16 +459,19 @@ class Test:
         if len(self.went_on) > 1:
             fail(f"{self.name}: it went on where the requests {self.went_on} were refused")
         asked = self.call + self.went_on
-        in_one_thread = ONE_PROCESSOR and self.name.startswith("tests::parts::")
+        in_one_thread = self.is_alone and self.name.startswith("tests::parts::")
         if self.has_room == bool(asked) and not in_one_thread:
             fail(f"{self.name}: {len(asked)} requests")
         self.compare(self.after[0] - self.before[0] - 1)
         went_on = f", {len(self.went_on)} gone on without" if self.went_on else ""
-        print(f"{self.name}: {len(self.call)} refused in turn{went_on}, {self.bytes} bytes: ok", flush=True)
+        where = " on one processor" if in_one_thread else ""
+        print(f"{self.name}{where}: {len(self.call)} refused in turn{went_on}, {self.bytes} bytes: ok", flush=True)
 
     def compare(self, requests):
         """Compares the requests of the call, and their bytes, with those of the tables; a run of the program is no call."""
         name = self.name.removeprefix("tests::")
+        if self.is_alone and name in BYTES_ON_ONE_PROCESSOR:
+            return self.compare_alone(requests, BYTES_ON_ONE_PROCESSOR[name])
         most = REQUESTS_AT_MOST.get(name)
         if most is not None and requests > most:
             fail(f"{self.name}: {requests} requests, where {most} at most are to be made")
@@ -468,6 +479,14 @@ class Test:
             fail(f"{self.name}: {requests} requests, where {REQUESTS[name]} are to be made")
         if name in BYTES and self.bytes != BYTES[name]:
             fail(f"{self.name}: asks for {self.bytes} bytes, where {BYTES[name]} are to be asked for")
+
+    def compare_alone(self, requests, wanted):
+        """Compares the requests of a walk in parts that has one processor, and their bytes, with those wanted."""
+        if requests != (wanted > 0) or self.bytes != wanted:
+            fail(
+                f"{self.name}: {requests} requests for {self.bytes} bytes on one processor, where one for the "
+                f"{wanted} bytes of a list, or none, is to be made"
+            )
 
 
 def bytes_asked(library, program, name, numbers):
@@ -499,6 +518,17 @@ def tests(pool, library, program, names):
         test.close()
 
 
+def on_one_processor(library, program, names):
+    """The same of these tests, which take the one processor of this thread, as all do that it starts."""
+    processors = os.sched_getaffinity(0)
+    os.sched_setaffinity(0, {min(processors)})
+    try:
+        for name in names:
+            in_turn(library, program, name).close()
+    finally:
+        os.sched_setaffinity(0, processors)
+
+
 def compare_lists():
     for crate, named in CALLS.items():
         lone = sorted(public_calls(crate) ^ set(named))
@@ -512,6 +542,8 @@ def of_library(pool, library):
     names = {*named.split(), *OTHERS.split(), *rooms}
     if lone := sorted(names ^ {*REQUESTS, *REQUESTS_AT_MOST, *rooms}):
         fail(f"not both a test of a call and with a number of requests: {lone}")
+    if lone := sorted({*REQUESTS_AT_MOST} ^ {*BYTES_ON_ONE_PROCESSOR}):
+        fail(f"not both with a number of requests and with bytes on one processor: {lone}")
     if lone := sorted({*REQUESTS} ^ {*BYTES, *IN_THREADS}):
         fail(f"not both with a number of requests and with one of bytes: {lone}")
     program = executable("hibitset_refusals", "hibitset_refusals_tests")
@@ -519,6 +551,7 @@ def of_library(pool, library):
     if lone := sorted({f"tests::{name}" for name in names} ^ set(re.findall(r"^(tests::\S+): test$", listed, re.M))):
         fail(f"not both a test of hibitset_refusals and in the list: {lone}")
     tests(pool, library, program, [f"tests::{name}" for name in names])
+    on_one_processor(library, program, [f"tests::{name}" for name in BYTES_ON_ONE_PROCESSOR])
 
 
 def of_program(pool, library):

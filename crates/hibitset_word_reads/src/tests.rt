@@ -3,6 +3,7 @@
 //! the layers above the lowest.
 mod clones;
 mod ends;
+mod joins;
 mod parts;
 mod reach;
 mod reads;

@@ -7,6 +7,7 @@ use hibitset_testing::sets::{run_of, set_of};
 use std::alloc::AllocError;
 use std::process::Abort;
 use std::sync::atomic::{AtomicUsize, Ordering};
+use std::thread::available_parallelism;
 
 // Counts the words that are read of each layer, and at last the indices that are asked for. Threads can share it.
 #[derive(Drop)]
@@ -117,17 +118,48 @@ fn a_choice_that_reads_few_words(rt: HostRuntime) -> Result<(), AllocError> {
 }
 
 // Of a large set too `collect` reads a word of layer 0 once to count and once to list; one look at its size, here
-// sixteen words of layer 0 and the top, tells of both.
+// sixteen words of layer 0 and the top, tells of both. The words above are read once, where parts are cut; where there
+// is one processor none are cut, and those below the top are read as often as the lowest.
 #[test]
 fn a_large_set_that_is_listed(rt: HostRuntime) -> Result<(), AllocError> {
     let tally = Tally::over(every_eighth(rt.alloc())?);
     let all = (&tally).par_iter().collect(&rt, rt.alloc())?;
     assert_count(&rt, all.len(), 524_288);
     assert_count(&rt, all.capacity(), 524_288);
-    let [words, _, _, _, tops, asked] = tally.read();
-    assert_count(&rt, words, 2 * 65_536 + 16);
-    assert_count(&rt, tops, 1 + 1);
-    assert_count(&rt, asked, 0);
+    let is_alone = available_parallelism(&rt).map_or(true, |count| count.get() == 1);
+    if is_alone {
+        tally.assert_read(&rt, [2 * 65_536 + 16, 2 * 1_024 + 16, 2 * 16 + 16, 2 + 1, 1 + 1, 0]);
+    } else {
+        tally.assert_read(&rt, [2 * 65_536 + 16, 2 * 1_024 + 16, 16 + 16, 1 + 1, 1 + 1, 0]);
+    }
+    Ok(())
+}
+
+// The choice goes on to the next bit of the top only where there is not enough below those before it.
+#[test]
+fn a_choice_that_ends_early_in_a_large_set(rt: HostRuntime) -> Result<(), AllocError> {
+    let mut set = run_of(rt.alloc(), 262_144)?;
+    set.add(16_777_216)?;
+    let tally = Tally::over(set);
+    assert_count(&rt, (&tally).par_iter().count(&rt, rt.alloc())?, 262_145);
+    tally.assert_read(&rt, [4_097 + 1, 65 + 1, 2 + 1, 2 + 1, 1 + 1, 0]);
+    Ok(())
+}
+
+// Closures at many members: the choice reads no more words than at few.
+#[test]
+fn large_sets_that_are_folded_and_visited(rt: HostRuntime) -> Result<(), AllocError> {
+    let tally = Tally::over(run_of(rt.alloc(), 262_144)?);
+    assert!(rt; sum_of(&rt, rt.alloc(), &tally)? == 34_359_607_296);
+    tally.assert_read(&rt, [4_096 + 1, 64 + 1, 1 + 1, 1 + 1, 1 + 1, 0]);
+    let sum = AtomicUsize::new(0);
+    (&tally)
+        .par_iter()
+        .for_each(&rt, rt.alloc(), |index: Index| {
+            sum.fetch_add(index as usize, Ordering::SeqCst);
+        })?;
+    assert_count(&rt, sum.load(Ordering::SeqCst), 34_359_607_296);
+    tally.assert_read(&rt, [4_096 + 1, 64 + 1, 1 + 1, 1 + 1, 1 + 1, 0]);
     Ok(())
 }
 

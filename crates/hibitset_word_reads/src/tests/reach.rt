@@ -249,6 +249,16 @@ fn words_with_one_bit(rt: HostRuntime) -> Result<(), AllocError> {
     Ok(())
 }
 
+// Whole blocks, of 64 words each with all bits: the top once, and each of the 132 words below it once to count and once
+// to list.
+#[test]
+fn a_large_set_of_full_blocks(rt: HostRuntime) -> Result<(), AllocError> {
+    let counting = Counting::over(run_of(rt.alloc(), 8_192)?);
+    assert_count(&rt, counting.to_vec(rt.alloc())?.len(), 8_192);
+    assert_count(&rt, counting.reads(), 1 + 2 * 132);
+    Ok(())
+}
+
 // A walk over an intersection from an index on: its words lie over members of the first set, and are at most four for
 // each.
 fn walk_both_from<'a>(

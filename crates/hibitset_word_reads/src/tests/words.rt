@@ -273,6 +273,77 @@ fn assignments(rt: HostRuntime) -> Result<(), AllocError> {
     assert_read_of_both(&rt, &other)
 }
 
+// Takes another set's members out, and sees that its words were read where both have some, each once, and no other.
+fn assert_subtracted(rt: &(impl Abort + AllocGlobal), by_name: bool) -> Result<(), AllocError> {
+    let other = Logging::over(rt.alloc(), &[64, 300_000])?;
+    let mut set = set_of(rt.alloc(), &[5, 64, 70, 4096, 16777215])?;
+    if by_name {
+        set.subtract_assign(&other);
+    } else {
+        set -= &other;
+    }
+    other.assert_read(rt, &OVER_64)?;
+    assert_count(rt, set.len(), 4);
+    Ok(())
+}
+
+#[test]
+fn a_set_that_is_subtracted(rt: HostRuntime) -> Result<(), AllocError> {
+    assert_subtracted(&rt, true)?;
+    assert_subtracted(&rt, false)
+}
+
+// Sees how often each word over 64 and 300,000 was read, in the order of these words, and that no other was.
+fn assert_times(
+    rt: &(impl Abort + AllocGlobal),
+    set: &Logging,
+    wanted: [usize; 8],
+) -> Result<(), AllocError> {
+    let read = set.read(rt.alloc())?;
+    let mut found = [0usize; 8];
+    let mut sum = 0usize;
+    for (count, word) in found.iter_mut().zip(OVER_64_AND_300000.iter()) {
+        *count = times(read.as_slice(), *word);
+        sum = sum.wrapping_add(*count);
+    }
+    assert_eq!(rt; found, wanted);
+    assert_count(rt, read.len(), sum);
+    Ok(())
+}
+
+// The words on the way to the last one are read to see that there is no room, again to see how much is to be made, and
+// again to put them in. The last one itself is read to make room and to put it in, and all others are read once.
+const WITHOUT_ROOM: [usize; 8] = [3, 3, 1, 1, 1, 3, 3, 2];
+
+#[test]
+fn assignments_without_room(rt: HostRuntime) -> Result<(), AllocError> {
+    let other = Logging::over(rt.alloc(), &[64, 300_000])?;
+    let mut or = set_of(rt.alloc(), &[5])?;
+    or.bitor_assign(&other)?;
+    assert_times(&rt, &other, WITHOUT_ROOM)?;
+    let mut xor = set_of(rt.alloc(), &[5])?;
+    xor.bitxor_assign(&other)?;
+    assert_times(&rt, &other, WITHOUT_ROOM)
+}
+
+// Where the last word is 0 under a summary bit, it is read once, and each of those on the way to the word before it once
+// more, to see how much room is to be made.
+const UNDER_A_PHANTOM: [usize; 8] = [3, 3, 2, 2, 2, 3, 3, 1];
+
+#[test]
+fn assignments_without_room_for_phantoms(rt: HostRuntime) -> Result<(), AllocError> {
+    let ours = Logging::over(rt.alloc(), &[64, 300_000])?;
+    let theirs = Logging::over(rt.alloc(), &[64, 300_001])?;
+    let mut or = set_of(rt.alloc(), &[5])?;
+    or.bitor_assign(&BitSetAnd(&ours, &theirs))?;
+    assert_times(&rt, &ours, UNDER_A_PHANTOM)?;
+    assert_times(&rt, &theirs, UNDER_A_PHANTOM)?;
+    let mut xor = set_of(rt.alloc(), &[5])?;
+    xor.bitxor_assign(&BitSetAnd(&ours, &theirs))?;
+    assert_times(&rt, &ours, UNDER_A_PHANTOM)?;
+    assert_times(&rt, &theirs, UNDER_A_PHANTOM)
+}
+
 // Of a set without members the top is read alone.
 #[test]
 fn assignments_of_no_members(rt: HostRuntime) -> Result<(), AllocError> {
