@@ -94,7 +94,7 @@ fn walks_over_many_words_are_made(rt: HostRuntime) -> Result<(), AllocError> {
 }
 
 // Goes one step of a walk over two columns and of one over the first of them, and returns whether both gave index 0.
-fn gives_0(turn: usize, a: &Column<u8>, b: &Column<u8>) -> bool {
+fn gives_0<'a>(turn: usize, a: &'a Column<u8>, b: &'a Column<u8>) -> bool {
     joined(turn, a, b).next() == Some((0, &7, &7)) && a.iter().next() == Some((0, &7))
 }
 
