@@ -1,95 +1,45 @@
-//! Calls of a set that can be shared, held alone.
-use crate::sets::{first_of, sum_of};
+//! A set that can be shared, held alone.
+use crate::sets::{AnySet, Sum, add_all, set_of, sum_of_turns};
 use hibitset::atomic::ATOMIC_MAX_EID;
 use hibitset::{AtomicBitSet, Index};
 use std::alloc::{AllocError, Global};
 
-// Adds the indices that are in range, and counts those that were there.
+impl AnySet for AtomicBitSet {
+    #[inline]
+    fn empty(alloc: Global) -> Result<Self, AllocError> {
+        AtomicBitSet::new(alloc)
+    }
+
+    #[inline]
+    fn add_in_range(&mut self, id: Index) -> Result<bool, AllocError> {
+        if (id as usize) < ATOMIC_MAX_EID {
+            self.add(id)
+        } else {
+            Ok(false)
+        }
+    }
+
+    #[inline]
+    fn clear(&mut self) {
+        AtomicBitSet::clear(self);
+    }
+}
+
+// Takes the indices out, and counts those that were there.
 #[inline]
-fn add_all(set: &mut AtomicBitSet, ids: &[Index]) -> Result<u64, AllocError> {
+fn remove_all(set: &mut AtomicBitSet, ids: &[Index]) -> u64 {
     let mut count = 0u64;
     for id in ids {
-        if (*id as usize) < ATOMIC_MAX_EID {
-            count = count.wrapping_add(u64::from(set.add(*id)?));
-        }
+        count = count.wrapping_add(u64::from(set.remove(*id)));
     }
-    Ok(count)
-}
-
-// The set of the indices that are in range.
-fn set_of(alloc: Global, ids: &[Index]) -> Result<AtomicBitSet, AllocError> {
-    let mut set = AtomicBitSet::new(alloc)?;
-    add_all(&mut set, ids)?;
-    Ok(set)
-}
-
-pub(crate) fn add(alloc: Global, ids: &[Index], times: usize) -> Result<u64, AllocError> {
-    let mut sum = 0u64;
-    for _ in 0..times {
-        let mut set = AtomicBitSet::new(alloc)?;
-        sum = sum.wrapping_add(add_all(&mut set, ids)?);
-    }
-    Ok(sum)
-}
-
-pub(crate) fn add_again(alloc: Global, ids: &[Index], times: usize) -> Result<u64, AllocError> {
-    let mut set = set_of(alloc, ids)?;
-    let mut sum = 0u64;
-    for _ in 0..times {
-        sum = sum.wrapping_add(add_all(&mut set, ids)?);
-    }
-    Ok(sum)
-}
-
-pub(crate) fn contains(
-    alloc: Global,
-    ids: &[Index],
-    asked: &[Index],
-    times: usize,
-) -> Result<u64, AllocError> {
-    let set = set_of(alloc, ids)?;
-    let mut sum = 0u64;
-    for _ in 0..times {
-        for id in asked {
-            sum = sum.wrapping_add(u64::from(set.contains(*id)));
-        }
-    }
-    Ok(sum)
+    count
 }
 
 // Takes all out and adds them again.
-pub(crate) fn renew(alloc: Global, ids: &[Index], times: usize) -> Result<u64, AllocError> {
-    let mut set = set_of(alloc, ids)?;
-    let mut sum = 0u64;
-    for _ in 0..times {
-        for id in ids {
-            sum = sum.wrapping_add(u64::from(set.remove(*id)));
-        }
-        sum = sum.wrapping_add(add_all(&mut set, ids)?);
-    }
-    Ok(sum)
-}
-
-pub(crate) fn walk(alloc: Global, ids: &[Index], times: usize) -> Result<u64, AllocError> {
-    let set = set_of(alloc, ids)?;
-    let mut sum = 0u64;
-    for _ in 0..times {
-        sum = sum.wrapping_add(sum_of(&set));
-    }
-    Ok(sum)
-}
-
-// Each turn adds one index, so that there is something to clear in the next.
-pub(crate) fn clear(alloc: Global, ids: &[Index], times: usize) -> Result<u64, AllocError> {
-    let mut set = set_of(alloc, ids)?;
-    let first = first_of(ids);
-    let mut sum = 0u64;
-    for _ in 0..times {
-        set.clear();
-        if (first as usize) < ATOMIC_MAX_EID {
-            set.add(first)?;
-        }
-        sum = sum.wrapping_add(u64::from(set.contains(first)));
-    }
-    Ok(sum)
+pub(crate) fn renew(alloc: Global, ids: &[Index], times: usize) -> Sum {
+    let mut set: AtomicBitSet = set_of(alloc, ids)?;
+    sum_of_turns(times, || {
+        let removed = remove_all(&mut set, ids);
+        Ok(removed.wrapping_add(add_all(&mut set, ids)?))
+    })
 }

@@ -1,50 +1,32 @@
 //! Calls on one index at a time.
-use crate::sets::{END, add_all, first_of, set_of};
-use hibitset::util::MAX_EID;
+use crate::sets::{AnySet, END, Sum, add_all, first_of, set_of, sum_of_answers, sum_of_turns};
 use hibitset::{BitSet, BuildError, Index};
-use std::alloc::{AllocError, Global};
+use std::alloc::Global;
 
-pub(crate) fn add(alloc: Global, ids: &[Index], times: usize) -> Result<u64, AllocError> {
-    let mut sum = 0u64;
-    for _ in 0..times {
-        let mut set = BitSet::new(alloc);
-        sum = sum.wrapping_add(add_all(&mut set, ids)?);
-    }
-    Ok(sum)
+pub(crate) fn add<S: AnySet>(alloc: Global, ids: &[Index], times: usize) -> Sum {
+    sum_of_turns(times, || add_all(&mut S::empty(alloc)?, ids))
 }
 
-pub(crate) fn add_with_room(alloc: Global, ids: &[Index], times: usize) -> Result<u64, AllocError> {
-    let mut sum = 0u64;
-    for _ in 0..times {
-        let mut set = BitSet::with_capacity(alloc, END)?;
-        sum = sum.wrapping_add(add_all(&mut set, ids)?);
-    }
-    Ok(sum)
+pub(crate) fn add_with_room(alloc: Global, ids: &[Index], times: usize) -> Sum {
+    sum_of_turns(
+        times,
+        || add_all(&mut BitSet::with_capacity(alloc, END)?, ids),
+    )
 }
 
-pub(crate) fn add_again(alloc: Global, ids: &[Index], times: usize) -> Result<u64, AllocError> {
-    let mut set = set_of(alloc, ids)?;
-    let mut sum = 0u64;
-    for _ in 0..times {
-        sum = sum.wrapping_add(add_all(&mut set, ids)?);
-    }
-    Ok(sum)
+pub(crate) fn add_again<S: AnySet>(alloc: Global, ids: &[Index], times: usize) -> Sum {
+    let mut set: S = set_of(alloc, ids)?;
+    sum_of_turns(times, || add_all(&mut set, ids))
 }
 
-pub(crate) fn contains(
+pub(crate) fn contains<S: AnySet>(
     alloc: Global,
     ids: &[Index],
     asked: &[Index],
     times: usize,
-) -> Result<u64, AllocError> {
-    let set = set_of(alloc, ids)?;
-    let mut sum = 0u64;
-    for _ in 0..times {
-        for id in asked {
-            sum = sum.wrapping_add(u64::from(set.contains(*id)));
-        }
-    }
-    Ok(sum)
+) -> Sum {
+    let set: S = set_of(alloc, ids)?;
+    Ok(sum_of_answers(asked, times, |id| u64::from(set.contains(id))))
 }
 
 pub(crate) fn build(alloc: Global, ids: &[Index], times: usize) -> Result<u64, BuildError> {
@@ -58,7 +40,7 @@ pub(crate) fn build(alloc: Global, ids: &[Index], times: usize) -> Result<u64, B
 
 // Adds a range, from the first of some indices on before the last of them, and takes it out again. There is room for
 // it.
-pub(crate) fn ranges(alloc: Global, ends: &[Index], times: usize) -> Result<u64, AllocError> {
+pub(crate) fn ranges(alloc: Global, ends: &[Index], times: usize) -> Sum {
     let mut set = BitSet::with_capacity(alloc, END)?;
     let start = first_of(ends);
     let end = ends.last().copied().unwrap_or(0).min(END);
@@ -72,27 +54,21 @@ pub(crate) fn ranges(alloc: Global, ends: &[Index], times: usize) -> Result<u64,
     Ok(sum)
 }
 
-pub(crate) fn from_words(alloc: Global, ids: &[Index], times: usize) -> Result<u64, AllocError> {
-    let set = set_of(alloc, ids)?;
-    let mut sum = 0u64;
-    for _ in 0..times {
+pub(crate) fn from_words(alloc: Global, ids: &[Index], times: usize) -> Sum {
+    let set: BitSet = set_of(alloc, ids)?;
+    sum_of_turns(times, || {
         let again = BitSet::from_words(alloc, set.layer0_as_slice())?;
-        sum = sum.wrapping_add(u64::from(again.contains(first_of(ids))));
-    }
-    Ok(sum)
+        Ok(u64::from(again.contains(first_of(ids))))
+    })
 }
 
 // Each turn adds one index, so that there is something to clear in the next.
-pub(crate) fn clear(alloc: Global, ids: &[Index], times: usize) -> Result<u64, AllocError> {
-    let mut set = set_of(alloc, ids)?;
+pub(crate) fn clear<S: AnySet>(alloc: Global, ids: &[Index], times: usize) -> Sum {
+    let mut set: S = set_of(alloc, ids)?;
     let first = first_of(ids);
-    let mut sum = 0u64;
-    for _ in 0..times {
+    sum_of_turns(times, || {
         set.clear();
-        if (first as usize) < MAX_EID {
-            set.add(first)?;
-        }
-        sum = sum.wrapping_add(u64::from(set.contains(first)));
-    }
-    Ok(sum)
+        set.add_in_range(first)?;
+        Ok(u64::from(set.contains(first)))
+    })
 }

@@ -1,5 +1,5 @@
 //! Columns of values by index, and joins of two.
-use crate::sets::first_of;
+use crate::sets::{Sum, first_of, sum_of_answers, sum_of_turns};
 use hibitset::Index;
 use hibitset::util::MAX_EID;
 use hibitset_store::{Column, join};
@@ -7,7 +7,7 @@ use std::alloc::{AllocError, Global};
 
 // Gives each index that is in range its complement as a value, and adds up the values that were there.
 #[inline]
-fn insert_all(column: &mut Column<u32>, ids: &[Index]) -> Result<u64, AllocError> {
+fn insert_all(column: &mut Column<u32>, ids: &[Index]) -> Sum {
     let mut sum = 0u64;
     for id in ids {
         if (*id as usize) < MAX_EID {
@@ -55,67 +55,35 @@ fn column_of(alloc: Global, ids: &[Index]) -> Result<Column<u32>, AllocError> {
     Ok(column)
 }
 
-pub(crate) fn insert(alloc: Global, ids: &[Index], times: usize) -> Result<u64, AllocError> {
-    let mut sum = 0u64;
-    for _ in 0..times {
+pub(crate) fn insert(alloc: Global, ids: &[Index], times: usize) -> Sum {
+    sum_of_turns(times, || {
         let mut column = Column::new(alloc);
-        sum = sum.wrapping_add(insert_all(&mut column, ids)?);
-        sum = sum.wrapping_add(value_in(&column, first_of(ids)));
-    }
-    Ok(sum)
+        let sum = insert_all(&mut column, ids)?;
+        Ok(sum.wrapping_add(value_in(&column, first_of(ids))))
+    })
 }
 
-pub(crate) fn insert_again(alloc: Global, ids: &[Index], times: usize) -> Result<u64, AllocError> {
+pub(crate) fn insert_again(alloc: Global, ids: &[Index], times: usize) -> Sum {
     let mut column = column_of(alloc, ids)?;
-    let mut sum = 0u64;
-    for _ in 0..times {
-        sum = sum.wrapping_add(insert_all(&mut column, ids)?);
-    }
-    Ok(sum)
+    sum_of_turns(times, || insert_all(&mut column, ids))
 }
 
-pub(crate) fn get(
-    alloc: Global,
-    ids: &[Index],
-    asked: &[Index],
-    times: usize,
-) -> Result<u64, AllocError> {
+pub(crate) fn get(alloc: Global, ids: &[Index], asked: &[Index], times: usize) -> Sum {
     let column = column_of(alloc, ids)?;
-    let mut sum = 0u64;
-    for _ in 0..times {
-        for id in asked {
-            sum = sum.wrapping_add(value_in(&column, *id));
-        }
-    }
-    Ok(sum)
+    Ok(sum_of_answers(asked, times, |id| value_in(&column, id)))
 }
 
 // Takes all out and puts them in again, where their pages are.
-pub(crate) fn remove_and_insert(
-    alloc: Global,
-    ids: &[Index],
-    times: usize,
-) -> Result<u64, AllocError> {
+pub(crate) fn remove_and_insert(alloc: Global, ids: &[Index], times: usize) -> Sum {
     let mut column = column_of(alloc, ids)?;
-    let mut sum = 0u64;
-    for _ in 0..times {
-        sum = sum.wrapping_add(remove_all(&mut column, ids));
-        sum = sum.wrapping_add(insert_all(&mut column, ids)?);
-    }
-    Ok(sum)
+    sum_of_turns(times, || {
+        let sum = remove_all(&mut column, ids);
+        Ok(sum.wrapping_add(insert_all(&mut column, ids)?))
+    })
 }
 
-pub(crate) fn join_of_two(
-    alloc: Global,
-    a: &[Index],
-    b: &[Index],
-    times: usize,
-) -> Result<u64, AllocError> {
+pub(crate) fn join_of_two(alloc: Global, a: &[Index], b: &[Index], times: usize) -> Sum {
     let a = column_of(alloc, a)?;
     let b = column_of(alloc, b)?;
-    let mut sum = 0u64;
-    for _ in 0..times {
-        sum = sum.wrapping_add(sum_of_join(&a, &b));
-    }
-    Ok(sum)
+    sum_of_turns(times, || Ok(sum_of_join(&a, &b)))
 }

@@ -1,11 +1,11 @@
 //! Calls that change a whole set, each on a copy of its own, or one set over and over.
-use crate::sets::{first_of, set_of, sum_of};
+use crate::sets::{Sum, first_of, set_of, sum_of};
 use hibitset::{BitSet, DrainableBitSet, Index};
-use std::alloc::{AllocError, Global};
+use std::alloc::Global;
 
 // What is done to a copy, beside another set and a list of indices.
 trait Change {
-    fn change(set: &mut BitSet, other: &BitSet, ids: &[Index]) -> Result<u64, AllocError>;
+    fn change(set: &mut BitSet, other: &BitSet, ids: &[Index]) -> Sum;
 }
 
 // Nothing: the copy alone.
@@ -13,7 +13,7 @@ struct KeepAll;
 
 impl Change for KeepAll {
     #[inline]
-    fn change(_set: &mut BitSet, _other: &BitSet, _ids: &[Index]) -> Result<u64, AllocError> {
+    fn change(_set: &mut BitSet, _other: &BitSet, _ids: &[Index]) -> Sum {
         Ok(0)
     }
 }
@@ -22,7 +22,7 @@ struct TakeInOrder;
 
 impl Change for TakeInOrder {
     #[inline]
-    fn change(set: &mut BitSet, _other: &BitSet, _ids: &[Index]) -> Result<u64, AllocError> {
+    fn change(set: &mut BitSet, _other: &BitSet, _ids: &[Index]) -> Sum {
         let mut sum = 0u64;
         for index in set.drain() {
             sum = sum.wrapping_add(u64::from(index));
@@ -35,7 +35,7 @@ struct TakeListed;
 
 impl Change for TakeListed {
     #[inline]
-    fn change(set: &mut BitSet, _other: &BitSet, ids: &[Index]) -> Result<u64, AllocError> {
+    fn change(set: &mut BitSet, _other: &BitSet, ids: &[Index]) -> Sum {
         let mut count = 0u64;
         for id in ids {
             count = count.wrapping_add(u64::from(set.remove(*id)));
@@ -48,7 +48,7 @@ struct AndAssign;
 
 impl Change for AndAssign {
     #[inline]
-    fn change(set: &mut BitSet, other: &BitSet, _ids: &[Index]) -> Result<u64, AllocError> {
+    fn change(set: &mut BitSet, other: &BitSet, _ids: &[Index]) -> Sum {
         *set &= other;
         Ok(0)
     }
@@ -58,7 +58,7 @@ struct OrAssign;
 
 impl Change for OrAssign {
     #[inline]
-    fn change(set: &mut BitSet, other: &BitSet, _ids: &[Index]) -> Result<u64, AllocError> {
+    fn change(set: &mut BitSet, other: &BitSet, _ids: &[Index]) -> Sum {
         set.bitor_assign(other)?;
         Ok(0)
     }
@@ -68,7 +68,7 @@ struct XorAssign;
 
 impl Change for XorAssign {
     #[inline]
-    fn change(set: &mut BitSet, other: &BitSet, _ids: &[Index]) -> Result<u64, AllocError> {
+    fn change(set: &mut BitSet, other: &BitSet, _ids: &[Index]) -> Sum {
         set.bitxor_assign(other)?;
         Ok(0)
     }
@@ -78,7 +78,7 @@ struct SubtractAssign;
 
 impl Change for SubtractAssign {
     #[inline]
-    fn change(set: &mut BitSet, other: &BitSet, _ids: &[Index]) -> Result<u64, AllocError> {
+    fn change(set: &mut BitSet, other: &BitSet, _ids: &[Index]) -> Sum {
         set.subtract_assign(other);
         Ok(0)
     }
@@ -91,7 +91,7 @@ fn changed<C: Change>(
     ids: &[Index],
     probe: Index,
     times: usize,
-) -> Result<u64, AllocError> {
+) -> Sum {
     let mut sum = 0u64;
     for _ in 0..times {
         let mut copy = set.clone()?;
@@ -104,82 +104,47 @@ fn changed<C: Change>(
 }
 
 // Changes copies of a set, beside no other.
-fn changed_alone<C: Change>(
-    alloc: Global,
-    members: &[Index],
-    ids: &[Index],
-    times: usize,
-) -> Result<u64, AllocError> {
+fn changed_alone<C: Change>(alloc: Global, members: &[Index], ids: &[Index], times: usize) -> Sum {
     let set = set_of(alloc, members)?;
     let other = BitSet::new(alloc);
     changed::<C>(&set, &other, ids, first_of(members), times)
 }
 
 // Changes copies of a set, beside another.
-fn changed_beside<C: Change>(
-    alloc: Global,
-    a: &[Index],
-    b: &[Index],
-    times: usize,
-) -> Result<u64, AllocError> {
+fn changed_beside<C: Change>(alloc: Global, a: &[Index], b: &[Index], times: usize) -> Sum {
     let set = set_of(alloc, a)?;
     let other = set_of(alloc, b)?;
     changed::<C>(&set, &other, &[], first_of(a), times)
 }
 
-pub(crate) fn clone(alloc: Global, ids: &[Index], times: usize) -> Result<u64, AllocError> {
+pub(crate) fn clone(alloc: Global, ids: &[Index], times: usize) -> Sum {
     changed_alone::<KeepAll>(alloc, ids, &[], times)
 }
 
-pub(crate) fn drain(alloc: Global, ids: &[Index], times: usize) -> Result<u64, AllocError> {
+pub(crate) fn drain(alloc: Global, ids: &[Index], times: usize) -> Sum {
     changed_alone::<TakeInOrder>(alloc, ids, &[], times)
 }
 
-pub(crate) fn remove(
-    alloc: Global,
-    ids: &[Index],
-    removed: &[Index],
-    times: usize,
-) -> Result<u64, AllocError> {
+pub(crate) fn remove(alloc: Global, ids: &[Index], removed: &[Index], times: usize) -> Sum {
     changed_alone::<TakeListed>(alloc, ids, removed, times)
 }
 
-pub(crate) fn and_assign(
-    alloc: Global,
-    a: &[Index],
-    b: &[Index],
-    times: usize,
-) -> Result<u64, AllocError> {
+pub(crate) fn and_assign(alloc: Global, a: &[Index], b: &[Index], times: usize) -> Sum {
     changed_beside::<AndAssign>(alloc, a, b, times)
 }
 
-pub(crate) fn or_assign(
-    alloc: Global,
-    a: &[Index],
-    b: &[Index],
-    times: usize,
-) -> Result<u64, AllocError> {
+pub(crate) fn or_assign(alloc: Global, a: &[Index], b: &[Index], times: usize) -> Sum {
     changed_beside::<OrAssign>(alloc, a, b, times)
 }
 
-pub(crate) fn xor_assign(
-    alloc: Global,
-    a: &[Index],
-    b: &[Index],
-    times: usize,
-) -> Result<u64, AllocError> {
+pub(crate) fn xor_assign(alloc: Global, a: &[Index], b: &[Index], times: usize) -> Sum {
     changed_beside::<XorAssign>(alloc, a, b, times)
 }
 
 // Puts another set exclusively into one set, `times` times over: each second time the set is as it was.
-pub(crate) fn xor_in_place(
-    alloc: Global,
-    a: &[Index],
-    b: &[Index],
-    times: usize,
-) -> Result<u64, AllocError> {
-    let mut set = set_of(alloc, a)?;
-    let other = set_of(alloc, b)?;
+pub(crate) fn xor_in_place(alloc: Global, a: &[Index], b: &[Index], times: usize) -> Sum {
+    let mut set: BitSet = set_of(alloc, a)?;
+    let other: BitSet = set_of(alloc, b)?;
     for _ in 0..times {
         set.bitxor_assign(&other)?;
     }
@@ -187,14 +152,9 @@ pub(crate) fn xor_in_place(
 }
 
 // Puts another set into one set and takes out again what was not there, `times` times over.
-pub(crate) fn or_and_in_place(
-    alloc: Global,
-    a: &[Index],
-    b: &[Index],
-    times: usize,
-) -> Result<u64, AllocError> {
-    let before = set_of(alloc, a)?;
-    let other = set_of(alloc, b)?;
+pub(crate) fn or_and_in_place(alloc: Global, a: &[Index], b: &[Index], times: usize) -> Sum {
+    let before: BitSet = set_of(alloc, a)?;
+    let other: BitSet = set_of(alloc, b)?;
     let mut set = before.clone()?;
     for _ in 0..times {
         set.bitor_assign(&other)?;
@@ -203,18 +163,13 @@ pub(crate) fn or_and_in_place(
     Ok(sum_of(&set))
 }
 
-pub(crate) fn subtract_assign(
-    alloc: Global,
-    a: &[Index],
-    b: &[Index],
-    times: usize,
-) -> Result<u64, AllocError> {
+pub(crate) fn subtract_assign(alloc: Global, a: &[Index], b: &[Index], times: usize) -> Sum {
     changed_beside::<SubtractAssign>(alloc, a, b, times)
 }
 
 // How many words a set keeps in all its layers, `times` times over.
-pub(crate) fn words(alloc: Global, ids: &[Index], times: usize) -> Result<u64, AllocError> {
-    let set = set_of(alloc, ids)?;
+pub(crate) fn words(alloc: Global, ids: &[Index], times: usize) -> Sum {
+    let set: BitSet = set_of(alloc, ids)?;
     let mut sum = 0u64;
     for _ in 0..times {
         let upper = [

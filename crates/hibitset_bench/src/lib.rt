@@ -14,12 +14,13 @@ mod order;
 mod sets;
 mod walk;
 
+use hibitset::{AtomicBitSet, BitSet};
 use std::alloc::Global;
 
 /// Adds the indices to an empty set, `times` times over.
 #[unsafe(no_mangle)]
 pub extern "C" fn hibitset_bench_add(alloc: Global, ids: &[u32], times: usize) -> u64 {
-    change::add(alloc, ids, times).unwrap_or(u64::MAX)
+    change::add::<BitSet>(alloc, ids, times).unwrap_or(u64::MAX)
 }
 
 /// Adds the indices to an empty set with room for all, `times` times over.
@@ -31,7 +32,7 @@ pub extern "C" fn hibitset_bench_add_with_room(alloc: Global, ids: &[u32], times
 /// Adds the indices to a set that has them, `times` times over.
 #[unsafe(no_mangle)]
 pub extern "C" fn hibitset_bench_add_again(alloc: Global, ids: &[u32], times: usize) -> u64 {
-    change::add_again(alloc, ids, times).unwrap_or(u64::MAX)
+    change::add_again::<BitSet>(alloc, ids, times).unwrap_or(u64::MAX)
 }
 
 /// Asks a set of `ids` for each of `asked`, `times` times over.
@@ -42,7 +43,7 @@ pub extern "C" fn hibitset_bench_contains(
     asked: &[u32],
     times: usize,
 ) -> u64 {
-    change::contains(alloc, ids, asked, times).unwrap_or(u64::MAX)
+    change::contains::<BitSet>(alloc, ids, asked, times).unwrap_or(u64::MAX)
 }
 
 /// Counts the words that a set of the indices keeps, `times` times over.
@@ -54,7 +55,7 @@ pub extern "C" fn hibitset_bench_words(alloc: Global, ids: &[u32], times: usize)
 /// Walks over a set, `times` times over.
 #[unsafe(no_mangle)]
 pub extern "C" fn hibitset_bench_walk(alloc: Global, ids: &[u32], times: usize) -> u64 {
-    walk::plain(alloc, ids, times).unwrap_or(u64::MAX)
+    walk::plain::<BitSet>(alloc, ids, times).unwrap_or(u64::MAX)
 }
 
 /// Counts the items of a walk over a set by `count`, `times` times over.
@@ -171,7 +172,7 @@ pub extern "C" fn hibitset_bench_drain(alloc: Global, ids: &[u32], times: usize)
 /// Clears a set and adds an index, `times` times over.
 #[unsafe(no_mangle)]
 pub extern "C" fn hibitset_bench_clear(alloc: Global, ids: &[u32], times: usize) -> u64 {
-    change::clear(alloc, ids, times).unwrap_or(u64::MAX)
+    change::clear::<BitSet>(alloc, ids, times).unwrap_or(u64::MAX)
 }
 
 /// Takes indices out of a copy of a set, as `hibitset_bench_clone` makes it.
@@ -305,25 +306,25 @@ pub extern "C" fn hibitset_bench_is_subset(
 /// The kernel `add` over a set that can be shared.
 #[unsafe(no_mangle)]
 pub extern "C" fn hibitset_bench_atomic_add(alloc: Global, ids: &[u32], times: usize) -> u64 {
-    atomic::add(alloc, ids, times).unwrap_or(u64::MAX)
+    change::add::<AtomicBitSet>(alloc, ids, times).unwrap_or(u64::MAX)
 }
 
 /// The kernel `add_again` over a set that can be shared.
 #[unsafe(no_mangle)]
 pub extern "C" fn hibitset_bench_atomic_add_again(alloc: Global, ids: &[u32], times: usize) -> u64 {
-    atomic::add_again(alloc, ids, times).unwrap_or(u64::MAX)
+    change::add_again::<AtomicBitSet>(alloc, ids, times).unwrap_or(u64::MAX)
 }
 
 /// The kernel `walk` over a set that can be shared.
 #[unsafe(no_mangle)]
 pub extern "C" fn hibitset_bench_atomic_walk(alloc: Global, ids: &[u32], times: usize) -> u64 {
-    atomic::walk(alloc, ids, times).unwrap_or(u64::MAX)
+    walk::plain::<AtomicBitSet>(alloc, ids, times).unwrap_or(u64::MAX)
 }
 
 /// The kernel `clear` over a set that can be shared.
 #[unsafe(no_mangle)]
 pub extern "C" fn hibitset_bench_atomic_clear(alloc: Global, ids: &[u32], times: usize) -> u64 {
-    atomic::clear(alloc, ids, times).unwrap_or(u64::MAX)
+    change::clear::<AtomicBitSet>(alloc, ids, times).unwrap_or(u64::MAX)
 }
 
 /// The kernel `renew` over a set that can be shared.
@@ -340,7 +341,7 @@ pub extern "C" fn hibitset_bench_atomic_contains(
     asked: &[u32],
     times: usize,
 ) -> u64 {
-    atomic::contains(alloc, ids, asked, times).unwrap_or(u64::MAX)
+    change::contains::<AtomicBitSet>(alloc, ids, asked, times).unwrap_or(u64::MAX)
 }
 
 /// Gives each of the indices a value in an empty column, `times` times over.

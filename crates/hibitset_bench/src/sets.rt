@@ -3,23 +3,82 @@ use hibitset::util::MAX_EID;
 use hibitset::{BitSet, BitSetLike, Index};
 use std::alloc::{AllocError, Global};
 
+// What a kernel returns: a sum of what came out, or that an allocation failed.
+pub(crate) type Sum = Result<u64, AllocError>;
+
+// A set that indices are added to one at a time.
+pub(crate) trait AnySet: BitSetLike {
+    fn empty(alloc: Global) -> Result<Self, AllocError>;
+
+    // Adds an index if it is in range, and returns whether it was there.
+    fn add_in_range(&mut self, id: Index) -> Result<bool, AllocError>;
+
+    // Takes all members out.
+    fn clear(&mut self);
+}
+
+impl AnySet for BitSet {
+    #[inline]
+    fn empty(alloc: Global) -> Result<Self, AllocError> {
+        Ok(BitSet::new(alloc))
+    }
+
+    #[inline]
+    fn add_in_range(&mut self, id: Index) -> Result<bool, AllocError> {
+        if (id as usize) < MAX_EID {
+            self.add(id)
+        } else {
+            Ok(false)
+        }
+    }
+
+    #[inline]
+    fn clear(&mut self) {
+        BitSet::clear(self);
+    }
+}
+
 // Adds the indices that are in range, and counts those that were there.
 #[inline]
-pub(crate) fn add_all(set: &mut BitSet, ids: &[Index]) -> Result<u64, AllocError> {
+pub(crate) fn add_all<S: AnySet>(set: &mut S, ids: &[Index]) -> Sum {
     let mut count = 0u64;
     for id in ids {
-        if (*id as usize) < MAX_EID {
-            count = count.wrapping_add(u64::from(set.add(*id)?));
-        }
+        count = count.wrapping_add(u64::from(set.add_in_range(*id)?));
     }
     Ok(count)
 }
 
 // The set of the indices that are in range.
-pub(crate) fn set_of(alloc: Global, ids: &[Index]) -> Result<BitSet, AllocError> {
-    let mut set = BitSet::new(alloc);
+pub(crate) fn set_of<S: AnySet>(alloc: Global, ids: &[Index]) -> Result<S, AllocError> {
+    let mut set = S::empty(alloc)?;
     add_all(&mut set, ids)?;
     Ok(set)
+}
+
+// The sum of what so many turns return.
+#[inline]
+pub(crate) fn sum_of_turns<F: FnMut() -> Sum>(times: usize, mut turn: F) -> Sum
+    requires { F.IsAlwaysCallable turn }
+{
+    let mut sum = 0u64;
+    for _ in 0..times {
+        sum = sum.wrapping_add(turn()?);
+    }
+    Ok(sum)
+}
+
+// The sum of what is returned for each index, `times` times over.
+#[inline]
+pub(crate) fn sum_of_answers<F: Fn(Index) -> u64>(asked: &[Index], times: usize, answer: F) -> u64
+    requires { F.IsAlwaysCallable answer }
+{
+    let mut sum = 0u64;
+    for _ in 0..times {
+        for id in asked {
+            sum = sum.wrapping_add(answer(*id));
+        }
+    }
+    sum
 }
 
 // The sum of the members.
