@@ -1,11 +1,10 @@
 //! The walks in parts: what is timed, and over which sets.
-use crate::clock::{Times, Turns, nanoseconds};
+use crate::clock::times_of;
 use crate::sets::{Shape, set_of};
 use hibitset::{BitSet, BitSetLike, Index};
 use std::alloc::{AllocError, Global};
 use std::rt::Clock;
 use std::thread::Threads;
-use std::time::Instant;
 
 // What is done with a set.
 #[derive(Clone, Copy)]
@@ -109,42 +108,6 @@ fn in_parts(
     }
 }
 
-// How long one call takes.
-fn time_of<R: Clock + Threads + Sync>(
-    rt: &R,
-    alloc: Global,
-    set: &BitSet,
-    work: Work,
-    is_in_parts: bool,
-) -> anyhow::Result<u64> {
-    let start = Instant::now(rt)?;
-    let sum = if is_in_parts {
-        in_parts(rt, alloc, set, work)?
-    } else {
-        alone(alloc, set, work)?
-    };
-    let time = nanoseconds(rt, start)?;
-    // The sum is used, so that the work is not left out.
-    Ok(if sum == u64::MAX { 0 } else { time })
-}
-
-// The medians of so many calls of each.
-fn times_of<R: Clock + Threads + Sync>(
-    rt: &R,
-    alloc: Global,
-    set: &BitSet,
-    work: Work,
-    repeats: usize,
-) -> anyhow::Result<Times> {
-    let mut turns = Turns::new(alloc);
-    for _ in 0..repeats {
-        let alone = time_of(rt, alloc, set, work, false)?;
-        let in_parts = time_of(rt, alloc, set, work, true)?;
-        turns.push(alone, in_parts)?;
-    }
-    turns.times()
-}
-
 // Prints all rows, each the median of so many calls.
 pub(crate) fn print_all<R: Clock + Print + Threads + Sync>(
     rt: &R,
@@ -155,10 +118,15 @@ pub(crate) fn print_all<R: Clock + Print + Threads + Sync>(
         for size in SIZES {
             let set = set_of(alloc, shape, size)?;
             for (work_name, work) in WORKS {
-                let times = times_of(rt, alloc, &set, work, repeats)?;
-                let (alone, in_parts, ratio) = (times.alone, times.in_parts, times.ratio);
-                println!(rt; "{work_name}\t{shape_name}\t{size}\talone\t{alone}")?;
-                println!(rt; "{work_name}\t{shape_name}\t{size}\tin parts\t{in_parts}\t{ratio}")?;
+                let times = times_of(
+                    rt,
+                    alloc,
+                    repeats,
+                    || alone(alloc, &set, work),
+                    || in_parts(rt, alloc, &set, work),
+                )?;
+                let call = format!(in alloc; "{work_name}\t{shape_name}\t{size}")?;
+                times.print(rt, call.as_str())?;
             }
         }
     }

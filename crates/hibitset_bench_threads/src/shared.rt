@@ -1,5 +1,5 @@
 //! The shared set: what is timed of it, on one thread and on all processors.
-ghost use Rattle.std.specs.Prelude.{IfOk};
+ghost use Rattle.std.specs.Prelude.{◌<◌, IfOk};
 ghost use Rattle.std.specs.Thread.{IsSync};
 ghost use Rattle.hibitset_atomic.specs.Seats.{BelongsTo};
 
@@ -19,11 +19,37 @@ const INDICES: usize = 2_000_000;
 // How often each index is asked for, so that what it takes to start threads is a small part.
 const TURNS: usize = 16;
 
-// What is done with each index.
-#[derive(Clone, Copy)]
-enum Work {
-    Add,
-    Ask,
+// What is done with each index, and how often.
+trait Work {
+    const TURNS: usize;
+
+    // What the set returns for an index.
+    fn answer(set: &SharedBitSet, seat: &mut Seat, id: Index) -> bool
+        requires seat { BelongsTo set.now seat.old }
+        requires range { id < 16777216 }
+        ensures { BelongsTo set.now seat.new };
+}
+
+struct Add;
+
+impl Work for Add {
+    const TURNS: usize = 1;
+
+    #[inline]
+    fn answer(set: &SharedBitSet, seat: &mut Seat, id: Index) -> bool {
+        set.add_atomic(seat, id)
+    }
+}
+
+struct Ask;
+
+impl Work for Ask {
+    const TURNS: usize = TURNS;
+
+    #[inline]
+    fn answer(set: &SharedBitSet, seat: &mut Seat, id: Index) -> bool {
+        set.contains(seat, id)
+    }
 }
 
 // A seat that has added or asked, and how many answers were false.
@@ -69,80 +95,40 @@ fn settled_sum(set: &AtomicBitSet) -> u64 {
     sum
 }
 
-// Adds each index.
-fn add_each(set: &SharedBitSet, seat: Seat, list: &[Index]) -> Done
+// The work in the calling thread, one turn over the list after another.
+fn alone<W: Work>(set: &SharedBitSet, seat: Seat, list: &[Index]) -> Done
     requires { BelongsTo set.now seat }
     ensures { BelongsTo set.now result.seat }
 {
     let mut seat = seat;
     let mut falses = 0u64;
-    for id in list {
-        if !set.add_atomic(&mut seat, *id % 16_777_216) {
-            falses = falses.wrapping_add(1);
+    for _ in 0..W::TURNS {
+        for id in list {
+            if !W::answer(set, &mut seat, *id % 16_777_216) {
+                falses = falses.wrapping_add(1);
+            }
         }
     }
     Done { seat, falses }
-}
-
-// Asks for each index.
-fn ask_each(set: &SharedBitSet, seat: Seat, list: &[Index]) -> Done
-    requires { BelongsTo set.now seat }
-    ensures { BelongsTo set.now result.seat }
-{
-    let mut seat = seat;
-    let mut falses = 0u64;
-    for id in list {
-        if !set.contains(&mut seat, *id % 16_777_216) {
-            falses = falses.wrapping_add(1);
-        }
-    }
-    Done { seat, falses }
-}
-
-// Asks for all indices, one turn after another.
-fn ask_in_turns(set: &SharedBitSet, seat: Seat, list: &[Index]) -> Done
-    requires { BelongsTo set.now seat }
-    ensures { BelongsTo set.now result.seat }
-{
-    let mut seat = seat;
-    let mut falses = 0u64;
-    for _ in 0..TURNS {
-        let turn = ask_each(set, seat, list);
-        seat = turn.seat;
-        falses = falses.wrapping_add(turn.falses);
-    }
-    Done { seat, falses }
-}
-
-// The work in the calling thread.
-fn alone(set: &SharedBitSet, seat: Seat, list: &[Index], work: Work) -> Done
-    requires { BelongsTo set.now seat }
-    ensures { BelongsTo set.now result.seat }
-{
-    match work {
-        Work::Add => add_each(set, seat, list),
-        Work::Ask => ask_in_turns(set, seat, list),
-    }
 }
 
 // The work on so many threads, each with a seat and a part of the list of its own.
-fn spread<R: Threads + Sync>(
+fn spread<W: Work + Sync, R: Threads + Sync>(
     rt: &R,
     set: &SharedBitSet,
     seat: Seat,
     list: &[Index],
-    work: Work,
     threads: usize,
 ) -> Done
     requires { BelongsTo set.now seat }
     ensures { BelongsTo set.now result.seat }
 {
     if threads < 2 {
-        return alone(set, seat, list, work);
+        return alone::<W>(set, seat, list);
     }
     let (mine, theirs) = set.divide(seat);
     let Some(theirs) = theirs else {
-        return alone(set, mine, list, work);
+        return alone::<W>(set, mine, list);
     };
     let half = threads / 2;
     let rest = threads - half;
@@ -151,11 +137,11 @@ fn spread<R: Threads + Sync>(
     let front = move || -> Done
         requires { IsSync R.row × BelongsTo set.now theirs }
         ensures { BelongsTo set.entry.now result.seat }
-    { spread(rt, set, theirs, low, work, half) };
+    { spread::<W, R>(rt, set, theirs, low, half) };
     let back = move || -> Done
         requires { IsSync R.row × BelongsTo set.now mine }
         ensures { BelongsTo set.entry.now result.seat }
-    { spread(rt, set, mine, high, work, rest) };
+    { spread::<W, R>(rt, set, mine, high, rest) };
     let (one, two) = thread::join(rt, front, back);
     Done {
         seat: set.join(one.seat, two.seat),
@@ -164,12 +150,11 @@ fn spread<R: Threads + Sync>(
 }
 
 // The work and how long it took. It fails where so many answers were not false.
-fn timed<R: Clock + Threads + Sync>(
+fn timed<W: Work + Sync, R: Clock + Threads + Sync>(
     rt: &R,
     set: &SharedBitSet,
     seat: Seat,
     list: &[Index],
-    work: Work,
     threads: usize,
     falses: usize,
 ) -> anyhow::Result<(Seat, u64)>
@@ -177,7 +162,7 @@ fn timed<R: Clock + Threads + Sync>(
     ensures { IfOk result (λ r. BelongsTo set.now r.0) }
 {
     let start = Instant::now(rt)?;
-    let done = spread(rt, set, seat, list, work, threads);
+    let done = spread::<W, R>(rt, set, seat, list, threads);
     let time = nanoseconds(rt, start)?;
     if done.falses != falses as u64 {
         bail!("{} answers false, and not {falses}", done.falses)
@@ -196,11 +181,11 @@ fn round<R: Clock + Threads + Sync>(
     let Ok((set, seat)) = AtomicBitSet::new(alloc)?.share() else {
         bail!("no memory to share")
     };
-    let (seat, add_new) = timed(rt, &set, seat, new, Work::Add, threads, new.len())?;
-    let (seat, add_there) = timed(rt, &set, seat, new, Work::Add, threads, 0)?;
-    let (seat, hit) = timed(rt, &set, seat, new, Work::Ask, threads, 0)?;
+    let (seat, add_new) = timed::<Add, R>(rt, &set, seat, new, threads, new.len())?;
+    let (seat, add_there) = timed::<Add, R>(rt, &set, seat, new, threads, 0)?;
+    let (seat, hit) = timed::<Ask, R>(rt, &set, seat, new, threads, 0)?;
     let misses = others.len().saturating_mul(TURNS);
-    let (mut seat, miss) = timed(rt, &set, seat, others, Work::Ask, threads, misses)?;
+    let (mut seat, miss) = timed::<Ask, R>(rt, &set, seat, others, threads, misses)?;
     let start = Instant::now(rt)?;
     let sum = shared_sum(&set, &mut seat);
     let walk = nanoseconds(rt, start)?;

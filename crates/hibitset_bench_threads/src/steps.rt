@@ -1,12 +1,11 @@
 //! The walks in parts whose step takes time: what is timed, and over which sets.
-use crate::clock::{Times, Turns, nanoseconds};
+use crate::clock::times_of;
 use crate::sets::{Shape, set_of};
 use hibitset::{BitSet, BitSetLike, Index};
 use std::alloc::{AllocError, Global};
 use std::rt::Clock;
 use std::sync::atomic::{AtomicU64, Ordering};
 use std::thread::Threads;
-use std::time::Instant;
 
 // What is done with a set.
 #[derive(Clone, Copy)]
@@ -106,44 +105,6 @@ fn in_parts(
     }
 }
 
-// How long one call takes.
-fn time_of<R: Clock + Threads + Sync>(
-    rt: &R,
-    alloc: Global,
-    set: &BitSet,
-    work: Work,
-    turns: u32,
-    is_in_parts: bool,
-) -> anyhow::Result<u64> {
-    let start = Instant::now(rt)?;
-    let sum = if is_in_parts {
-        in_parts(rt, alloc, set, work, turns)?
-    } else {
-        alone(set, work, turns)
-    };
-    let time = nanoseconds(rt, start)?;
-    // The sum is used, so that the work is not left out.
-    Ok(if sum == u64::MAX { 0 } else { time })
-}
-
-// The medians of so many calls of each.
-fn times_of<R: Clock + Threads + Sync>(
-    rt: &R,
-    alloc: Global,
-    set: &BitSet,
-    work: Work,
-    turns: u32,
-    repeats: usize,
-) -> anyhow::Result<Times> {
-    let mut times = Turns::new(alloc);
-    for _ in 0..repeats {
-        let alone = time_of(rt, alloc, set, work, turns, false)?;
-        let in_parts = time_of(rt, alloc, set, work, turns, true)?;
-        times.push(alone, in_parts)?;
-    }
-    times.times()
-}
-
 // Prints the rows of one step over one set.
 fn print_rows<R: Clock + Print + Threads + Sync>(
     rt: &R,
@@ -157,12 +118,15 @@ fn print_rows<R: Clock + Print + Threads + Sync>(
     let (step_name, turns) = step;
     let set = set_of(alloc, shape, size)?;
     for (work_name, work) in WORKS {
-        let times = times_of(rt, alloc, &set, work, turns, repeats)?;
-        let (alone, in_parts, ratio) = (times.alone, times.in_parts, times.ratio);
-        println!(rt; "{work_name} of {step_name}\t{shape_name}\t{size}\talone\t{alone}")?;
-        println!(rt;
-            "{work_name} of {step_name}\t{shape_name}\t{size}\tin parts\t{in_parts}\t{ratio}"
+        let times = times_of(
+            rt,
+            alloc,
+            repeats,
+            || Ok(alone(&set, work, turns)),
+            || in_parts(rt, alloc, &set, work, turns),
         )?;
+        let call = format!(in alloc; "{work_name} of {step_name}\t{shape_name}\t{size}")?;
+        times.print(rt, call.as_str())?;
     }
     Ok(())
 }
