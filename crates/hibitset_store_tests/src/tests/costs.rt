@@ -6,7 +6,7 @@ use std::alloc::{AllocError, Global};
 use std::test::Fail;
 
 // How many keys there are.
-const KEYS: Index = 20_000;
+const KEYS: Index = 40_000;
 
 // How far they lie apart: the words of their mask lie apart too.
 const GAP: Index = 4_096;
