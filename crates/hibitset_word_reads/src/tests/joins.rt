@@ -68,11 +68,7 @@ fn in_many_words(alloc: Global, first: Index) -> Result<Column<u8>, AllocError> 
 
 // The walk over two columns, in turn by the function and by the method.
 fn joined<'a>(turn: usize, a: &'a Column<u8>, b: &'a Column<u8>) -> Join<'a, u8, u8> {
-    if turn % 2 == 0 {
-        join(a, b)
-    } else {
-        b.join(a)
-    }
+    if turn % 2 == 0 { join(a, b) } else { b.join(a) }
 }
 
 // The columns share each word and have no index in common, so the walks are made and go no step.

@@ -128,9 +128,22 @@ fn a_large_set_that_is_listed(rt: HostRuntime) -> Result<(), AllocError> {
     assert_count(&rt, all.capacity(), 524_288);
     let is_alone = available_parallelism(&rt).map_or(true, |count| count.get() == 1);
     if is_alone {
-        tally.assert_read(&rt, [2 * 65_536 + 16, 2 * 1_024 + 16, 2 * 16 + 16, 2 + 1, 1 + 1, 0]);
+        tally.assert_read(
+            &rt,
+            [
+                2 * 65_536 + 16,
+                2 * 1_024 + 16,
+                2 * 16 + 16,
+                2 + 1,
+                1 + 1,
+                0,
+            ],
+        );
     } else {
-        tally.assert_read(&rt, [2 * 65_536 + 16, 2 * 1_024 + 16, 16 + 16, 1 + 1, 1 + 1, 0]);
+        tally.assert_read(
+            &rt,
+            [2 * 65_536 + 16, 2 * 1_024 + 16, 16 + 16, 1 + 1, 1 + 1, 0],
+        );
     }
     Ok(())
 }

@@ -67,11 +67,7 @@ fn new_of_four_lists(
 }
 
 // The weight of the indices below an end, of which the first two have any.
-fn weight_below(
-    rt: &(impl Threads + Sync),
-    alloc: Global,
-    end: Index,
-) -> Result<u64, AllocError> {
+fn weight_below(rt: &(impl Threads + Sync), alloc: Global, end: Index) -> Result<u64, AllocError> {
     let words = vec![in alloc; usize::MAX; (end as usize / 64).min(MOST_WORDS)]?;
     let set = BitSet::from_words(alloc, words.as_slice())?;
     weight_of_both(rt, alloc, &set, &set, &[5, 7])
