@@ -55,7 +55,7 @@ pub(crate) fn set_of<S: AnySet>(alloc: Global, ids: &[Index]) -> Result<S, Alloc
     Ok(set)
 }
 
-// The sum of what so many turns return.
+// The sum of what `times` turns return.
 #[inline]
 pub(crate) fn sum_of_turns<F: FnMut() -> Sum>(times: usize, mut turn: F) -> Sum
     requires { F.IsAlwaysCallable turn }

@@ -84,7 +84,7 @@ fn time_of<R: Clock, F: Fn() -> Result<u64, AllocError>>(rt: &R, call: &F) -> an
     Ok(if sum == u64::MAX { 0 } else { time })
 }
 
-// The medians of so many calls of each.
+// The medians of `repeats` calls of each.
 pub(crate) fn times_of<R, A, P>(
     rt: &R,
     alloc: Global,

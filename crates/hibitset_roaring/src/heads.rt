@@ -11,7 +11,7 @@ use std::alloc::{AllocError, Global};
 // From this many nonzero words on, all words of a container are counted.
 const MANY_WORDS: usize = 256;
 
-// So many words of layer 1 that are not 0 may lie over many nonzero words.
+// From this many nonzero words of layer 1 on, the nonzero words under them are counted first.
 const MANY_BLOCKS: usize = 8;
 
 /// The keys of the containers of a set, and how many members each has.
@@ -64,7 +64,7 @@ fn count_some(words: &[usize], above: &[usize], key: usize, blocks: usize) -> us
     ones
 }
 
-// Returns whether there are so many nonzero words in a container, all of which lie in `words`, that all are counted.
+// Returns whether a container has many nonzero words, and all its words lie in `words`.
 fn has_many(words: &[usize], above: &[usize], key: usize, blocks: usize) -> bool
     requires { key < 65536 }
     ensures { result ≡ true → 1024 * key + 1024 ≤ length words.now }

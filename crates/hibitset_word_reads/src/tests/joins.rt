@@ -44,14 +44,14 @@ fn an_empty_set_beside_two_columns(rt: HostRuntime) -> Result<(), AllocError> {
     none.assert_read(&rt, &[])
 }
 
-// So many words of layer 0 have the columns below: to go over them takes a hundred thousand times as long as to make a
+// How many words of layer 0 the columns below have: to go over them takes a hundred thousand times as long as to make a
 // walk.
 const WORDS: Index = 262_144;
 
-// So many walks are made over them. Where each went over all words, the test would be cut short.
+// How many walks are made over them. If each went over all words, the test would be cut short.
 const WALKS: usize = 200_000;
 
-// So many of these are kept at a time.
+// How many of these are kept at a time.
 const KEPT: usize = 1_000;
 
 // The column that has one index in each of the first `WORDS` words of layer 0, the first of all or another.
