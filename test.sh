@@ -14,6 +14,7 @@ set -euo pipefail
 top=$(cd "$(dirname "$0")" && pwd)
 parts=6
 beside=
+lowest=
 anew=
 
 usage() {
@@ -44,22 +45,36 @@ part() { # NUMBER PART [WORD..]: one of the parts, with what it is, which one of
     return "$status"
 }
 
+prove_lowest() { # hibitset_base, for which all other crates wait: rt gives a proof several processors only where RT_JOBS is not set
+    local rt
+    set -m
+    (cd "$top" && TMPDIR=$scratch exec rt ci hibitset_base) </dev/null >"$scratch/lowest" 2>&1 &
+    rt=$!
+    lowest=$rt
+    set +m
+    # Once it is proved it is kept, and part 2 tries its must-fail edits beside other proofs.
+    until grep -qE '^rt: hibitset_base (proved|NOT PROVED|is kept)' "$scratch/lowest" || ! kill -0 "$rt" 2>/dev/null; do
+        sleep 1
+    done
+    kill -- -"$rt" 2>/dev/null || true
+    wait "$rt" 2>/dev/null || true
+    lowest=
+}
+
 both() { # proofs, and beside it mutants tests, whose output comes when both have ended
     local status=0
     # A process group of its own, which the trap can end whole.
     set -m
-    (
-        # One at a time: all other crates wait for the lowest one, whose check takes three processors.
-        TOGETHER=1 part 3 mutants tests --gate
-    ) </dev/null >"$log" 2>&1 &
+    (part 3 mutants tests --gate) </dev/null >"$scratch/mutants" 2>&1 &
     beside=$!
     set +m
     echo "test.sh: part 3 of $parts, mutants tests, runs beside part 2"
+    [ -n "$anew" ] || prove_lowest
     # A check a processor: rt reckons with 9 GB for hibitset_base, which takes 2, and would leave a processor idle.
     RT_JOBS=${RT_JOBS:-$(nproc)} part 2 proofs || return
     wait "$beside" || status=$?
     beside=
-    cat "$log"
+    cat "$scratch/mutants"
     return "$status"
 }
 
@@ -72,8 +87,8 @@ if [ $# -gt 0 ]; then
     part 1 "$@"
     exit
 fi
-log=$(mktemp)
-trap '[ -z "$beside" ] || kill -- -"$beside" 2>/dev/null; rm -f "$log"' EXIT
+scratch=$(mktemp -d)
+trap 'for group in $beside $lowest; do kill -- -"$group" 2>/dev/null; done; rm -rf "$scratch"' EXIT
 trap 'exit 130' INT TERM HUP
 part 1 docs
 both

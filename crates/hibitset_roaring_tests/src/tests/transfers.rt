@@ -1,6 +1,7 @@
 //! Streams from readers and to writers that give or take little, or fail.
 use super::*;
 use std::io::{self, Cursor, ErrorKind, Read, Write};
+use std::process::Abort;
 
 // Gives its bytes, at most 3 a read, with an interruption before each, and fails from one read on.
 #[derive(Drop)]
@@ -25,12 +26,15 @@ impl Read for Breaking<'_> {
     }
 }
 
-// Takes at most 3 bytes a write, with an interruption before each, keeps them, and takes none from one write on.
+// Takes at most 3 bytes a write, with an interruption before each, and keeps them. From one write on it takes none, or
+// times out. It notes whether it was flushed.
 #[derive(Drop)]
 struct Taking {
     bytes: Vec<u8>,
     writes_left: u32,
     halted: bool,
+    times_out: bool,
+    flushed: bool,
 }
 
 impl Write for Taking {
@@ -40,6 +44,9 @@ impl Write for Taking {
             return Err(io::Error::new(ErrorKind::Interrupted, "halted"));
         }
         if self.writes_left == 0 {
+            if self.times_out {
+                return Err(io::Error::new(ErrorKind::TimedOut, "broken"));
+            }
             return Ok(0);
         }
         self.writes_left -= 1;
@@ -49,6 +56,7 @@ impl Write for Taking {
     }
 
     fn flush(&mut self) -> io::Result<()> {
+        self.flushed = true;
         Ok(())
     }
 }
@@ -97,28 +105,41 @@ fn a_reader_gives_little_and_breaks(rt: HostRuntime) -> Result<(), Fail> {
     Ok(())
 }
 
+// Writes a set into a writer that takes bytes in so many writes and then none, or times out. Returns how many it took.
+fn taken_in(rt: &impl Abort, alloc: Global, writes: u32, times_out: bool) -> Result<usize, Fail> {
+    let set = array_and_bits(alloc)?;
+    let mut writer = Taking {
+        bytes: Vec::new(alloc),
+        writes_left: writes,
+        halted: false,
+        times_out,
+        flushed: false,
+    };
+    let last = if times_out {
+        ErrorKind::TimedOut
+    } else {
+        ErrorKind::WriteZero
+    };
+    match write_into(alloc, &set, &mut writer) {
+        Ok(()) => assert!(rt; writes >= 2_754),
+        Err(error) => assert!(rt; error.kind() == last && writes < 2_754),
+    }
+    assert!(rt; !writer.flushed && write(alloc, &set)?.starts_with(&writer.bytes));
+    Ok(writer.bytes.len())
+}
+
 #[test]
 fn a_writer_takes_little_and_then_none(rt: HostRuntime) -> Result<(), Fail> {
-    let alloc = rt.alloc();
-    let set = array_and_bits(alloc)?;
-    let stream = write(alloc, &set)?;
-    for (writes, written) in [
-        (3_000, 8_260),
-        (2_754, 8_260),
-        (2_753, 8_259),
-        (5, 15),
-        (0, 0),
-    ] {
-        let mut writer = Taking {
-            bytes: Vec::new(alloc),
-            writes_left: writes,
-            halted: false,
-        };
-        match write_into(alloc, &set, &mut writer) {
-            Ok(()) => assert!(rt; writes >= 2_754),
-            Err(error) => assert!(rt; error.kind() == ErrorKind::WriteZero && writes < 2_754),
+    for times_out in [false, true] {
+        for (writes, written) in [
+            (3_000, 8_260),
+            (2_754, 8_260),
+            (2_753, 8_259),
+            (5, 15),
+            (0, 0),
+        ] {
+            assert!(rt; taken_in(&rt, rt.alloc(), writes, times_out)? == written);
         }
-        assert!(rt; writer.bytes.len() == written && stream.starts_with(&writer.bytes));
     }
     Ok(())
 }
