@@ -22,10 +22,37 @@ usage() {
     exit 64
 }
 
+prove_lowest() { # hibitset_base, for which all other crates wait: rt gives a proof several processors only where RT_JOBS is not set
+    local rt
+    echo "test.sh: hibitset_base is proved first"
+    set -m
+    (cd "$top" && TMPDIR=$scratch exec rt ci hibitset_base) </dev/null >"$scratch/lowest" 2>&1 &
+    rt=$!
+    lowest=$rt
+    set +m
+    # Once it is proved it is kept, and its must-fail edits are tried beside other proofs.
+    until grep -qE '^rt: hibitset_base (proved|NOT PROVED|is kept)' "$scratch/lowest" || ! kill -0 "$rt" 2>/dev/null; do
+        sleep 1
+    done
+    kill -- -"$rt" 2>/dev/null || true
+    wait "$rt" 2>/dev/null || true
+    lowest=
+}
+
+proofs() { # [CRATE..]: rt ci
+    if [ $# -gt 0 ]; then
+        (cd "$top" && rt ci $anew "$@")
+        return
+    fi
+    [ -n "$anew" ] || prove_lowest
+    # A check a processor: rt reckons with 9 GB for hibitset_base, which takes 2, and would leave a processor idle.
+    (cd "$top" && RT_JOBS=${RT_JOBS:-$(nproc)} rt ci $anew)
+}
+
 run() { # PART [WORD..]: one part, by the script that does it
     case "$1 ${2:-}" in
         "docs "*) "$top/tests/docs.py" "${@:2}" ;;
-        "proofs "*) (cd "$top" && rt ci $anew "${@:2}") ;;
+        "proofs "*) proofs "${@:2}" ;;
         "mutants contract") "$top/tests/mutants/run_contract.sh" "${@:3}" ;;
         "mutants tests") "$top/tests/mutants/run_tests.sh" "${@:3}" ;;
         "allocation "*) "$top/tests/allocation_failures.py" ;;
@@ -45,22 +72,6 @@ part() { # NUMBER PART [WORD..]: one of the parts, with what it is, which one of
     return "$status"
 }
 
-prove_lowest() { # hibitset_base, for which all other crates wait: rt gives a proof several processors only where RT_JOBS is not set
-    local rt
-    set -m
-    (cd "$top" && TMPDIR=$scratch exec rt ci hibitset_base) </dev/null >"$scratch/lowest" 2>&1 &
-    rt=$!
-    lowest=$rt
-    set +m
-    # Once it is proved it is kept, and part 2 tries its must-fail edits beside other proofs.
-    until grep -qE '^rt: hibitset_base (proved|NOT PROVED|is kept)' "$scratch/lowest" || ! kill -0 "$rt" 2>/dev/null; do
-        sleep 1
-    done
-    kill -- -"$rt" 2>/dev/null || true
-    wait "$rt" 2>/dev/null || true
-    lowest=
-}
-
 both() { # proofs, and beside it mutants tests, whose output comes when both have ended
     local status=0
     # A process group of its own, which the trap can end whole.
@@ -69,9 +80,7 @@ both() { # proofs, and beside it mutants tests, whose output comes when both hav
     beside=$!
     set +m
     echo "test.sh: part 3 of $parts, mutants tests, runs beside part 2"
-    [ -n "$anew" ] || prove_lowest
-    # A check a processor: rt reckons with 9 GB for hibitset_base, which takes 2, and would leave a processor idle.
-    RT_JOBS=${RT_JOBS:-$(nproc)} part 2 proofs || return
+    part 2 proofs || return
     wait "$beside" || status=$?
     beside=
     cat "$scratch/mutants"
@@ -82,14 +91,14 @@ if [ "${1:-}" = --anew ]; then
     anew=--anew
     shift
 fi
+scratch=$(mktemp -d)
+trap 'for group in $beside $lowest; do kill -- -"$group" 2>/dev/null || true; done; rm -rf "$scratch"' EXIT
+trap 'exit 130' INT TERM HUP
 if [ $# -gt 0 ]; then
     parts=1
     part 1 "$@"
     exit
 fi
-scratch=$(mktemp -d)
-trap 'for group in $beside $lowest; do kill -- -"$group" 2>/dev/null; done; rm -rf "$scratch"' EXIT
-trap 'exit 130' INT TERM HUP
 part 1 docs
 both
 part 4 allocation
