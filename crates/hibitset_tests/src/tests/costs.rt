@@ -1,7 +1,7 @@
 //! Calls whose time does not grow with the set: each is made so often that the test is cut short if it does.
 use hibitset::{BitSet, BitSetLike};
 use hibitset_testing::sets::set_of;
-use std::alloc::AllocError;
+use std::alloc::{AllocError, Global};
 
 // How often a call is made.
 const STEPS: u32 = 500_000;
@@ -39,5 +39,32 @@ fn is_cleared(set: &mut BitSet) -> Result<bool, AllocError> {
 fn clear_after_a_far_member(rt: HostRuntime) -> Result<(), AllocError> {
     let mut set = set_of(rt.alloc(), &[67_108_863])?;
     assert!(rt; is_cleared(&mut set)?);
+    Ok(())
+}
+
+// Compares two sets many times, and returns whether they differ each time.
+fn always_differ(set: &BitSet, other: &BitSet) -> bool {
+    for _ in 0..STEPS {
+        if set == other {
+            return false;
+        }
+    }
+    true
+}
+
+// Returns the set of all indices below 67,108,864, which has a million words.
+fn million_words(alloc: Global) -> Result<BitSet, AllocError> {
+    let mut set = BitSet::new(alloc);
+    set.add_range(0, 67_108_864)?;
+    Ok(set)
+}
+
+#[test]
+fn equality_after_the_first_difference(rt: HostRuntime) -> Result<(), AllocError> {
+    let whole = million_words(rt.alloc())?;
+    let mut rest = million_words(rt.alloc())?;
+    assert!(rt; rest.remove(5));
+    assert!(rt; always_differ(&whole, &rest));
+    assert!(rt; always_differ(&rest, &whole));
     Ok(())
 }
