@@ -84,7 +84,7 @@ CALLS = {
     "hibitset_roaring": {
         "read": "streams::read_a_stream",
         "read_below": "streams::read_with_a_bound",
-        "read_from": "streams::read_from_a_reader",
+        "read_from": "streams::read_from_a_reader streams::read_from_a_slow_reader",
         "round_trip": "streams::round_trip_of_a_set",
         "round_trip_optimized": "streams::round_trip_with_runs",
         "write": "streams::write_a_set",
@@ -133,8 +133,9 @@ OTHERS = "columns::collect callers::take"
 
 # The tests of calls that make no request.
 ROOM = """sets sets_with_room sets_with_room_of_adds sets_with_room_of_assignments vectors_with_room virtual_sets
-atomic_sets settled_sets shared_sets last_shares new_worlds worlds parts parts_in_one_thread columns columns_in_order
-columns_with_room_of_inserts cleared_columns identifiers pages tasks tags"""
+atomic_sets atomic_sets_with_room_of_adds settled_sets shared_sets last_shares new_worlds worlds
+worlds_with_room_of_reads parts parts_in_one_thread columns columns_in_order columns_with_room_of_inserts
+cleared_columns identifiers pages tasks tags"""
 
 # How many requests the call of each test makes where none is refused. A call that does its work twice is seen here alone.
 REQUESTS = {
@@ -210,6 +211,7 @@ REQUESTS = {
     "sets::with_capacity": 1,
     "streams::read_a_stream": 1,
     "streams::read_from_a_reader": 2,
+    "streams::read_from_a_slow_reader": 4,
     "streams::read_with_a_bound": 1,
     "streams::round_trip_of_a_set": 4,
     "streams::round_trip_with_runs": 5,
@@ -317,6 +319,7 @@ BYTES = {
     "sets::with_capacity": 664,
     "streams::read_a_stream": 16_656,
     "streams::read_from_a_reader": 16_684,
+    "streams::read_from_a_slow_reader": 16_712,
     "streams::read_with_a_bound": 16_656,
     "streams::round_trip_of_a_set": 16_748,
     "streams::round_trip_with_runs": 16_780,

@@ -1,5 +1,5 @@
 //! Calls that do not allocate, or none as things stand, between two requests of the test's own.
-ghost use Rattle.std.specs.Prelude.{◌≡◌, ◌<◌, IfOk};
+ghost use Rattle.std.specs.Prelude.{◌≡◌, ◌<◌, ◌≤◌, IfOk};
 ghost use Rattle.hibitset_base.specs.declared.util.TheConstants.{MAX_EID};
 ghost use Rattle.hibitset_atomic.specs.Seats.{BelongsTo};
 ghost use Rattle.uses.specs.Filter.{tags_of};
@@ -278,11 +278,28 @@ fn atomic_sets(rt: HostRuntime) -> Result<(), Fail> {
     ask(&rt)
 }
 
-// One index of each block.
-fn assert_takes_all_blocks(rt: &impl Abort, set: &mut AtomicBitSet) {
-    for block in 0..4_096u32 {
-        assert!(rt; set.add(4_096 * block) == Ok(false));
+// Adds one index of each of these blocks, and returns whether no allocation failed.
+fn adds_blocks(set: &mut AtomicBitSet, from: u32, to: u32) -> bool
+    requires { to ≤ 4096 }
+{
+    for block in from..to {
+        if set.add(4_096 * block) != Ok(false) {
+            return false;
+        }
     }
+    true
+}
+
+// With 2,048 blocks and the one of zeros there is capacity for 4,096.
+#[test]
+fn atomic_sets_with_room_of_adds(rt: HostRuntime) -> Result<(), Fail> {
+    let mut set = AtomicBitSet::new(rt.alloc())?;
+    if !adds_blocks(&mut set, 0, 2_048) {
+        return Err(AllocError.into());
+    }
+    ask(&rt)?;
+    assert!(rt; adds_blocks(&mut set, 2_048, 4_095) && set.len() == 4_095);
+    ask(&rt)
 }
 
 // A settled set has room for all blocks, and keeps it.
@@ -293,7 +310,7 @@ fn settled_sets(rt: HostRuntime) -> Result<(), Fail> {
         return Err(AllocError.into());
     };
     ask(&rt)?;
-    assert_takes_all_blocks(&rt, &mut set);
+    assert!(rt; adds_blocks(&mut set, 0, 4_096));
     assert!(rt; set.remove(7) && set.drain().count() == 4_096);
     set.clear();
     assert!(rt; set.add(16_777_215) == Ok(false));
@@ -407,6 +424,33 @@ fn worlds(rt: HostRuntime) -> Result<(), Fail> {
     if world.is_at_rest() {
         assert!(rt; has_exactly(&world.settle(), &[7, 8]));
     }
+    ask(&rt)
+}
+
+// Lets a walk read so many words, and returns whether no allocation failed.
+fn reads(world: &mut World, count: u32) -> bool {
+    for _ in 0..count {
+        if world.apply(Event::Read { walk: 1 }).is_err() {
+            return false;
+        }
+    }
+    true
+}
+
+// Behind the upper layers, each second read gives an item. After 2,100 reads there is capacity for 4,096 events and
+// 2,048 items.
+#[test]
+fn worlds_with_room_of_reads(rt: HostRuntime) -> Result<(), Fail> {
+    let mut set = AtomicBitSet::new(rt.alloc())?;
+    if !adds_blocks(&mut set, 0, 2_100) {
+        return Err(AllocError.into());
+    }
+    let mut world = World::new(rt.alloc(), set);
+    if world.apply(Event::Open { walk: 1 }).is_err() || !reads(&mut world, 2_100) {
+        return Err(AllocError.into());
+    }
+    ask(&rt)?;
+    assert!(rt; reads(&mut world, 1_800));
     ask(&rt)
 }
 

@@ -8,7 +8,7 @@ use hibitset_roaring::{
 };
 use hibitset_testing::sets::set_of;
 use std::alloc::{AllocError, Global};
-use std::io::ErrorKind;
+use std::io::{self, ErrorKind, Read};
 use std::test::Fail;
 
 // The stream of {5, 70000}.
@@ -41,6 +41,33 @@ fn lacks_memory<T>(made: &Result<T, ReadFromError>) -> bool {
 fn read_from_a_reader(rt: HostRuntime) -> Result<(), Fail> {
     let made = tried!(&rt, read_from(rt.alloc(), &mut STREAM.as_slice(), 2));
     assert!(rt; made.is_ok() || lacks_memory(&made));
+    let set = or_again!(made, read_from(rt.alloc(), &mut STREAM.as_slice(), 2));
+    assert_has(&rt, &set, &[5, 70_000]);
+    Ok(())
+}
+
+// Gives its bytes one at a time.
+#[derive(Drop)]
+struct ByteByByte<'a> {
+    bytes: &'a [u8],
+}
+
+impl Read for ByteByByte<'_> {
+    fn read(&mut self, buf: &mut [u8]) -> io::Result<usize> {
+        let count = buf.len().min(1);
+        self.bytes.read(&mut buf[..count])
+    }
+}
+
+// The bytes, whose capacity of 8 and then 16 is doubled by the ninth and the seventeenth, and the rest as above.
+#[test]
+fn read_from_a_slow_reader(rt: HostRuntime) -> Result<(), Fail> {
+    let mut reader = ByteByByte { bytes: &STREAM };
+    let made = tried!(&rt, read_from(rt.alloc(), &mut reader, 2));
+    if made.is_err() {
+        assert!(rt; lacks_memory(&made));
+        assert!(rt; [27, 19, 11, 0].contains(&reader.bytes.len()));
+    }
     let set = or_again!(made, read_from(rt.alloc(), &mut STREAM.as_slice(), 2));
     assert_has(&rt, &set, &[5, 70_000]);
     Ok(())
