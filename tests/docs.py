@@ -16,8 +16,9 @@ Clauses   A table with a column 'clause' names in each cell what carries the row
 Modules   Between <!-- modules --> and <!-- /modules --> a crate's README has what the first sentence of each file says.
           --write writes these tables anew.
 Heads     Each .rt file begins with //!, and each .antt file beside Lib.antt that is of no single function with --.
-Mutants   An edit of must-fail/ or tests/mutants/contract/ can be applied: its old text stands once in its file. A patch of
-          tests/mutants/tests/ can be applied, and the tests that its head names are there.
+Mutants   An edit of must-fail/ or tests/mutants/contract/ can be applied: its old text stands once in its file. The twin
+          NAME_twin that it puts before a function NAME has the clauses of NAME. A patch of tests/mutants/tests/ can be
+          applied, and the tests that its head names are there.
 Results   bench/RESULTS.md says in its first line which commit was measured.
 
 It prints a line for each fault, with page and line, and ends with status 1 where there is one.
@@ -500,11 +501,16 @@ def headless():
             yield path, "does not begin with --"
 
 
+def edits():
+    """Each edit, and the folder of its crate."""
+    found = [(path, path.parent.parent) for path in CRATES.glob("*/must-fail/*.edit")]
+    found += [(path, CRATES / path.parent.name) for path in TOP.glob("tests/mutants/contract/*/*.edit")]
+    return sorted(found)
+
+
 def wrong_edits():
     """The edits that cannot be applied: each old text stands once in what the earlier pairs made."""
-    edits = [(path, path.parent.parent) for path in CRATES.glob("*/must-fail/*.edit")]
-    edits += [(path, CRATES / path.parent.name) for path in TOP.glob("tests/mutants/contract/*/*.edit")]
-    for path, folder in sorted(edits):
+    for path, folder in edits():
         texts, name, old = {}, "", ""
         for number, line in enumerate(text_of(path).splitlines(), 1):
             word, _, said = line.partition(": ")
@@ -518,6 +524,23 @@ def wrong_edits():
                     break
             elif word == "new":
                 texts[name] = texts[name].replace(old, said)
+
+
+def wrong_twins():
+    """The twins whose clauses are not those of the function."""
+    for path, folder in edits():
+        name, old = "", ""
+        for number, line in enumerate(text_of(path).splitlines(), 1):
+            word, _, said = line.partition(": ")
+            if word == "file":
+                name = said
+            elif word == "old":
+                old = said
+            elif word == "new" and (twin := re.search(r"\bfn (\w+)_twin\b", said)) and f"fn {twin[1]}" in old:
+                lines = text_of(folder / name).splitlines()
+                head = head_of(lines, next(place for place, source in enumerate(lines) if old in source))
+                if clauses_of(head) != clauses_of(said[twin.start() :]):
+                    yield path, number, f"its twin does not have the clauses of {twin[1]}"
 
 
 def has_test(name, test):
@@ -564,6 +587,7 @@ def faults():
         yield from ((CRATES / name / "README.md", 1, words) for words in unnamed_functions(name))
     yield from ((path, 1, words) for path, words in headless())
     yield from wrong_edits()
+    yield from wrong_twins()
     yield from wrong_patches()
     yield from wrong_results()
 
