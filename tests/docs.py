@@ -508,39 +508,44 @@ def edits():
     return sorted(found)
 
 
+def pairs_of(path):
+    """Each pair of an edit: the line of its new text, its file, its old text and its new one."""
+    name = old = ""
+    for number, line in enumerate(text_of(path).splitlines(), 1):
+        word, _, said = line.partition(": ")
+        if word == "file":
+            name = said
+        elif word == "old":
+            old = said
+        elif word == "new":
+            yield number, name, old, said
+
+
 def wrong_edits():
     """The edits that cannot be applied: each old text stands once in what the earlier pairs made."""
     for path, folder in edits():
-        texts, name, old = {}, "", ""
-        for number, line in enumerate(text_of(path).splitlines(), 1):
-            word, _, said = line.partition(": ")
-            if word == "file":
-                name = said
-                texts.setdefault(name, text_of(folder / name) if (folder / name).is_file() else "")
-            elif word == "old":
-                old, count = said, texts.get(name, "").count(said)
-                if count != 1:
-                    yield path, number, f"the old text stands {count} times in {name or 'no file'}"
-                    break
-            elif word == "new":
-                texts[name] = texts[name].replace(old, said)
+        texts = {}
+        for number, name, old, new in pairs_of(path):
+            if name not in texts:
+                texts[name] = text_of(folder / name) if (folder / name).is_file() else ""
+            count = texts[name].count(old)
+            if count != 1:
+                yield path, number - 1, f"the old text stands {count} times in {name or 'no file'}"
+                break
+            texts[name] = texts[name].replace(old, new)
 
 
 def wrong_twins():
-    """The twins whose clauses are not those of the function."""
+    """The twins whose clauses are not those of the function that they are named after."""
     for path, folder in edits():
-        name, old = "", ""
-        for number, line in enumerate(text_of(path).splitlines(), 1):
-            word, _, said = line.partition(": ")
-            if word == "file":
-                name = said
-            elif word == "old":
-                old = said
-            elif word == "new" and (twin := re.search(r"\bfn (\w+)_twin\b", said)) and f"fn {twin[1]}" in old:
-                lines = text_of(folder / name).splitlines()
-                head = head_of(lines, next(place for place, source in enumerate(lines) if old in source))
-                if clauses_of(head) != clauses_of(said[twin.start() :]):
-                    yield path, number, f"its twin does not have the clauses of {twin[1]}"
+        for number, name, old, new in pairs_of(path):
+            twin = re.search(r"\bfn (\w+)_twin\b", new)
+            if not twin or not re.search(rf"\bfn {twin[1]}\b", old):
+                continue
+            lines = text_of(folder / name).splitlines()
+            heads = [head_of(lines, at) for at, line in enumerate(lines) if old in line]
+            if [clauses_of(head) for head in heads] != [clauses_of(new[twin.start() :])]:
+                yield path, number, f"its twin does not have the clauses of {twin[1]}"
 
 
 def has_test(name, test):

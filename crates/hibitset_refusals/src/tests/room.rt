@@ -427,7 +427,7 @@ fn worlds(rt: HostRuntime) -> Result<(), Fail> {
     ask(&rt)
 }
 
-// Lets a walk read so many words, and returns whether no allocation failed.
+// Lets a walk read `count` words, and returns whether no allocation failed.
 fn reads(world: &mut World, count: u32) -> bool {
     for _ in 0..count {
         if world.apply(Event::Read { walk: 1 }).is_err() {
