@@ -1,7 +1,6 @@
 pub mod Budget
 pub mod Filter
 pub mod Ids
-pub mod Lists
 pub mod Results
 pub mod Pages
 pub mod Ready

@@ -58,8 +58,8 @@ fn listing_cost(members: usize) -> usize {
 }
 
 /// What a call has to do at each word of layer 0 with all bits set, and at each of the others, at each of their
-/// members, and for each unit of what it takes to list them; and from how much of it on threads save more than it takes
-/// to start them.
+/// members, and for each unit of what it takes to list them; from how much of it on threads save more than it takes to
+/// start them; and how many members take a hundred times as long as cutting a part does.
 #[derive(Clone, Copy)]
 pub(super) struct CostModel {
     full: usize,
@@ -67,6 +67,7 @@ pub(super) struct CostModel {
     member: usize,
     listing: usize,
     worth: usize,
+    members_per_part: usize,
 }
 
 // To count is to look at words, many of them in a row.
@@ -76,6 +77,7 @@ pub(super) const COUNT_COST: CostModel = CostModel {
     member: 0,
     listing: 0,
     worth: 700_000,
+    members_per_part: 1 << 20,
 };
 
 // To collect is to write down each member.
@@ -85,6 +87,7 @@ pub(super) const COLLECT_COST: CostModel = CostModel {
     member: 0,
     listing: 1,
     worth: 500_000,
+    members_per_part: 1 << 16,
 };
 
 // Where a word may take long, threads save time wherever they don't take longer to start than to go over the members.
@@ -94,6 +97,7 @@ pub(super) const READ_COST: CostModel = CostModel {
     member: 1,
     listing: 0,
     worth: 100_000,
+    members_per_part: 1 << 15,
 };
 
 // What a closure does may take any time.
@@ -103,6 +107,7 @@ pub(super) const CALL_COST: CostModel = CostModel {
     member: 0,
     listing: 0,
     worth: 0,
+    members_per_part: 1 << 15,
 };
 
 // What it takes to count.
@@ -149,6 +154,21 @@ pub(super) fn exceeds_cost(size: Estimate, work: CostModel) -> bool {
         .saturating_add(members)
         .saturating_add(listing)
         >= work.worth
+}
+
+// How many parts a walk is cut into, at most, unless it is large. Each costs the thread that cuts them some hundred
+// nanoseconds.
+const USUAL_PARTS: usize = 512;
+
+// How many there are at most.
+const MAX_PARTS: usize = 4_096;
+
+/// Into how many parts a walk over the set is cut at most: more than the usual number where the set is so large that
+/// cutting them takes less than a hundredth of the walk.
+pub(super) fn max_parts<T: BitSetLike>(set: &T, work: CostModel) -> usize {
+    let most = work.members_per_part.saturating_mul(MAX_PARTS);
+    let size = estimate_set(set, CALL_COST, most);
+    (size.members() / work.members_per_part.max(1)).clamp(USUAL_PARTS, MAX_PARTS)
 }
 
 // The size of both.
