@@ -6,3 +6,4 @@ pub mod Pages
 pub mod Ready
 pub mod Weights
 pub mod Workers
+pub mod Nested

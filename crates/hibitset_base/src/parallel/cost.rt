@@ -14,13 +14,15 @@ use std::cmp::min;
 use std::thread::Threads;
 
 /// An estimate: `full` words of layer 0, other nonzero `words`, their `members`, and the cost of listing those
-/// (`listing`).
+/// (`listing`), under the `seen` bits of the top word, of which others are `left`.
 #[derive(Clone, Copy)]
 pub(super) struct Estimate {
     full: usize,
     words: usize,
     members: usize,
     listing: usize,
+    seen: usize,
+    left: usize,
 }
 
 // How many members a word has at least, all in all, where a fold gains by going over whole words.
@@ -30,6 +32,12 @@ impl Estimate {
     // About how many members there are.
     fn members(self) -> usize {
         self.full.saturating_mul(64).saturating_add(self.members)
+    }
+
+    // About how many there are in all, as if there were as many under each bit of the top word.
+    fn members_in_all(self) -> usize {
+        let bits = self.seen.saturating_add(self.left);
+        self.members().saturating_mul(bits) / self.seen.max(1)
     }
 
     // Returns whether a fold gains nothing by going over whole words.
@@ -43,6 +51,8 @@ const EMPTY: Estimate = Estimate {
     words: 0,
     members: 0,
     listing: 0,
+    seen: 0,
+    left: 0,
 };
 
 // How many members of a word count where it is listed. The others are written beside these.
@@ -163,12 +173,10 @@ const USUAL_PARTS: usize = 512;
 // How many there are at most.
 const MAX_PARTS: usize = 4_096;
 
-/// Into how many parts a walk over the set is cut at most: more than the usual number where the set is so large that
-/// cutting them takes less than a hundredth of the walk.
-pub(super) fn max_parts<T: BitSetLike>(set: &T, work: CostModel) -> usize {
-    let most = work.members_per_part.saturating_mul(MAX_PARTS);
-    let size = estimate_set(set, CALL_COST, most);
-    (size.members() / work.members_per_part.max(1)).clamp(USUAL_PARTS, MAX_PARTS)
+/// Into how many parts a walk over a set of this size is cut at most: more than the usual number where the set is so
+/// large that cutting them takes less than a hundredth of the walk.
+pub(super) fn max_parts(size: Estimate, work: CostModel) -> usize {
+    (size.members_in_all() / work.members_per_part.max(1)).clamp(USUAL_PARTS, MAX_PARTS)
 }
 
 // The size of both.
@@ -178,6 +186,8 @@ fn sum_of_estimates(size: Estimate, other: Estimate) -> Estimate {
         words: size.words.saturating_add(other.words),
         members: size.members.saturating_add(other.members),
         listing: size.listing.saturating_add(other.listing),
+        seen: size.seen.saturating_add(other.seen),
+        left: size.left.saturating_add(other.left),
     }
 }
 
@@ -189,7 +199,9 @@ pub(super) fn estimate_set<T: BitSetLike>(set: &T, work: CostModel, least: usize
     'bits: while left != 0 && !is_enough(size, work, least) {
         let position = take_bit(&mut left);
         size = sum_of_estimates(size, estimate_below(set, position));
+        size.seen = size.seen.saturating_add(1);
     }
+    size.left = left.count_ones() as usize;
     size
 }
 
@@ -225,9 +237,9 @@ fn estimate_subtree<T: BitSetLike>(set: &T, position: usize) -> Estimate {
     }
     let members = word.count_ones() as usize;
     Estimate {
-        full: 0,
         words,
         members: words.saturating_mul(members),
         listing: words.saturating_mul(listing_cost(members)),
+        ..EMPTY
     }
 }

@@ -6,6 +6,7 @@ use hibitset::{AtomicBitSet, BitSet, BitSetLike, BuildError, Event, Reply, World
 use std::test::Fail;
 use uses::budget::{halves, in_both, in_both_from};
 use uses::lists::{add_all, set_of, set_of_range};
+use uses::nested::chosen;
 use uses::ready::Ready;
 use uses::room::{add_beside, saved, with_one_more};
 use uses::weights::{weight_here, weight_of_both};
@@ -44,6 +45,20 @@ fn what_both_have_below_an_end(rt: HostRuntime) -> Result<(), Fail> {
     assert_eq!(rt;
         (walk.next(), walk.next(), walk.next()),
         (Some(64), Some(70), None)
+    );
+    Ok(())
+}
+
+#[test]
+fn what_three_have_and_a_fourth_has_not(rt: HostRuntime) -> Result<(), Fail> {
+    let a = set_of(rt.alloc(), &[3, 70, 5_000, 300_000])?;
+    let b = set_of(rt.alloc(), &[70, 71, 5_000, 300_000])?;
+    let hidden = set_of(rt.alloc(), &[71, 5_000])?;
+    let ready = set_of(rt.alloc(), &[3, 70, 5_000, 300_000])?;
+    let mut walk = chosen(&a, &b, &hidden, &ready);
+    assert_eq!(rt;
+        (walk.next(), walk.next(), walk.next()),
+        (Some(70), Some(300_000), None)
     );
     Ok(())
 }
