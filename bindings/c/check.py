@@ -107,7 +107,7 @@ def placed(sizes):
 
 def c_fields(name, header):
     """The fields of a struct of the header, in the same form."""
-    body = re.search(rf"typedef struct {name} \{{\n(.*?)^\}} {name}_t;", header, re.M | re.S)[1]
+    body = re.search(rf"typedef struct {name}_t \{{\n(.*?)^\}} {name}_t;", header, re.M | re.S)[1]
     layers = re.search(r"struct \{\s*const uint64_t \*words;\s*size_t len;\s*\} layers_\[4\];", body)
     rest = re.findall(r"^    (uint64_t |const void \*|bool )\w+;", body[layers.end() if layers else 0 :], re.M)
     return placed(([8, 8] * 4 if layers else []) + [{"uint64_t ": 8, "const void *": 8, "bool ": 1}[kind] for kind in rest])

@@ -150,7 +150,7 @@ static inline const char *hibitset_fault_text(hibitset_fault fault) {
 /* ---- Life of a set ---- */
 
 /* A set. Its fields are the library's. */
-typedef struct hibitset {
+typedef struct hibitset_t {
     struct {
         const uint64_t *words;
         size_t len;
@@ -381,7 +381,7 @@ size_t hibitset_andnot_next_many(const hibitset_t *a, const hibitset_t *b, uint3
 /* ---- Atomic sets ---- */
 
 /* A set of indices below HIBITSET_ATOMIC_MAX_EID that can be shared by threads. Its fields are the library's. */
-typedef struct hibitset_atomic {
+typedef struct hibitset_atomic_t {
     const void *set_;
     bool made_;
 } hibitset_atomic_t;
@@ -390,7 +390,7 @@ typedef struct hibitset_atomic {
 #define HIBITSET_ATOMIC_INIT {&hibitset_abi_0, false}
 
 /* A seat of a shared set: what one thread adds and looks with. Its fields are the library's. */
-typedef struct hibitset_seat {
+typedef struct hibitset_seat_t {
     const void *seat_;
     bool made_;
 } hibitset_seat_t;
