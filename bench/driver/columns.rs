@@ -1,10 +1,10 @@
 //! Columns of values by index, and joins of two, beside the original's set with a flat vector and std's map.
 use std::collections::{HashMap, HashSet};
 
-use crate::harness::{timed, Bench, Both, Numbers, Row};
+use crate::harness::{timed, Bench, Both, Numbers, Row, SMALLER};
 use crate::{on_copy, original, ours};
 
-const KEYS: usize = 100_000;
+const KEYS: usize = 100_000 >> SMALLER;
 
 macro_rules! both {
     ($ours:ident, $original:ident, $($list:expr),*) => {

@@ -14,6 +14,9 @@ use crate::callgrind::counted;
 /// How many turns are counted, beyond the first: an even number, since each second turn of some kernels undoes the first.
 const TURNS: usize = 2;
 
+/// By how many bits sizes are cut where each row is only tried.
+pub const SMALLER: u32 = if cfg!(smallest) { 8 } else { 0 };
+
 /// Whether instructions are counted, and nothing is timed.
 pub fn counts() -> bool {
     std::env::args().nth(1).as_deref() == Some("count")

@@ -98,7 +98,7 @@ static hibitset_seat_t no_seat(int way) {
     return way == 0 ? hibitset_seat_new() : way == 1 ? init : zero;
 }
 
-static void ends_of_the_range(int way) {
+static void check_ends(int way) {
     hibitset_atomic_t set = empty_set(way);
     uint32_t index = 7, buffer[4];
     long before = allocations;
@@ -117,6 +117,11 @@ static void ends_of_the_range(int way) {
     hibitset_atomic_free(&set);
 }
 
+static void ends_of_the_range(void) {
+    int way;
+    for (way = 0; way < WAYS; way++) check_ends(way);
+}
+
 /* ---- A shared set on one thread ---- */
 
 static hibitset_seat_t shared(const uint32_t *old, size_t len) {
@@ -129,7 +134,7 @@ static hibitset_seat_t shared(const uint32_t *old, size_t len) {
     return seat;
 }
 
-static void without_a_seat(int way) {
+static void check_no_seat(int way) {
     hibitset_seat_t seat = no_seat(way), other = no_seat(way);
     hibitset_atomic_t alone = empty_set(way);
     hibitset_t set = hibitset_new();
@@ -145,6 +150,11 @@ static void without_a_seat(int way) {
     hibitset_seat_free(&other);
     CHECK(hibitset_seat_settle(&seat, &alone) == HIBITSET_OK && hibitset_atomic_is_empty(&alone));
     hibitset_atomic_free(&alone);
+}
+
+static void without_a_seat(void) {
+    int way;
+    for (way = 0; way < WAYS; way++) check_no_seat(way);
 }
 
 static void on_one_thread(void) {
@@ -346,12 +356,9 @@ static void many_adders(void) {
 }
 
 int main(void) {
-    int way;
     random_changes();
-    for (way = 0; way < WAYS; way++) {
-        ends_of_the_range(way);
-        without_a_seat(way);
-    }
+    ends_of_the_range();
+    without_a_seat();
     on_one_thread();
     shares();
     failing_additions();
