@@ -270,14 +270,15 @@ impl SharedBitSet {
         }
     }
 
-    /// The set held alone again, with exact summaries. It has exactly the indices from before `share` and those that
-    /// some seat of the set reported, this one or another: each that this seat knows or reported is one of them, and
-    /// with a whole seat there are no reports but its own.
+    /// The set held alone again, with exact summaries. It has each index from before `share`, and each that this seat
+    /// knows or reported; with a whole seat, no others.
     ///
-    /// There is room for all its blocks, so no `add` to it needs memory.
+    /// A seat that was dropped took its shares with it, so no seat is whole after that. With a seat that is not whole
+    /// the members are those of some state of all seats that the rule admits beside this one (`all`). That these are
+    /// what the other seats did report is tested, and in no clause.
     ///
-    /// It is refused for memory alone, which it takes first: then both come back unchanged, and it can be called again.
-    /// A seat that was dropped took its shares with it, so no seat is whole after that.
+    /// There is room for all its blocks, so no `add` to it allocates. It allocates before it changes anything: if that
+    /// fails, both come back unchanged, and it can be called again.
     #[tactic(auto, unfolding(crate::specs::Seats::BelongsTo, crate::specs::Seats::IsKnown, crate::specs::Seats::IsOld, crate::specs::Seats::weight_of, crate::specs::Seats::reports_of, crate::specs::Seats::loads_by, crate::specs::Seats::exchanges_by, crate::specs::Seats::HasAllReports, crate::specs::AtomicBitSet::has, crate::specs::AtomicBitSet::word_of, crate::specs::AtomicBitSet::AllBlocksReserved))]
     pub fn settle(self, seat: Seat) -> Result<AtomicBitSet, (SharedBitSet, Seat)>
         requires { BelongsTo self seat }

@@ -24,8 +24,8 @@ pub goes_both : {T : Type 0} (word : T → ℕ → ℕ → ℕ) (old between new
 goes_both word old between new first second = (omega (arith, first.0, second.0), second.1 ∙ first.1)
 
 -- words within those of a set stay so where bits are taken out
-pub encloses-and : {n : ℕ} {p : ℕ → Bool} {a v : ℕ → ℕ → ℕ} (w : ℕ → ℕ → ℕ) → CoversWords n p a v → CoversWords n p a (λ l q. bit_and (v l q) (w l q))
-encloses-and {v = v} w e = record {
+pub covers-and : {n : ℕ} {p : ℕ → Bool} {a v : ℕ → ℕ → ℕ} (w : ℕ → ℕ → ℕ) → CoversWords n p a v → CoversWords n p a (λ l q. bit_and (v l q) (w l q))
+covers-and {v = v} w e = record {
   lawful = e.lawful;
   exact = e.exact;
   words = e.words;
@@ -33,8 +33,8 @@ encloses-and {v = v} w e = record {
 }
 
 -- a set's own words are within it
-pub encloses-itself : {n : ℕ} {p : ℕ → Bool} {a v : ℕ → ℕ → ℕ} → CoversWords n p a v → CoversWords n p a a
-encloses-itself e = record { lawful = e.lawful; exact = e.exact; words = e.words; inside = λ l q b on. on }
+pub covers-itself : {n : ℕ} {p : ℕ → Bool} {a v : ℕ → ℕ → ℕ} → CoversWords n p a v → CoversWords n p a a
+covers-itself e = record { lawful = e.lawful; exact = e.exact; words = e.words; inside = λ l q b on. on }
 
 -- a set with the indices that have a value has as many members as there are keys
 keys-members : {V : Type 0} (m : Map V) (holds : ℕ → Bool) → ((i : ℕ) → holds i ≡ is_some (m i)) → members_below MAX_EID holds ≡ keys_of m
