@@ -487,11 +487,11 @@ fn main() {
     sparse_sets(&mut bench, &(0..8).map(|seed| Numbers(seed).one_in(10_000, end)).collect::<Vec<_>>());
     firsts(&mut bench, &[&dense, &ten, &one], &random);
     orders(&mut bench, &[&dense, &half, &ten, &one, &few]);
-    bench.part("walks of two sets (ns per member of both)");
+    bench.part("walks of two sets (ns per member of either set)");
     for (a, b, aim) in [(&half, &other_half, 0.6), (&ten, &other_ten, 0.6), (&one, &other_one, 0.6), (&few, &ten, 0.6), (&clusters, &one, 0.6)] {
         pair_walks(&mut bench, a, b, aim);
     }
-    bench.part("the size of two sets together (ns per member of both)");
+    bench.part("the size of two sets together (ns per member of either set)");
     for (a, b) in [(&half, &other_half), (&ten, &other_ten), (&one, &other_one)] {
         let (x, y) = (&a.ids[..], &b.ids[..]);
         let mut row = Row::new(format!("len of a & b, {} and {}", a.name, b.name), a.len() + b.len(), 0.6, both!(and_len, x, y));
@@ -507,7 +507,7 @@ fn main() {
         peer!(row, roaring, "CRoaring", || timed(|| sample.peers.roaring.complement(END as u64).sum()));
         bench.run(row);
     }
-    bench.part("assignments (ns per member of both)");
+    bench.part("assignments (ns per member of either set)");
     let dense_aims = [0.3, 0.6, 0.3];
     for (a, b, aims) in [
         (&half, &other_half, dense_aims),
