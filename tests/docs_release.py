@@ -1,6 +1,7 @@
 """docs_release.py: what docs.py checks of a release: versions, the C header, toolchains, packages, and README's tables of speed.
 
-Versions   The version in VERSION is that of the header, of rust/Cargo.toml if it is there, and of a heading of CHANGELOG.md.
+Versions   The version in VERSION is that of the header, of rust/Cargo.toml if it is there, of README, and of a heading of
+           CHANGELOG.md.
 Header     bindings/c/check.py finds no fault.
 Toolchains README names each toolchain of .ci/kit, and its logic.
 Packages   The Dockerfile installs what .ci/packages lists. That has a package for each command that tests/bindings.sh asks for.
@@ -30,6 +31,8 @@ def wrong_versions(text=text_of):
         yield "rust/Cargo.toml", f"has another version than {version}"
     if f"\n## [{version}] - " not in text("CHANGELOG.md"):
         yield "CHANGELOG.md", f"has no heading for {version}"
+    if f"This is version {version}." not in text("README.md"):
+        yield "README.md", f"does not say that this is version {version}"
 
 
 def wrong_header():

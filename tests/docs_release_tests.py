@@ -30,9 +30,10 @@ class Faults(unittest.TestCase):
         version = docs_release.text_of("VERSION").strip()
         self.finds(docs_release.wrong_versions, "CHANGELOG.md", f"## [{version}]", "## [9.9.9]", "no heading for")
         self.finds(docs_release.wrong_versions, "VERSION", version, "9.9", "is no version")
+        self.finds(docs_release.wrong_versions, "README.md", f"version {version}.", "version 9.9.9.", "does not say that")
 
     def test_cargo_version(self):
-        texts = {"VERSION": "0.1.0\n", "CHANGELOG.md": "\n## [0.1.0] - x\n", "rust/Cargo.toml": '[package]\nversion = "0.6.3"\n'}
+        texts = {"VERSION": "0.1.0\n", "CHANGELOG.md": "\n## [0.1.0] - x\n", "README.md": "This is version 0.1.0.", "rust/Cargo.toml": '[package]\nversion = "0.6.3"\n'}
         self.assertEqual(list(docs_release.wrong_versions(texts.get)), [("rust/Cargo.toml", "has another version than 0.1.0")])
         texts["rust/Cargo.toml"] = '[package]\nversion = "0.1.0"\n'
         self.assertEqual(list(docs_release.wrong_versions(texts.get)), [])
