@@ -6,9 +6,14 @@ log=$1
 shift
 pace=${SECONDS_A_LINE:-30}
 
-# What the last line of the output that counts functions says: the crate, if it names one, and how many of how many.
+# The crate that is proved, and how many of its functions are.
 how_far() {
-    sed -n 's/^checked \([a-z_]*\)::.*, \([0-9]* of [0-9]*\)$/\1: \2 functions/p; s/^so far: \([0-9]* of [0-9]* functions\).*/\1/p' "$log" | tail -n 1
+    awk '
+        /^rt: chose --jobs .* for / { crate = $NF; said = crate }
+        /^so far: / { said = crate ": " $3 " of " $5 " functions" }
+        /^checked / { split($2, path, "::"); said = path[1] ": " $(NF - 2) " of " $NF " functions" }
+        END { if (said) print ": " said }
+    ' "$log"
 }
 
 echo "hibitset: proves the library; the output goes to $log"
@@ -20,7 +25,7 @@ while kill -0 "$command" 2>/dev/null; do
     sleep 1
     seconds=$((seconds + 1))
     if [ $((seconds % pace)) = 0 ]; then
-        echo "hibitset: proves, $((seconds / 60)) min $((seconds % 60)) s: $(how_far)"
+        echo "hibitset: proves, $((seconds / 60)) min $((seconds % 60)) s$(how_far)"
     fi
 done
 wait "$command"
