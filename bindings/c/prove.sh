@@ -10,7 +10,7 @@ pace=${SECONDS_A_LINE:-30}
 how_far() {
     awk '
         /^rt: chose --jobs .* for / { crate = $NF; said = crate }
-        /^so far: / { said = crate ": " $3 " of " $5 " functions" }
+        /^so far: / { said = (crate ? crate ": " : "") $3 " of " $5 " functions" }
         /^checked / { split($2, path, "::"); said = path[1] ": " $(NF - 2) " of " $NF " functions" }
         END { if (said) print ": " said }
     ' "$log"
