@@ -24,4 +24,3 @@ table threads.sh "$original"
 table bindings.sh "$original" "$repeats" "$milliseconds"
 table roaring.sh "$repeats" "$milliseconds"
 "$here/../tests/docs.py" --write
-python3 "$here/../docs/pictures/draw.py"

@@ -6,14 +6,19 @@ Header     bindings/c/check.py finds no fault.
 Toolchains README names each toolchain of .ci/kit, and its logic.
 Packages   The Dockerfile installs what .ci/packages lists. That has a package for each command that tests/bindings.sh asks for.
 Speed      README's tables between <!-- speed --> and <!-- slower --> and their ends are those that bench/RESULTS.md gives.
-           Each row that is slower than the original is in one of them. docs.py --write writes them anew.
+           Each row that is slower than the original is in one of them.
+Pictures   Those of docs/pictures are what draw.py draws. docs.py --write makes tables and pictures anew.
 """
 import re
 import subprocess
 import sys
+import tempfile
 from pathlib import Path
 
 TOP = Path(__file__).resolve().parent.parent
+sys.path.insert(0, str(TOP / "bench"))
+
+from results import head_of, ratio_of, rows_of  # noqa: E402 (its folder is named above)
 
 
 def text_of(name):
@@ -126,53 +131,26 @@ SLOWER_TABLES = ("results", "order", "shared")
 SLOWER_FROM = 1.1
 
 
-def cells_of(line):
-    return [cell.strip() for cell in re.split(r"(?<!\\)\|", line.strip())[1:-1]]
-
-
-def rows_of(table, results):
-    """The rows of a table of RESULTS.md: each as its name, its unit and its cells by their columns."""
-    block = re.search(rf"^<!-- {table} -->\n(.*?)^<!-- end of {table} -->$", results, re.M | re.S)
-    columns, unit = [], ""
-    for line in block[1].splitlines() if block else []:
-        cells = cells_of(line) if line.startswith("|") else []
-        if "ours" in cells:
-            columns = cells
-        elif cells and (heading := re.fullmatch(r"\*\*.*\(ns per (.*)\)\*\*", cells[0])):
-            unit = heading[1]
-        elif cells and not cells[0].startswith(("**", "--")):
-            yield cells[0], unit, dict(zip(columns[1:], cells[1:]))
-
-
-def head_of(table, results):
-    """When, where and at which commit a table was measured."""
-    block = re.search(rf"^<!-- {table} -->\n+(.*)$", results, re.M)
-    day, machine, *rest = block[1].split("; ")
-    return day, machine, next(part for part in rest if part.startswith("commit "))
-
-
 def with_commas(number):
     return f"{int(number):,}" if re.fullmatch(r"\d{4,}", number) else number
 
 
 def speed(results):
     """README's table of speed."""
-    rows = {name: (unit, cells) for name, unit, cells in rows_of("results", results)}
+    rows = {row.name: row for row in rows_of("results", results)}
     day, machine, commit = head_of("results", results)
     lines = [f"Nanoseconds at {commit}, {day}, {machine}; `-` is not measured.", ""]
     lines += ["|  | per | " + " | ".join(shown for shown, _ in COLUMNS) + " |", "|---|---|" + "---:|" * len(COLUMNS)]
     for shown, name in SPEED:
-        unit, cells = rows[name]
-        lines.append(f"| {shown} | {unit} | " + " | ".join(with_commas(cells[column]) for _, column in COLUMNS) + " |")
+        row = rows[name]
+        lines.append(f"| {shown} | {row.unit} | " + " | ".join(with_commas(row.cells[column]) for _, column in COLUMNS) + " |")
     return "\n".join(lines) + "\n"
 
 
 def ratios(results):
-    """The rows that have a ratio, of all tables in one thread, each once."""
+    """The names and ratios of the rows that have one, of the tables that README's is made of."""
     for table in SLOWER_TABLES:
-        for name, _, cells in rows_of(table, results):
-            if found := re.match(r"[\d.]+", cells.get("ratio", "")):
-                yield name, float(found[0])
+        yield from ((row.name, ratio_of(row)) for row in rows_of(table, results) if ratio_of(row) is not None)
 
 
 def slower(results):
@@ -216,15 +194,26 @@ def wrong_tables(text=text_of):
     yield from unlisted(results)
 
 
+def wrong_pictures(text=text_of):
+    """The pictures of docs/pictures that draw.py draws otherwise."""
+    with tempfile.TemporaryDirectory() as folder:
+        subprocess.run([sys.executable, TOP / "docs/pictures/draw.py", folder], check=True)
+        for drawn in sorted(Path(folder).iterdir()):
+            name = f"docs/pictures/{drawn.name}"
+            if drawn.read_text(encoding="utf-8") != text(name):
+                yield name, "is not what draw.py draws (docs.py --write)"
+
+
 def write_tables():
     page = text_of("README.md")
     new = with_tables(page, text_of("bench/RESULTS.md"))
     if new != page:
         (TOP / "README.md").write_text(new, encoding="utf-8")
         print("docs.py: README.md: its tables of speed are written anew")
+    subprocess.run([sys.executable, TOP / "docs/pictures/draw.py"], check=True)
 
 
 def faults():
     """All that is wrong, each as page, line and words."""
-    for found in (wrong_versions, wrong_header, wrong_kits, wrong_packages, wrong_tables):
+    for found in (wrong_versions, wrong_header, wrong_kits, wrong_packages, wrong_tables, wrong_pictures):
         yield from ((TOP / page, 1, words) for page, words in found())

@@ -54,6 +54,9 @@ class Faults(unittest.TestCase):
         self.finds(docs_release.wrong_tables, "README.md", "<!-- slower -->", "", "no table between")
         self.finds(docs_release.wrong_tables, "bench/RESULTS.md", "| walk, dense, 1M of 1M | 0.76", "| walk, dense, 1M of 1M | 0.77", "not those of")
 
+    def test_pictures(self):
+        self.finds(docs_release.wrong_pictures, "docs/pictures/ratios.svg", "<circle", "<circles", "is not what draw.py draws")
+
     def test_a_slower_row(self):
         results = docs_release.text_of("bench/RESULTS.md").replace("| 0.25 | 0.40 |", "| 1.25 * | 0.40 |", 1)
         said = [words for _, words in docs_release.unlisted(results)]
