@@ -1,8 +1,13 @@
 #!/usr/bin/env python3
-"""docs_release_tests.py: tests of docs_release.py: each check passes on the repository, and finds a fault that is put into a file."""
+"""docs_release_tests.py: tests of docs_release.py and of bindings/c/check.py: each check passes on the repository, and finds a fault that is put into a file."""
+import sys
 import unittest
 
 import docs_release
+
+sys.path.insert(0, str(docs_release.TOP / "bindings/c"))
+
+import check  # noqa: E402 (its folder is named above)
 
 
 def changed(name, old, new):
@@ -68,6 +73,35 @@ class Faults(unittest.TestCase):
         self.assertEqual(docs_release.speed(results), docs_release.speed(docs_release.text_of("bench/RESULTS.md")))
         with self.assertRaises(KeyError):
             docs_release.speed(results.replace("| contains, hit |", "| contains something |"))
+
+
+class Header(unittest.TestCase):
+    HEADER = docs_release.text_of("bindings/c/hibitset.h")
+
+    def finds(self, old, new, words):
+        self.assertIn(old, self.HEADER)
+        said = list(check.faults(self.HEADER.replace(old, new, 1)))
+        self.assertTrue(any(words in line for line in said), said)
+
+    def test_functions(self):
+        self.finds("void hibitset_clear(hibitset_t *set);", "", "hibitset_clear: the crate exports")
+        self.finds("hibitset_fault *fault", "uint32_t *fault", "hibitset_roaring_read: the crate exports")
+        self.finds("bool hibitset_contains(", "size_t hibitset_contains(", "hibitset_contains: the crate exports")
+
+    def test_layouts(self):
+        self.finds("    const void *seat_;", "    bool first_;\n    const void *seat_;", "the layouts differ")
+
+    def test_numbers(self):
+        self.finds("HIBITSET_SHARED = 4", "HIBITSET_SHARED = 5", "the numbers of hibitset_status differ")
+
+    def test_versions(self):
+        self.finds("HIBITSET_VERSION_MINOR 1", "HIBITSET_VERSION_MINOR 7", "the header has version")
+        self.finds("const char *hibitset_version(void);", "", "hibitset_version: version.c defines it")
+        self.finds("extern const uint64_t hibitset_abi_0;", "extern const uint64_t hibitset_abi_7;", "hibitset_abi_0: version.c defines it")
+        self.finds("libhibitset.so.0", "libhibitset.so.7", "two numbers of the ABI")
+
+    def test_statuses(self):
+        self.finds("HIBITSET_MUST_USE hibitset_status hibitset_add(", "hibitset_status hibitset_add(", "hibitset_add: is not")
 
 
 if __name__ == "__main__":

@@ -143,7 +143,7 @@ def abi(header):
 def unwarned(header):
     """The functions that return a status which a caller may drop without a warning."""
     text = re.sub(r"/\*.*?\*/", "", header, flags=re.S)
-    for before, name in re.findall(r"^([\w ]*?)hibitset_status (hibitset_\w+)\(", text, re.M):
+    for before, name in sorted(set(re.findall(r"^([\w ]*?)hibitset_status (hibitset_\w+)\(", text, re.M))):
         defined = re.search(rf"^HIBITSET_MUST_USE static inline hibitset_status {name}\(", text, re.M)
         if "HIBITSET_MUST_USE" not in before and not defined:
             yield f"{name}: is not HIBITSET_MUST_USE"
