@@ -11,6 +11,7 @@ ghost use Rattle.std.specs.Slots.{slots_items, slots_len, IsFull};
 ghost use Rattle.std.specs.List.{IsDistinct};
 ghost use Rattle.hibitset_atomic.specs.AtomicBitSet.{has, word_of, AllBlocksReserved};
 ghost use Rattle.hibitset_atomic.specs.Blocks.{HasRoom};
+ghost use Rattle.hibitset_atomic.specs.Levels.{ShareBit};
 ghost use Rattle.hibitset_atomic.specs.Row.{word_in_row};
 ghost use Rattle.hibitset_base.specs.Words.{SummariesExactEverywhere};
 ghost use Rattle.hibitset_atomic.specs.declared.layers.TheConstants.{ATOMIC_LAYERS};
@@ -131,7 +132,9 @@ impl SharedBitSet {
     ///
     /// It reads those four bits first, and where they stand, as for an index that is old or known to the seat, it
     /// writes nothing and returns true. Else it exchanges in layer 0, and above it, from the lowest up, in each layer
-    /// whose bit is still clear: seven loads and four exchanges at most. It does not allocate and waits for nobody.
+    /// whose bit is still clear, so that adders whose indices lie under one word do not contend for it: seven loads and
+    /// four exchanges at most. Where an old or known index has the same bit in some layer, it exchanges in the layers
+    /// below that one alone. It does not allocate and waits for nobody.
     #[inline]
     pub fn add_atomic(&self, seat: &mut Seat, id: Index) -> bool
         requires id { id < ATOMIC_MAX_EID }
@@ -147,6 +150,8 @@ impl SharedBitSet {
         ensures still { IsOld self.now id ⊎ IsKnown seat.old id
             → (loads_by seat.new ≤ loads_by seat.old + ATOMIC_LAYERS)
             × (exchanges_by seat.new ≡ exchanges_by seat.old) }
+        ensures spared { (i layer : ℕ) → IsOld self.now i ⊎ IsKnown seat.old i
+            → ShareBit layer i id → exchanges_by seat.new ≤ exchanges_by seat.old + layer }
     {
         if self.contains(seat, id) {
             return true;
@@ -167,6 +172,8 @@ impl SharedBitSet {
         ensures new { result ≡ false → reports_of seat.new ≡ id ∷ reports_of seat.old }
         ensures loads { loads_by seat.new ≡ loads_by seat.old + (ATOMIC_LAYERS - 1) }
         ensures exchanges { exchanges_by seat.new ≤ exchanges_by seat.old + ATOMIC_LAYERS }
+        ensures spared { (i layer : ℕ) → IsOld self.now i ⊎ IsKnown seat.old i
+            → ShareBit layer i id → exchanges_by seat.new ≤ exchanges_by seat.old + layer }
     {
         let there = self.fetch_or_layer0(&mut seat.pass, id);
         self.set_summary(&mut seat.pass, id, 0);
