@@ -15,9 +15,9 @@ has() { # WHAT COMMAND..: whether all commands are there; else says what is left
     done
 }
 
-if has "everything" make ld objcopy; then
+if has "everything" make ld objcopy cc python3; then
     make -C "$top/bindings/c" all
-    if has "the test of C" cc c++ python3 readelf; then make -C "$top/bindings/c" test; fi
-    if has "the test of what is installed" cc pkg-config readelf; then "$top/tests/installed.sh"; fi
-    if has "the test of Rust" cargo cc; then (cd "$top/bindings/rust" && cargo test --offline --quiet); fi
+    if has "the test of C" c++ readelf; then make -C "$top/bindings/c" test; fi
+    if has "the test of what is installed" pkg-config readelf; then "$top/tests/installed.sh"; fi
+    if has "the test of Rust" cargo; then (cd "$top/bindings/rust" && cargo test --offline --quiet); fi
 fi
