@@ -24,3 +24,8 @@ table threads.sh "$original"
 table bindings.sh "$original" "$repeats" "$milliseconds"
 table roaring.sh "$repeats" "$milliseconds"
 "$here/../tests/docs.py" --write
+commit=$(git -C "$here/.." rev-parse --short=12 HEAD)
+if grep -n "; commit " "$here/RESULTS.md" | grep -v "; commit $commit;"; then
+    echo "all.sh: these tables are of other commits" >&2
+    exit 1
+fi
