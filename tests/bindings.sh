@@ -18,6 +18,6 @@ has() { # WHAT COMMAND..: whether all commands are there; else says what is left
 if has "everything" make ld objcopy cc python3; then
     make -C "$top/bindings/c" all
     if has "the test of C" c++ readelf; then make -C "$top/bindings/c" test; fi
-    if has "the test of what is installed" pkg-config readelf; then "$top/tests/installed.sh"; fi
+    if has "the test of what is installed" c++ pkg-config readelf; then "$top/tests/installed.sh"; fi
     if has "the test of Rust" cargo; then (cd "$top/bindings/rust" && cargo test --offline --quiet); fi
 fi

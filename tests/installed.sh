@@ -35,6 +35,11 @@ by_pkg_config() { # FOLDER
     # shellcheck disable=SC2046
     quietly cc -static "$c/example.c" $(pkg-config --cflags --libs --static hibitset) -o "$scratch/static"
     gives_answers "$scratch/static" "$1" static
+    echo '#include <hibitset.hpp>
+int main() { return hibitset::set{1, 70000}.size() == 2 ? 0 : 1; }' >"$scratch/class.cpp"
+    # shellcheck disable=SC2046
+    quietly c++ -std=c++11 "$scratch/class.cpp" $(pkg-config --cflags --libs hibitset) -o "$scratch/class"
+    LD_LIBRARY_PATH=$1/lib "$scratch/class" || fail "the class has other answers in $1"
 }
 
 by_cmake() { # FOLDER
