@@ -24,6 +24,7 @@ Mutants   An edit of must-fail/ or tests/mutants/contract/ can be applied: its o
           NAME_twin that it puts before a function NAME has the clauses of NAME. A patch of tests/mutants/tests/ can be
           applied, and the tests that its head names are there.
 Results   bench/RESULTS.md says in its first line which commit was measured.
+Release   docs_release.py: versions, the C header, toolchains, packages, and README's tables of speed.
 
 It prints a line for each fault, with page and line, and ends with status 1 where there is one.
 """
@@ -34,6 +35,8 @@ import subprocess
 import sys
 from functools import lru_cache
 from pathlib import Path
+
+import docs_release
 
 TOP = Path(__file__).resolve().parent.parent
 CRATES = TOP / "crates"
@@ -647,13 +650,15 @@ def faults():
     yield from wrong_twins()
     yield from wrong_patches()
     yield from wrong_results()
+    yield from docs_release.faults()
 
 
 def main():
     reader = argparse.ArgumentParser(description="Sees that pages, sources, mutants and tables agree.")
-    reader.add_argument("--write", action="store_true", help="write the tables of modules anew before")
+    reader.add_argument("--write", action="store_true", help="write the generated tables anew before")
     if reader.parse_args().write:
         write_modules()
+        docs_release.write_tables()
     said = [f"{shown(path)}:{line}: {words}" for path, line, words in faults()]
     for line in said:
         print(line)
