@@ -33,11 +33,14 @@ extern crate std;
 #[cfg(not(target_pointer_width = "64"))]
 compile_error!("the words of a set have 64 bits, as `usize` must have: its source is proved for that width alone");
 
+// The derived tests use more of it than the package does.
+#[allow(dead_code, unused_imports)]
 #[macro_use]
 mod support;
 mod beside;
 #[rustfmt::skip]
-#[allow(dead_code, unused_imports, unused_labels, unused_variables, mismatched_lifetime_syntaxes, clippy::all)]
+#[allow(dead_code, unused_imports, unused_labels, unused_variables, mismatched_lifetime_syntaxes, unconditional_panic)]
+#[allow(clippy::all)]
 mod derived;
 mod face;
 
