@@ -5,6 +5,7 @@
 use std::alloc::{GlobalAlloc, Layout, System};
 use std::cell::Cell;
 use std::env;
+use std::panic::{catch_unwind, resume_unwind, AssertUnwindSafe};
 use std::process::Command;
 use std::ptr::null_mut;
 
@@ -338,4 +339,44 @@ fn a_call_without_an_error_ends_the_process() {
             "{call}: {text}"
         );
     }
+}
+
+/// A set whose words of layer 0 can't be read: the panic's own allocation passes, and the next one is refused.
+struct Unreadable<'a>(&'a BitSet);
+
+impl BitSetLike for Unreadable<'_> {
+    fn layer4(&self) -> usize {
+        self.0.layer4()
+    }
+
+    fn layer3(&self, i: usize) -> usize {
+        self.0.layer3(i)
+    }
+
+    fn layer2(&self, i: usize) -> usize {
+        self.0.layer2(i)
+    }
+
+    fn layer1(&self, i: usize) -> usize {
+        self.0.layer1(i)
+    }
+
+    fn layer0(&self, _: usize) -> usize {
+        REFUSED.set(1);
+        resume_unwind(Box::new(()))
+    }
+
+    fn contains(&self, i: Index) -> bool {
+        self.0.contains(i)
+    }
+}
+
+#[test]
+fn a_set_without_memory_to_sum_it_again_is_empty() {
+    let start: BitSet = (0..5_000).collect();
+    let mut set = start.clone();
+    let result = catch_unwind(AssertUnwindSafe(|| set &= &Unreadable(&start)));
+    assert!(result.is_err() && REFUSED.replace(-1) < 0);
+    assert!(set.is_empty() && set == BitSet::new() && set.layer0_as_slice().is_empty());
+    assert!(!set.add(5) && set.to_vec() == [5]);
 }

@@ -3,9 +3,17 @@
 use std::cell::Cell;
 use std::collections::BTreeSet;
 use std::mem;
-use std::panic::{catch_unwind, AssertUnwindSafe};
+use std::panic::{catch_unwind, resume_unwind, AssertUnwindSafe};
 
 use hibitset::{BitSet, BitSetLike, Index};
+
+/// Takes one of the calls that are left, and panics, without a message, if there is none.
+fn take_one(left: &Cell<usize>) {
+    match left.get().checked_sub(1) {
+        Some(rest) => left.set(rest),
+        None => resume_unwind(Box::new(())),
+    }
+}
 
 /// A set that panics at one of its reads.
 struct Failing<'a> {
@@ -15,9 +23,7 @@ struct Failing<'a> {
 
 impl Failing<'_> {
     fn read<T>(&self, word: T) -> T {
-        let left = self.reads_left.get();
-        assert!(left > 0, "no more reads");
-        self.reads_left.set(left - 1);
+        take_one(&self.reads_left);
         word
     }
 }
@@ -84,8 +90,8 @@ const ASSIGNMENTS: [Assignment; 7] = [
 
 fn pairs() -> Vec<(BitSet, BitSet)> {
     let few = BitSet::from([300_000]);
-    let spread: BitSet = (0..40).map(|i| i * 70_001).collect();
-    let dense: BitSet = (0..9_000).filter(|i| i % 3 != 0).collect();
+    let spread: BitSet = (0..40).map(|i| i * 7_001).collect();
+    let dense: BitSet = (0..5_000).filter(|i| i % 3 != 0).collect();
     vec![
         (few.clone(), BitSet::from([5, 70])),
         (BitSet::new(), spread.clone()),
@@ -121,22 +127,21 @@ fn a_panic_at_each_read_of_another_set() {
             panics += (0..).take_while(|&reads| fails_at(&start, &other, assign, reads)).count();
         }
     }
-    assert!(panics > 1_000, "{panics} panics");
+    assert!(panics > 500, "{panics} panics");
 }
 
 /// Calls a function that panics at its call number `calls`.
 fn failing<T>(calls: usize, mut call: impl FnMut(T) -> bool) -> impl FnMut(T) -> bool {
-    let mut left = calls;
+    let left = Cell::new(calls);
     move |item| {
-        assert!(left > 0, "no more calls");
-        left -= 1;
+        take_one(&left);
         call(item)
     }
 }
 
 #[test]
 fn a_panic_in_each_call_of_a_closure() {
-    let start: BitSet = (0..300).map(|i| i * 997 % 90_000).chain([20_000_000]).collect();
+    let start: BitSet = (0..60).map(|i| i * 997 % 30_000).chain([300_000]).collect();
     type Change = fn(&mut BitSet, usize);
     let changes: [Change; 5] = [
         |set, calls| set.retain(failing(calls, |index: Index| index % 2 == 0)),
@@ -146,33 +151,33 @@ fn a_panic_in_each_call_of_a_closure() {
         },
         |set, calls| {
             let mut seen = failing(calls, |_| true);
-            set.extend((0..301).map(|i| i * 71_003).inspect(|&index| _ = seen(index)));
+            set.extend((0..61).map(|i| i * 7_103).inspect(|&index| _ = seen(index)));
         },
         |set, calls| {
             let mut seen = failing(calls, |_| true);
-            _ = set.try_extend((0..301).inspect(|&index| _ = seen(index)));
+            _ = set.try_extend((0..61).inspect(|&index| _ = seen(index)));
         },
         |set, calls| {
             let mut seen = failing(calls, |_| true);
-            *set = (0..301).inspect(|&index| _ = seen(index)).collect();
+            *set = (0..61).inspect(|&index| _ = seen(index)).collect();
         },
     ];
     for change in changes {
-        for calls in 0..301 {
+        for calls in 0..61 {
             let mut set = start.clone();
             let result = catch_unwind(AssertUnwindSafe(|| change(&mut set, calls)));
             assert!(result.is_err(), "call {calls}");
             assert_usable(&mut set);
         }
         let mut set = start.clone();
-        change(&mut set, 301);
+        change(&mut set, 61);
         assert_usable(&mut set);
     }
 }
 
 #[test]
 fn a_drain_that_is_forgotten() {
-    let start: BitSet = (0..300).map(|i| i * 997).collect();
+    let start: BitSet = (0..100).map(|i| i * 997).collect();
     let members: BTreeSet<Index> = start.iter_both().collect();
     for count in 0..=start.len() {
         let mut set = start.clone();
