@@ -1,7 +1,8 @@
 //! Hierarchical bit sets: fast sets of `u32` indices that skip empty regions and combine without copying.
 //!
-//! The crate has the names of the crate `hibitset` 0.6.3. Its code is the proved source of the project in Rattle with its
-//! contracts erased; only this face, and what of Rattle's library stable Rust lacks, is written by hand.
+//! The crate has the names of the crate `hibitset` 0.6.3. Its code is derived from a proved source: the source is proved
+//! to be safe, to return and to do what its contracts say, and the crate has the same tokens with the contracts left out.
+//! The clauses of each derived call stand under it as `# Contract`. README says what is trusted beside the proofs.
 //!
 //! ```
 //! use hibitset::{BitSet, BitSetLike};
@@ -19,12 +20,33 @@
 //! assert_eq!(dirty.to_vec(), [70_000]);
 //! ```
 //!
+//! # Layers
+//!
+//! A set has five layers of 64-bit words. Layer 0 has one bit for each index. A bit of a layer above says whether a word
+//! below it is nonzero, and layer 4 is one word. So an iteration never looks where no member is, and indices lie below
+//! 64<sup>5</sup>: [`MAX_EID`] is 2<sup>30</sup>. One index near it makes a set of 136 MB.
+//!
 //! # If an allocation fails
 //!
-//! A call that needs memory ends the process by `handle_alloc_error`, as a `Vec` does. Its twin whose name begins with
-//! `try_` returns [`AllocError`], and the members are then as they were.
+//! A call that needs memory ends the process by [`handle_alloc_error`](alloc::alloc::handle_alloc_error), as a `Vec`
+//! does. Its twin whose name begins with `try_` returns [`AllocError`], and the members are then as they were;
+//! [`BitSet::try_extend`] keeps the items that came before.
+//!
+//! # If a set of another type panics
+//!
+//! An assignment (`|=`, `&=`, `^=`, `-=` and their twins) reads the words of its right operand while it writes. If the
+//! operand's type is yours and it panics, the left set stays valid: each word of 64 indices is merged or as it was. If
+//! there is no memory to sum its words again, it is empty.
+//!
+//! # What Rust can't force
+//!
+//! In the source, each type with [`BitSetLike`] proves that a summary bit is set over each nonzero word, and the
+//! provided methods of [`BitSetLike`] and [`DrainableBitSet`] are final. In Rust neither is checked. A type of yours that
+//! breaks the law, or overrides a provided method, gets wrong answers or panics, and never undefined behaviour. The
+//! members of a [`BitSet`] that it is merged into are then what its words said, under exact summaries.
 #![no_std]
 #![forbid(unsafe_code)]
+#![warn(missing_docs)]
 
 extern crate alloc;
 #[cfg(feature = "std")]
@@ -33,37 +55,27 @@ extern crate std;
 #[cfg(not(target_pointer_width = "64"))]
 compile_error!("the words of a set have 64 bits, as `usize` must have: its source is proved for that width alone");
 
-// The derived tests use more of it than the package does.
+// What derived tests and programs call is there too.
 #[allow(dead_code, unused_imports)]
 #[macro_use]
 mod support;
 mod beside;
 #[rustfmt::skip]
-#[allow(dead_code, unused_imports, unused_labels, unused_variables, mismatched_lifetime_syntaxes, unconditional_panic)]
-#[allow(clippy::all)]
+#[allow(dead_code, missing_docs, unused_imports, unused_labels, unused_variables, mismatched_lifetime_syntaxes, unconditional_panic, clippy::all)]
 mod derived;
 mod face;
 
+pub use beside::Masks;
 pub use derived::hibitset_atomic::ATOMIC_MAX_EID;
 pub use derived::hibitset_base::{
     BitIter, BitParIter, BitProducer, BitRevIter, BitSetAll, BitSetAnd, BitSetLike, BitSetNot, BitSetOr, BitSetRange,
     BitSetXor, DrainBitIter, DrainableBitSet, Index, LAYERS, MAX_EID,
 };
 pub use derived::hibitset_roaring::{Fault as RoaringFault, Malformed, ReadError as RoaringError};
-pub use face::{AtomicBitSet, BitIterBoth, BitSet, IntoSet, Ranked, Seat, SettleError};
+pub use face::{AtomicBitSet, BitIterBoth, BitSet, BitSetLikeExt, Ranked, Seat};
 pub use support::rattle_std::alloc::{AllocError, Global};
-pub use support::rattle_std::rt::{host, HostRuntime};
 
-/// Ends the process, as a `Vec` does.
-#[cold]
-#[inline(never)]
-fn out_of_memory<E>(_error: E) -> ! {
-    alloc::alloc::handle_alloc_error(core::alloc::Layout::new::<usize>())
-}
-
-/// A panic for an index past the range.
-#[cold]
-#[inline(never)]
-fn out_of_range(index: u64, end: usize) -> ! {
-    panic!("the index {index} is out of range: indices lie below {end}")
-}
+// The examples of README are compiled with those of the documentation.
+#[cfg(doctest)]
+#[doc = include_str!("../README.md")]
+struct Readme;

@@ -1,89 +1,193 @@
-//! The set that can be shared by threads, and the seats by which they add to it.
+//! The set that threads add to by `&`.
 
-use crate::{out_of_memory, out_of_range, BitSet, Index, ATOMIC_MAX_EID};
-use alloc::sync::Arc;
+use crate::derived::hibitset_atomic as proved;
+use crate::face::row::Row;
+use crate::face::{index_out_of_range, out_of_memory};
+use crate::{AllocError, BitSetLike, DrainableBitSet, Index, Seat, ATOMIC_MAX_EID};
 use alloc::vec::Vec;
-use crate::derived::hibitset_base::DrainableBitSet;
-use core::cell::RefCell;
 use core::fmt::{self, Debug, Formatter};
-use crate::derived::hibitset::SharedBitSet;
-use crate::support::rattle_std::alloc::{AllocError, Global};
 
-/// A set of indices below [`ATOMIC_MAX_EID`] that can be shared by threads.
-pub struct AtomicBitSet(SharedBitSet);
+/// A set of indices below [`ATOMIC_MAX_EID`] that threads add to at once, by `&`.
+///
+/// The first addition makes the words, 2.1 MB, of which the system gives what is touched; a set that stays empty has
+/// none. Without the feature `std` [`new`](AtomicBitSet::new) makes them.
+///
+/// [`add_atomic`](AtomicBitSet::add_atomic), [`contains`](AtomicBitSet::contains) and the words that an iteration reads
+/// are derived from a proved source, in which each thread has a seat. That seats can be left out is an argument, and no
+/// proof: `SHARED_BY_REFERENCE.md` has it. [`remove`](AtomicBitSet::remove) and [`clear`](AtomicBitSet::clear) are
+/// written by hand. [`share`](AtomicBitSet::share) hands seats out.
+///
+/// # Examples
+///
+/// ```
+/// use hibitset::{AtomicBitSet, BitSet, BitSetLike};
+/// use std::thread;
+///
+/// let set = AtomicBitSet::new();
+/// let fresh: usize = thread::scope(|scope| {
+///     let adders: Vec<_> = (0..4)
+///         .map(|first| scope.spawn({
+///             let set = &set;
+///             move || (first..1000).step_by(2).filter(|&index| !set.add_atomic(index)).count()
+///         }))
+///         .collect();
+///     adders.into_iter().map(|adder| adder.join().unwrap()).sum()
+/// });
+/// assert_eq!((fresh, set.len()), (1000, 1000)); // each index was new to one of the threads
+/// ```
+///
+/// # Iteration while threads add
+///
+/// An iteration ascends and gives each index whose addition happened before it, and none that was not added. What is
+/// added meanwhile may be given or not. Counts and lists of one call may be of different moments:
+/// `SHARED_BY_REFERENCE.md` says which calls are covered.
+pub struct AtomicBitSet(pub(crate) Row);
 
 impl AtomicBitSet {
-    /// Returns the empty set. Its 2 MB are zeros that the system gives as they are touched.
+    /// Returns the empty set, which has no words yet.
+    ///
+    /// ```
+    /// # #[cfg(feature = "std")]
+    /// static SEEN: hibitset::AtomicBitSet = hibitset::AtomicBitSet::new();
+    /// # #[cfg(feature = "std")]
+    /// assert!(!SEEN.add_atomic(7) && SEEN.contains(7));
+    /// ```
+    #[cfg(feature = "std")]
+    #[must_use]
+    pub const fn new() -> AtomicBitSet {
+        AtomicBitSet(Row::new())
+    }
+
+    /// Returns the empty set, and makes its words.
+    #[cfg(not(feature = "std"))]
     #[must_use]
     pub fn new() -> AtomicBitSet {
-        AtomicBitSet(SharedBitSet::empty())
+        AtomicBitSet(Row::new())
     }
 
+    /// Returns the empty set, and makes its words, so that no later call needs memory or waits for another thread.
+    ///
+    /// # Errors
+    ///
+    /// [`AllocError`] if an allocation fails.
     pub fn try_new() -> Result<AtomicBitSet, AllocError> {
-        SharedBitSet::try_empty().map(AtomicBitSet)
+        Row::try_made().map(AtomicBitSet)
     }
 
-    /// Adds an index, while others add too. Returns whether it was in the set before. It panics if `id` is not below
-    /// [`ATOMIC_MAX_EID`].
+    /// Adds an index, while other threads add too. Returns whether it was in the set before: of all calls for an index
+    /// that was not, one alone returns false.
+    ///
+    /// It makes at most seven loads and four exchanges. The first addition to a set also makes the words; until they are
+    /// there, another thread's first addition may wait for that.
+    ///
+    /// # Panics
+    ///
+    /// If `id` is not below [`ATOMIC_MAX_EID`].
     #[inline]
     pub fn add_atomic(&self, id: Index) -> bool {
         if id as usize >= ATOMIC_MAX_EID {
-            out_of_range(id.into(), ATOMIC_MAX_EID);
+            index_out_of_range(id, ATOMIC_MAX_EID);
         }
-        self.0.add_atomic(&mut crate::derived::hibitset::Seat::erased(), id)
+        self.0.get_or_make().add_atomic(&mut proved::shared::Seat::erased(), id)
     }
 
-    /// Adds an index. Returns whether it was in the set before. It panics if `id` is not below [`ATOMIC_MAX_EID`].
+    /// Adds an index. Returns whether it was in the set before.
+    ///
+    /// # Panics
+    ///
+    /// If `id` is not below [`ATOMIC_MAX_EID`].
     #[inline]
     pub fn add(&mut self, id: Index) -> bool {
         self.add_atomic(id)
     }
 
-    /// As [`add`](AtomicBitSet::add), which never needs memory here.
+    /// Adds an index. Returns whether it was in the set before.
+    ///
+    /// # Errors
+    ///
+    /// [`AllocError`] if an allocation fails, which only the first addition makes. The set is empty, as it was.
+    ///
+    /// # Panics
+    ///
+    /// If `id` is not below [`ATOMIC_MAX_EID`].
     #[inline]
     pub fn try_add(&mut self, id: Index) -> Result<bool, AllocError> {
-        Ok(self.add_atomic(id))
+        if id as usize >= ATOMIC_MAX_EID {
+            index_out_of_range(id, ATOMIC_MAX_EID);
+        }
+        Ok(self.0.try_get_or_make()?.add_atomic(&mut proved::shared::Seat::erased(), id))
     }
 
+    /// Removes an index. Returns whether it was in the set.
     #[inline]
     pub fn remove(&mut self, id: Index) -> bool {
-        self.0.remove(id)
+        self.0.get_mut().is_some_and(|words| words.remove(id))
     }
 
-    /// Returns whether an index is in the set.
+    /// Returns whether an index is in the set. It is true of each index whose addition happened before. It makes at most
+    /// four loads.
     #[inline]
     pub fn contains(&self, id: Index) -> bool {
-        self.0.contains(&mut crate::derived::hibitset::Seat::erased(), id)
+        BitSetLike::contains(&self.0, id)
     }
 
+    /// Removes all members. It keeps the words, and goes only to those that are not 0.
     pub fn clear(&mut self) {
-        self.0.clear();
+        if let Some(words) = self.0.get_mut() {
+            words.clear();
+        }
+    }
+
+    /// Returns whether the set has no member.
+    #[inline]
+    pub fn is_empty(&self) -> bool {
+        BitSetLike::is_empty(&self.0)
     }
 
     /// Returns the members, ascending.
     pub fn to_vec(&self) -> Vec<Index> {
-        crate::IntoSet::to_vec(&self.0)
+        crate::BitSetLikeExt::to_vec(&self.0)
     }
 
-    /// Shares the set: returns the first of the seats that threads add to it with.
+    /// Shares the set by seats: returns the first one.
+    ///
+    /// ```
+    /// use hibitset::AtomicBitSet;
+    /// use std::thread;
+    ///
+    /// let seat = AtomicBitSet::from([3]).share();
+    /// let other = seat.divide().unwrap();
+    /// let adder = thread::spawn(move || other.add_atomic(5));
+    /// seat.add_atomic(4);
+    /// assert!(!adder.join().unwrap()); // 5 was not in the set, and its seat is dropped
+    /// assert_eq!(seat.settle().unwrap().to_vec(), [3, 4, 5]);
+    /// ```
     #[must_use]
     pub fn share(self) -> Seat {
-        self.try_share().unwrap_or_else(|error| out_of_memory(error))
+        self.try_share().unwrap_or_else(|_| out_of_memory(AllocError))
     }
 
-    /// As [`share`](AtomicBitSet::share), which needs memory for an `Arc` alone.
+    /// Shares the set by seats, as [`share`](AtomicBitSet::share) does. The few bytes that count the seats end the
+    /// process if there is no memory for them.
+    ///
+    /// # Errors
+    ///
+    /// The set, as it was, if the allocation of its words fails.
     pub fn try_share(self) -> Result<Seat, AtomicBitSet> {
-        Ok(Seat::of(Arc::new(self.0), crate::derived::hibitset::Seat::opening()))
+        match self.0.try_get_or_make() {
+            Ok(_) => Ok(Seat::first_of(self.0)),
+            Err(AllocError) => Err(self),
+        }
     }
 }
 
-crate::face::ops::like!(AtomicBitSet);
+crate::face::ops::words!(AtomicBitSet);
 crate::face::ops::collected!(AtomicBitSet);
 
 impl DrainableBitSet for AtomicBitSet {
     #[inline]
     fn remove(&mut self, i: Index) -> bool {
-        self.0.remove(i)
+        AtomicBitSet::remove(self, i)
     }
 }
 
@@ -93,128 +197,9 @@ impl Default for AtomicBitSet {
     }
 }
 
+/// Prints the members, as `{5, 70000}`.
 impl Debug for AtomicBitSet {
     fn fmt(&self, f: &mut Formatter<'_>) -> fmt::Result {
-        Debug::fmt(&self.0, f)
-    }
-}
-
-/// What one thread adds and looks with, at a set that many threads share. It is `Send` and not `Sync`. The set lives as
-/// long as one of its seats.
-pub struct Seat {
-    set: Arc<SharedBitSet>,
-    // It is there but while a call that takes it runs.
-    seat: RefCell<Option<crate::derived::hibitset::Seat>>,
-}
-
-/// Why a shared set did not become one held alone. It has the seat, as it was.
-pub enum SettleError {
-    /// Another seat of the set is not dropped yet.
-    Shared(Seat),
-    /// An allocation failed.
-    NoMemory(Seat),
-}
-
-const THERE: &str = "no call of the seat is running";
-
-impl Seat {
-    fn of(set: Arc<SharedBitSet>, seat: crate::derived::hibitset::Seat) -> Seat {
-        Seat {
-            set,
-            seat: RefCell::new(Some(seat)),
-        }
-    }
-
-    /// Adds an index, while other seats add too. Returns whether it was in the set before. It panics if `id` is not
-    /// below [`ATOMIC_MAX_EID`].
-    #[inline]
-    pub fn add_atomic(&self, id: Index) -> bool {
-        if id as usize >= ATOMIC_MAX_EID {
-            out_of_range(id.into(), ATOMIC_MAX_EID);
-        }
-        self.set.add_atomic(self.seat.borrow_mut().as_mut().expect(THERE), id)
-    }
-
-    /// Returns whether an index is in the set.
-    #[inline]
-    pub fn contains(&self, id: Index) -> bool {
-        self.set.contains(self.seat.borrow_mut().as_mut().expect(THERE), id)
-    }
-
-    /// Adds to a set what a walk over the shared set gives, while others add.
-    pub fn collect_into(&self, set: &mut BitSet) {
-        self.try_collect_into(set).unwrap_or_else(|error| out_of_memory(error))
-    }
-
-    pub fn try_collect_into(&self, set: &mut BitSet) -> Result<(), AllocError> {
-        set.try_extend(self.set.walk(self.seat.borrow_mut().as_mut().expect(THERE)))
-    }
-
-    pub fn to_bit_set(&self) -> BitSet {
-        let mut set = BitSet::new();
-        self.collect_into(&mut set);
-        set
-    }
-
-    /// Returns whether the seat has all shares of its set.
-    pub fn is_whole(&self) -> bool {
-        self.seat.borrow().as_ref().expect(THERE).is_whole()
-    }
-
-    /// Returns a second seat, with half of this one's shares, or `None` if this seat has one.
-    pub fn divide(&self) -> Option<Seat> {
-        let mut seat = self.seat.borrow_mut();
-        let (first, second) = self.set.divide(seat.take().expect(THERE));
-        *seat = Some(first);
-        second.map(|second| Seat::of(self.set.clone(), second))
-    }
-
-    /// As [`divide`](Seat::divide), which never needs memory here.
-    pub fn try_divide(&self) -> Result<Option<Seat>, AllocError> {
-        Ok(self.divide())
-    }
-
-    /// Returns so many seats of the set, with even shares of it. It panics if this seat has fewer shares.
-    #[must_use]
-    pub fn divide_among(self, count: usize) -> Vec<Seat> {
-        let seat = self.seat.into_inner().expect(THERE);
-        assert!(count > 0, "a seat can't be divided among none");
-        assert!(count <= seat.weight() as usize, "the seat has fewer shares than seats are asked for");
-        match self.set.divide_among(Global, seat, count) {
-            Ok(seats) => seats.into_iter().map(|seat| Seat::of(self.set.clone(), seat)).collect(),
-            Err(_) => out_of_memory(AllocError),
-        }
-    }
-
-    /// Ends the shared set: returns it as a set held alone, or the seat, if another one is not dropped yet.
-    pub fn settle(self) -> Result<AtomicBitSet, Seat> {
-        match self.try_settle() {
-            Ok(set) => Ok(set),
-            Err(SettleError::Shared(seat)) => Err(seat),
-            Err(SettleError::NoMemory(_)) => out_of_memory(AllocError),
-        }
-    }
-
-    pub fn try_settle(self) -> Result<AtomicBitSet, SettleError> {
-        let seat = self.seat.into_inner().expect(THERE);
-        match Arc::try_unwrap(self.set) {
-            Err(set) => Err(SettleError::Shared(Seat::of(set, seat))),
-            Ok(set) => Ok(AtomicBitSet(set)),
-        }
-    }
-}
-
-impl Debug for Seat {
-    fn fmt(&self, f: &mut Formatter<'_>) -> fmt::Result {
-        f.debug_struct("Seat").finish_non_exhaustive()
-    }
-}
-
-impl Debug for SettleError {
-    fn fmt(&self, f: &mut Formatter<'_>) -> fmt::Result {
-        f.write_str(match self {
-            SettleError::Shared(_) => "Shared(..)",
-            SettleError::NoMemory(_) => "NoMemory(..)",
-        })
+        f.debug_set().entries(self).finish()
     }
 }

@@ -1,96 +1,106 @@
-//! What the two sets of this face have alike: words, operators, and items of iterators.
+//! What the two sets have alike: words, operators, and items of iterators.
 
-use crate::{AtomicBitSet, BitSet, Index};
-use crate::derived::hibitset_base::{BitIter, BitSetAnd, BitSetLike, BitSetNot, BitSetOr, BitSetXor};
+use crate::{AtomicBitSet, BitIter, BitSet, BitSetAnd, BitSetLike, BitSetNot, BitSetOr, BitSetXor, Index};
 use core::ops::{BitAnd, BitOr, BitXor, Not, Sub};
 
 // The words are those of the set within.
-macro_rules! like {
+macro_rules! words {
     ($set:ty) => {
-        impl crate::derived::hibitset_base::BitSetLike for $set {
+        impl $crate::BitSetLike for $set {
             #[inline]
             fn get_from_layer(&self, layer: usize, idx: usize) -> usize {
-                assert!(layer < crate::derived::hibitset_base::LAYERS, "a set has {} layers, and none with number {layer}", crate::derived::hibitset_base::LAYERS);
-                crate::derived::hibitset_base::BitSetLike::get_from_layer(&self.0, layer, idx)
+                assert!(layer < $crate::LAYERS, "a set has {} layers, and none with number {layer}", $crate::LAYERS);
+                $crate::BitSetLike::get_from_layer(&self.0, layer, idx)
             }
 
             #[inline]
             fn is_empty(&self) -> bool {
-                crate::derived::hibitset_base::BitSetLike::is_empty(&self.0)
+                $crate::BitSetLike::is_empty(&self.0)
             }
 
             #[inline]
             fn has_cheap_words(&self) -> bool {
-                crate::derived::hibitset_base::BitSetLike::has_cheap_words(&self.0)
+                $crate::BitSetLike::has_cheap_words(&self.0)
             }
 
             #[inline]
             fn layer4(&self) -> usize {
-                crate::derived::hibitset_base::BitSetLike::layer4(&self.0)
+                $crate::BitSetLike::layer4(&self.0)
             }
 
             #[inline]
             fn layer3(&self, i: usize) -> usize {
-                crate::derived::hibitset_base::BitSetLike::layer3(&self.0, i)
+                $crate::BitSetLike::layer3(&self.0, i)
             }
 
             #[inline]
             fn layer2(&self, i: usize) -> usize {
-                crate::derived::hibitset_base::BitSetLike::layer2(&self.0, i)
+                $crate::BitSetLike::layer2(&self.0, i)
             }
 
             #[inline]
             fn layer1(&self, i: usize) -> usize {
-                crate::derived::hibitset_base::BitSetLike::layer1(&self.0, i)
+                $crate::BitSetLike::layer1(&self.0, i)
             }
 
             #[inline]
             fn layer0(&self, i: usize) -> usize {
-                crate::derived::hibitset_base::BitSetLike::layer0(&self.0, i)
+                $crate::BitSetLike::layer0(&self.0, i)
             }
 
             #[inline]
-            fn contains(&self, i: crate::Index) -> bool {
-                crate::derived::hibitset_base::BitSetLike::contains(&self.0, i)
+            fn contains(&self, i: $crate::Index) -> bool {
+                $crate::BitSetLike::contains(&self.0, i)
             }
         }
     };
 }
 
-// Items are added one by one; an index that is out of range panics.
+// Items are added one by one.
 macro_rules! collected {
     ($set:ident) => {
-        impl Extend<crate::Index> for $set {
-            fn extend<I: IntoIterator<Item = crate::Index>>(&mut self, iter: I) {
+        /// Adds the items. It panics at one that is out of range; the items before it are members then.
+        impl Extend<$crate::Index> for $set {
+            fn extend<I: IntoIterator<Item = $crate::Index>>(&mut self, iter: I) {
                 for index in iter {
                     self.add(index);
                 }
             }
         }
 
-        impl<'a> Extend<&'a crate::Index> for $set {
-            fn extend<I: IntoIterator<Item = &'a crate::Index>>(&mut self, iter: I) {
+        /// Adds the items. It panics at one that is out of range; the items before it are members then.
+        impl<'a> Extend<&'a $crate::Index> for $set {
+            fn extend<I: IntoIterator<Item = &'a $crate::Index>>(&mut self, iter: I) {
                 self.extend(iter.into_iter().copied());
             }
         }
 
-        impl FromIterator<crate::Index> for $set {
-            fn from_iter<I: IntoIterator<Item = crate::Index>>(iter: I) -> $set {
+        /// Makes the set of the items. It panics at one that is out of range.
+        impl FromIterator<$crate::Index> for $set {
+            fn from_iter<I: IntoIterator<Item = $crate::Index>>(iter: I) -> $set {
                 let mut set = <$set>::new();
                 set.extend(iter);
                 set
             }
         }
 
-        impl<'a> FromIterator<&'a crate::Index> for $set {
-            fn from_iter<I: IntoIterator<Item = &'a crate::Index>>(iter: I) -> $set {
+        /// Makes the set of the items. It panics at one that is out of range.
+        impl<'a> FromIterator<&'a $crate::Index> for $set {
+            fn from_iter<I: IntoIterator<Item = &'a $crate::Index>>(iter: I) -> $set {
                 iter.into_iter().copied().collect()
+            }
+        }
+
+        /// Makes the set of the items. It panics at one that is out of range.
+        impl<const N: usize> From<[$crate::Index; N]> for $set {
+            fn from(list: [$crate::Index; N]) -> $set {
+                list.into_iter().collect()
             }
         }
     };
 }
 
-pub(crate) use {collected, like};
+pub(crate) use {collected, words};
 
 macro_rules! operators {
     ($($set:ty;)*) => {$(
