@@ -2,6 +2,8 @@
 
 import textwrap
 
+from .erasing import end_of_clause
+
 BEFORE_FN = ("pub", "const", "unsafe", "extern", "final")
 
 
@@ -9,17 +11,19 @@ class Contract:
     """The clauses that are read between a documented `fn` and its body."""
 
     def __init__(self):
-        self.place, self.clauses = None, []
+        self.place, self.clauses, self.body = None, [], -1
 
     def begin(self, source, at):
-        self.end(source)
-        self.place = end_of_documentation(source, at)
+        """At the `fn` at a place."""
+        self.place, self.clauses = end_of_documentation(source, at), []
+        self.body = beginning_of_body(source, at)
 
     def add(self, source, first, last):
         if self.place is not None:
             self.clauses.append("".join(token.text for token in source.tokens[first : last + 1]))
 
     def end(self, source):
+        """At the body, or the `;` in its place."""
         if self.place is not None and self.clauses:
             indent = source.indent(self.place)
             lines = ["", "# Contract", "", "```text"]
@@ -29,6 +33,18 @@ class Contract:
             text = "".join("\n" + indent + ("/// " + line).rstrip() for line in lines)
             source.put(self.place, source.out[self.place] + text, "contract")
         self.place, self.clauses = None, []
+
+
+def beginning_of_body(source, at):
+    """The place of the `{` or `;` behind the head and the clauses of the function at a place."""
+    here = source.next(at)
+    while source.text(here) not in ("{", ";"):
+        if source.text(here) in ("(", "["):
+            here = source.close(here)
+        elif source.text(here) in ("requires", "ensures"):
+            here = end_of_clause(source, here)
+        here = source.next(here)
+    return here
 
 
 def end_of_documentation(source, at):

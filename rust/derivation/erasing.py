@@ -30,14 +30,18 @@ def ghost(source, at):
     return here
 
 
-def clause(source, at):
-    """`requires` or `ensures` with `*`, a label, and what it says. Returns the place of its end."""
+def end_of_clause(source, at):
+    """`requires` or `ensures` with `*`, a label, and what it says: the place of its end."""
     here = source.next(at)
     if source.text(here) == "*":
         here = source.next(here)
     if source.is_word(here):
         here = source.next(here)
-    end = source.close(here)
+    return source.close(here)
+
+
+def clause(source, at):
+    end = end_of_clause(source, at)
     source.leave_out(at, end, "clause")
     return end
 

@@ -21,6 +21,9 @@ HIDDEN_FUNCTIONS = {
     ("hibitset_base/drain.rt", "new"): "of_parts",
 }
 
+# Private functions that code by hand calls: the program's `main`.
+OPEN_FUNCTIONS = {("hibitset_run/main.rt", "main")}
+
 # Structs whose private fields the code of beside/ reads.
 OPEN_STRUCTS = {("hibitset_base/parallel/par_iter.rt", "BitParIter")}
 
@@ -54,7 +57,7 @@ def path(source, at, crates):
 def renamed(source, at):
     if source.text(at) in RENAMED:
         source.put(at, RENAMED[source.text(at)], "name")
-    elif source.text(at) == "collect" and takes_one(source, source.next(at)):
+    elif source.text(at) == "collect" and source.text(source.last(at)) == "." and takes_one(source, source.next(at)):
         source.put(at, "collect_in", "name")
 
 
@@ -75,6 +78,12 @@ def hidden(source, at):
     source.put(before, "pub(crate)", "visibility")
     if new != source.text(name):
         source.put(name, new, "name")
+
+
+def opened_function(source, at):
+    """A private function that code by hand calls becomes `pub(crate)`."""
+    if (source.name, source.text(source.next(at))) in OPEN_FUNCTIONS:
+        source.put(at, "pub(crate) fn", "visibility")
 
 
 def opened_module(source, at):

@@ -42,7 +42,6 @@ class Rules:
             elif source.tokens[at].kind == "sign":
                 at = self.sign(at)
             at += 1
-        self.contract.end(source)
         return laid_out("".join(source.out)), source.counts
 
     def sign(self, at):
@@ -51,7 +50,7 @@ class Rules:
             source.fail(at, "a sign that Rust has not")
         if source.text(at) == "#":
             return erasing.attribute(source, at)
-        if source.text(at) in "{;":
+        if at == self.contract.body:
             self.contract.end(source)
         return at
 
@@ -85,8 +84,11 @@ class Rules:
     def function(self, at):
         """The rules at the head of a function. Returns the place where the next token is looked at."""
         source, name = self.source, self.source.next(at)
+        if not source.is_word(name):
+            return at
         self.contract.begin(source, at)
         naming.hidden(source, at)
+        naming.opened_function(source, at)
         running.runtime(source, at)
         if source.out[name] == source.text(name):
             naming.renamed(source, name)

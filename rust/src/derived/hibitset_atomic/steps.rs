@@ -31,6 +31,13 @@ pub use state::World;
 /// of its word in the layer, and the word that has this bit alone.
 ///
 /// The index is below `ATOMIC_MAX_EID`. It does not allocate.
+///
+/// # Contract
+///
+/// ```text
+/// requires { id < ATOMIC_MAX_EID }
+/// ensures { result ≡ map (path_bit id) (0 ∷ 1 ∷ 2 ∷ 3 ∷ []) }
+/// ```
 #[inline]
 pub fn path(id: Index) -> [(usize, usize, usize); 4] {
     [

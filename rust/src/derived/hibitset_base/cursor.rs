@@ -16,6 +16,15 @@ pub struct Cursor<const N: usize> {
 
 impl<const N: usize> Cursor<N> {
     /// A cursor with these masks and positions.
+    ///
+    /// # Contract
+    ///
+    /// ```text
+    /// requires positions_fit { 64 ^ N ≤ 2 ^ 32 }
+    /// requires formed { IsWellFormed N masks prefix }
+    /// ensures masks { result.masks ≡ masks.entry }
+    /// ensures prefix { result.prefix ≡ prefix.entry }
+    /// ```
     #[inline]
     pub(crate) fn new(masks: [usize; N], prefix: [u32; N]) -> Self {
         Cursor { masks, prefix }

@@ -26,6 +26,16 @@ impl<'a, T> DrainBitIter<'a, T> {
     /// The prefix of a mask that is not 0 is a multiple of 64 within the layer. What is left in a layer lies in the
     /// range of one word of each layer above that has something left: the word whose first bit is at that layer's
     /// prefix. There it lies before what is left of that word.
+    ///
+    /// # Contract
+    ///
+    /// ```text
+    /// requires { IsWellFormed LAYERS masks prefix }
+    /// ensures lender { lender result ≡ set.entry.ghost_name }
+    /// ensures set { drained_set result ≡ set.old }
+    /// ensures items { (holds : T → ℕ → Bool)
+    ///     → items_to_drain holds result ≡ items_of (holds set.old) (places_left 0 masks prefix) }
+    /// ```
     #[inline]
     pub(crate) fn of_parts(set: &'a mut T, masks: [usize; LAYERS], prefix: [u32; LAYERS - 1]) -> Self {
         DrainBitIter {

@@ -28,6 +28,21 @@ impl<T> BitIter<T> {
     /// The prefix of a mask that is not 0 is a multiple of 64 within the layer. What is left in a layer lies in the
     /// range of one word of each layer above that has something left: the word whose first bit is at that layer's
     /// prefix. There it lies before what is left of that word.
+    ///
+    /// # Contract
+    ///
+    /// ```text
+    /// requires { IsWellFormed LAYERS masks prefix }
+    /// ensures set { set_of result ≡ set }
+    /// ensures items { (holds : T → ℕ → Bool)
+    ///     → items_left holds result ≡ items_of (holds set) (places_left 0 masks prefix) }
+    /// ensures drawn { (word : T → ℕ → ℕ → ℕ) → AllAreSet (word set) (places_left 0 masks prefix)
+    ///     → BitsAreFromSet word result }
+    /// ensures read { words_read result ≡ 0 }
+    /// ensures masks { masks_left result ≡ masks }
+    /// ensures ahead { (word : T → ℕ → ℕ → ℕ)
+    ///     → words_ahead word result ≡ words_of (word set) (places_left 0 masks prefix) }
+    /// ```
     #[inline]
     pub(crate) fn of_parts(set: T, masks: [usize; LAYERS], prefix: [u32; LAYERS - 1]) -> Self {
         BitIter {

@@ -10,13 +10,15 @@ pub enum ErrorKind {
     WriteZero,
     UnexpectedEof,
     TimedOut,
+    WouldBlock,
+    BrokenPipe,
     Other,
 }
 
 #[derive(Clone, Copy, Debug)]
 pub struct Error {
-    kind: ErrorKind,
-    text: &'static str,
+    pub(crate) kind: ErrorKind,
+    pub(crate) text: &'static str,
 }
 
 pub type Result<T> = core::result::Result<T, Error>;
@@ -27,10 +29,6 @@ impl Error {
             kind: ErrorKind::Other,
             text,
         }
-    }
-
-    pub(crate) fn of(kind: ErrorKind, text: &'static str) -> Error {
-        Error { kind, text }
     }
 
     pub fn kind(&self) -> ErrorKind {
@@ -46,6 +44,8 @@ impl From<ErrorKind> for Error {
             ErrorKind::WriteZero => "nothing was written",
             ErrorKind::UnexpectedEof => "unexpected end",
             ErrorKind::TimedOut => "timed out",
+            ErrorKind::WouldBlock => "would block",
+            ErrorKind::BrokenPipe => "broken pipe",
             ErrorKind::Other => "other error",
         };
         Error { kind, text }

@@ -13,8 +13,8 @@ pub mod io;
 mod macros;
 pub mod rt;
 pub mod snapshot;
-#[cfg(test)]
 #[macro_use]
+#[cfg(test)]
 pub mod test;
 pub mod vec;
 

@@ -2,12 +2,6 @@
 
 use super::alloc::Global;
 
-/// May end the process.
-pub trait Abort {}
-
-/// May block.
-pub trait Wait {}
-
 /// May start threads.
 pub trait Threads {}
 
@@ -24,10 +18,6 @@ pub struct HostRuntime;
 pub const fn host() -> HostRuntime {
     HostRuntime
 }
-
-impl Abort for HostRuntime {}
-
-impl Wait for HostRuntime {}
 
 impl Threads for HostRuntime {}
 
