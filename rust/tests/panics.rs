@@ -2,7 +2,7 @@
 
 use std::panic::{catch_unwind, AssertUnwindSafe};
 
-use hibitset::{BitSet, BitSetLike, Index, MAX_EID};
+use hibitset::{BitIter, BitSet, BitSetLike, DrainBitIter, Index, MAX_EID};
 
 const MAX: Index = MAX_EID as Index;
 
@@ -89,4 +89,60 @@ fn items_before_a_panic_are_added() {
     let items = (0..1000).inspect(|i| assert!(*i < 600, "no more of {i} items"));
     assert!(message_of(&mut set, |set| set.extend(items)).contains("no more"));
     assert!((&set).iter().eq(0..600));
+}
+
+/// A state of an iteration of `set`, after so many items have been given: masks and prefixes.
+fn state_after(members: &[Index], given: usize) -> ([usize; 5], [u32; 4]) {
+    let (mut masks, mut prefixes) = ([0; 5], [0; 4]);
+    let first_left = members[given];
+    for layer in 0..5 {
+        let word = |index: Index| u64::from(index) >> (6 * (layer + 1));
+        // What is left of the word over the first member that is left, and above layer 0 only behind it.
+        let own = first_left >> (6 * layer);
+        let bits = members[given..].iter().filter(|&&index| word(index) == word(first_left));
+        let bits = bits.map(|index| index >> (6 * layer)).filter(|&bit| layer == 0 || bit > own);
+        masks[layer] = bits.fold(0, |mask, bit| mask | 1 << (bit % 64));
+        if layer < 4 {
+            prefixes[layer] = (own / 64) * 64;
+        }
+    }
+    (masks, prefixes)
+}
+
+#[test]
+fn an_iteration_goes_on_from_a_state() {
+    let members = [5, 7, 63, 64, 130, 5_000, 300_000, 300_001, 20_000_000, MAX - 1];
+    let set = BitSet::from(members);
+    for given in 0..members.len() {
+        let (masks, prefixes) = state_after(&members, given);
+        assert!(BitIter::new(&set, masks, prefixes).eq(members[given..].iter().copied()));
+        let mut drained = set.clone();
+        assert!(DrainBitIter::new(&mut drained, masks, prefixes).eq(members[given..].iter().copied()));
+        assert!((&drained).iter().eq(members[..given].iter().copied()));
+    }
+    let small = BitSet::from([5, 70]);
+    assert!(BitIter::new(&small, [0, 0, 0, small.layer3(0)], [0; 3]).eq([5, 70]));
+}
+
+#[test]
+fn a_state_of_no_iteration_panics() {
+    let set = BitSet::from([5, 70, 5_000]);
+    let states: [([usize; 5], [u32; 4], &str); 7] = [
+        ([!0, 0, 0, 0, 0], [Index::MAX, 0, 0, 0], "no multiple of 64"),
+        ([1, 0, 0, 0, 0], [63, 0, 0, 0], "no multiple of 64"),
+        ([1, 0, 0, 0, 0], [1 << 30, 0, 0, 0], "below 1073741824"),
+        ([0, 1, 0, 0, 0], [0, 1 << 24, 0, 0], "below 16777216"),
+        // The word of layer 0 is under the bit that layer 1 has left, or behind it, or under another word.
+        ([1, 1, 0, 0, 0], [0, 0, 0, 0], "does not lie before"),
+        ([1, 1, 0, 0, 0], [128, 0, 0, 0], "does not lie before"),
+        ([1, 1 << 63, 0, 0, 0], [4096, 0, 0, 0], "does not lie before"),
+    ];
+    for (masks, prefixes, text) in states {
+        let result = catch_unwind(|| BitIter::new(&set, masks, prefixes).count());
+        let message = *result.expect_err("it panics").downcast::<String>().expect("the panic has a text");
+        assert!(message.contains(text), "{message}");
+        let mut drained = set.clone();
+        let message = message_of(&mut drained, |set| drop(DrainBitIter::new(set, masks, prefixes)));
+        assert!(message.contains(text) && drained == set, "{message}");
+    }
 }
