@@ -142,7 +142,7 @@ fn a_state_of_no_iteration_panics() {
         let message = *result.expect_err("it panics").downcast::<String>().expect("the panic has a text");
         assert!(message.contains(text), "{message}");
         let mut drained = set.clone();
-        let message = message_of(&mut drained, |set| drop(DrainBitIter::new(set, masks, prefixes)));
+        let message = message_of(&mut drained, |set| _ = DrainBitIter::new(set, masks, prefixes));
         assert!(message.contains(text) && drained == set, "{message}");
     }
 }

@@ -151,7 +151,8 @@ impl Growing<'_> {
         let set = self.set;
         let selected = [set.select(100), set.select(1 << 16), set.last_before(END / 2)];
         assert!(selected.into_iter().flatten().all(|index| self.all.contains(index)));
-        assert!(self.all.contains_set(&(set ^ set).to_bit_set()));
+        let (same, set_too) = (set, set);
+        assert!(self.all.contains_set(&(same ^ set_too).to_bit_set()));
         assert!(set.rank(END) <= self.all.len() && set.len_range(5, END / 4) <= self.all.len());
         let mut copy = other.clone();
         copy |= set;

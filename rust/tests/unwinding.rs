@@ -2,7 +2,6 @@
 
 use std::cell::Cell;
 use std::collections::BTreeSet;
-use std::mem;
 use std::panic::{catch_unwind, resume_unwind, AssertUnwindSafe};
 
 use hibitset::{BitSet, BitSetLike, Index};
@@ -176,14 +175,12 @@ fn a_panic_in_each_call_of_a_closure() {
 }
 
 #[test]
-fn a_drain_that_is_forgotten() {
+fn a_drain_that_is_left_early() {
     let start: BitSet = (0..100).map(|i| i * 997).collect();
     let members: BTreeSet<Index> = start.iter_both().collect();
     for count in 0..=start.len() {
         let mut set = start.clone();
-        let mut drain = set.drain();
-        assert!(drain.by_ref().take(count).eq(members.iter().copied().take(count)));
-        mem::forget(drain);
+        assert!(set.drain().take(count).eq(members.iter().copied().take(count)));
         assert!((&set).iter().eq(members.iter().copied().skip(count)));
         assert_usable(&mut set);
     }
