@@ -67,10 +67,6 @@ mod face;
 
 pub use beside::Masks;
 pub use derived::hibitset_atomic::ATOMIC_MAX_EID;
-pub use derived::hibitset_base::{
-    BitIter, BitProducer, BitRevIter, BitSetAll, BitSetAnd, BitSetNot, BitSetOr, BitSetRange, BitSetXor, DrainBitIter,
-    DrainableBitSet, Index, LAYERS, MAX_EID,
-};
 /// With the feature `parallel` it is a `ParallelIterator` of rayon, whose calls run in rayon's threads. It panics there if
 /// the number of [`layers_split`](BitParIter::layers_split) is not 1, 2, 3 or 4. What follows of calls that start threads
 /// is about the proved source, whose own calls this crate keeps for itself.
@@ -83,6 +79,10 @@ pub use derived::hibitset_base::BitParIter;
 ///
 /// ---
 pub use derived::hibitset_base::BitSetLike;
+pub use derived::hibitset_base::{
+    BitIter, BitProducer, BitRevIter, BitSetAll, BitSetAnd, BitSetNot, BitSetOr, BitSetRange,
+    BitSetXor, DrainBitIter, DrainableBitSet, Index, LAYERS, MAX_EID,
+};
 pub use derived::hibitset_roaring::{Fault as RoaringFault, Malformed, ReadError as RoaringError};
 pub use face::{AtomicBitSet, BitIterBoth, BitSet, BitSetLikeExt, Ranked, Seat};
 pub use support::rattle_std::alloc::{AllocError, Global};
