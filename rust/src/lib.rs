@@ -67,8 +67,20 @@ mod face;
 
 pub use beside::Masks;
 pub use derived::hibitset_atomic::ATOMIC_MAX_EID;
+/// With the feature `parallel` it is a `ParallelIterator` of rayon, whose calls run in rayon's threads. It panics there if
+/// the number of [`layers_split`](BitParIter::layers_split) is not 1, 2, 3 or 4. What follows of calls that start threads
+/// is about the proved source, whose own calls this crate keeps for itself.
+///
+/// ---
+pub use derived::hibitset_base::BitParIter;
+/// Types of yours may have it: five words by position, and `contains`. Rust checks neither that a summary bit is set over
+/// each nonzero word, nor that the provided methods, which are final in the proved source, are left alone. A layer above 4
+/// acts as 4; [`BitSet`] and [`AtomicBitSet`] panic at one.
+///
+/// ---
+pub use derived::hibitset_base::BitSetLike;
 pub use derived::hibitset_base::{
-    BitIter, BitParIter, BitProducer, BitRevIter, BitSetAll, BitSetAnd, BitSetLike, BitSetNot, BitSetOr, BitSetRange,
+    BitIter, BitProducer, BitRevIter, BitSetAll, BitSetAnd, BitSetNot, BitSetOr, BitSetRange,
     BitSetXor, DrainBitIter, DrainableBitSet, Index, LAYERS, MAX_EID,
 };
 pub use derived::hibitset_roaring::{Fault as RoaringFault, Malformed, ReadError as RoaringError};

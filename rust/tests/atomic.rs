@@ -7,7 +7,8 @@ use std::thread;
 
 use common::Numbers;
 use hibitset::{
-    AtomicBitSet, BitSet, BitSetLike, BitSetLikeExt, DrainableBitSet, Index, Seat, ATOMIC_MAX_EID, MAX_EID,
+    AtomicBitSet, BitSet, BitSetLike, BitSetLikeExt, DrainableBitSet, Index, Seat, ATOMIC_MAX_EID,
+    MAX_EID,
 };
 
 fn assert_members(set: &AtomicBitSet, model: &BTreeSet<Index>) {

@@ -5,7 +5,9 @@ mod common;
 use std::collections::BTreeSet;
 
 use common::{assert_at, assert_members};
-use hibitset::{BitSet, BitSetAll, BitSetAnd, BitSetLike, BitSetLikeExt, BitSetNot, BitSetOr, Index, MAX_EID};
+use hibitset::{
+    BitSet, BitSetAll, BitSetAnd, BitSetLike, BitSetLikeExt, BitSetNot, BitSetOr, Index, MAX_EID,
+};
 
 const MAX: Index = MAX_EID as Index;
 

@@ -4,7 +4,10 @@ use std::collections::BTreeMap;
 use std::sync::atomic::{AtomicU32, Ordering};
 use std::thread;
 
-use hibitset::{AtomicBitSet, BitIter, BitSet, BitSetAll, BitSetAnd, BitSetLike, BitSetNot, BitSetOr, DrainableBitSet};
+use hibitset::{
+    AtomicBitSet, BitIter, BitSet, BitSetAll, BitSetAnd, BitSetLike, BitSetNot, BitSetOr,
+    DrainableBitSet,
+};
 
 type Entity = u32;
 
@@ -59,7 +62,10 @@ struct Storage<T> {
 
 impl<T> Default for Storage<T> {
     fn default() -> Storage<T> {
-        Storage { mask: BitSet::new(), values: Vec::new() }
+        Storage {
+            mask: BitSet::new(),
+            values: Vec::new(),
+        }
     }
 }
 
@@ -83,7 +89,12 @@ impl<T> Storage<T> {
 
     fn drain(&mut self) -> impl Iterator<Item = (Entity, T)> + '_ {
         let values = &mut self.values;
-        self.mask.drain().map(move |entity| (entity, values[entity as usize].take().expect("the mask has it")))
+        self.mask.drain().map(move |entity| {
+            (
+                entity,
+                values[entity as usize].take().expect("the mask has it"),
+            )
+        })
     }
 }
 
@@ -102,7 +113,10 @@ pub trait Join {
         Self: Sized,
     {
         let (mask, values) = self.open();
-        JoinIter { keys: mask.iter(), values }
+        JoinIter {
+            keys: mask.iter(),
+            values,
+        }
     }
 }
 
@@ -175,7 +189,10 @@ impl<'a, T> Join for Maybe<'a, T> {
     }
 
     fn get(storage: &&'a Storage<T>, entity: Entity) -> Option<&'a T> {
-        storage.mask.contains(entity).then(|| <&Storage<T>>::get(&&storage.values[..], entity))
+        storage
+            .mask
+            .contains(entity)
+            .then(|| <&Storage<T>>::get(&&storage.values[..], entity))
     }
 }
 
@@ -251,7 +268,13 @@ mod parallel {
             let (mask, values) = self.0.open();
             // Split by three layers.
             let keys = BitProducer((&mask).iter(), 3);
-            bridge_unindexed(Producer::<J> { keys, values: &values }, consumer)
+            bridge_unindexed(
+                Producer::<J> {
+                    keys,
+                    values: &values,
+                },
+                consumer,
+            )
         }
     }
 
@@ -265,7 +288,10 @@ mod parallel {
 
         fn split(self) -> (Self, Option<Self>) {
             let (first, second) = self.keys.split();
-            let with = |keys| Producer { keys, values: self.values };
+            let with = |keys| Producer {
+                keys,
+                values: self.values,
+            };
             (with(first), second.map(with))
         }
 
@@ -292,15 +318,29 @@ fn world_of(count: u32) -> (World, Model) {
     let mut world = World::default();
     let entities = &world.entities;
     let mut created: Vec<Entity> = thread::scope(|scope| {
-        let creators: Vec<_> =
-            (0..4).map(|_| scope.spawn(move || (0..count / 4).map(|_| entities.create()).collect::<Vec<_>>())).collect();
-        creators.into_iter().flat_map(|creator| creator.join().expect("the thread ended")).collect()
+        let creators: Vec<_> = (0..4)
+            .map(|_| {
+                scope.spawn(move || {
+                    (0..count / 4)
+                        .map(|_| entities.create())
+                        .collect::<Vec<_>>()
+                })
+            })
+            .collect();
+        creators
+            .into_iter()
+            .flat_map(|creator| creator.join().expect("the thread ended"))
+            .collect()
     });
     created.sort_unstable();
     assert!((&world.entities).join().eq(created.iter().copied()));
     let mut model = Model::new();
     for entity in created {
-        let parts = (Some(i64::from(entity)), (entity % 3 == 0).then_some(7), entity % 5 == 0);
+        let parts = (
+            Some(i64::from(entity)),
+            (entity % 3 == 0).then_some(7),
+            entity % 5 == 0,
+        );
         world.positions.insert(entity, i64::from(entity));
         if let Some(speed) = parts.1 {
             world.speeds.insert(entity, speed);
@@ -314,13 +354,32 @@ fn world_of(count: u32) -> (World, Model) {
 }
 
 fn assert_joins(world: &World, model: &Model) {
-    let World { entities, positions, speeds, frozen } = world;
-    let moving = model.iter().filter_map(|(&entity, &(position, speed, _))| Some((entity, position?, speed?)));
-    assert!((entities, positions, speeds).join().map(|(entity, &p, &s)| (entity, p, s)).eq(moving));
-    let free = model.iter().filter(|(_, parts)| parts.1.is_some() && !parts.2).map(|(&entity, _)| entity);
-    assert!((entities, speeds, Not(frozen)).join().map(|(entity, ..)| entity).eq(free));
+    let World {
+        entities,
+        positions,
+        speeds,
+        frozen,
+    } = world;
+    let moving = model
+        .iter()
+        .filter_map(|(&entity, &(position, speed, _))| Some((entity, position?, speed?)));
+    assert!((entities, positions, speeds)
+        .join()
+        .map(|(entity, &p, &s)| (entity, p, s))
+        .eq(moving));
+    let free = model
+        .iter()
+        .filter(|(_, parts)| parts.1.is_some() && !parts.2)
+        .map(|(&entity, _)| entity);
+    assert!((entities, speeds, Not(frozen))
+        .join()
+        .map(|(entity, ..)| entity)
+        .eq(free));
     let speed_of = model.iter().map(|(&entity, parts)| (entity, parts.1));
-    assert!((entities, Maybe(speeds)).join().map(|(entity, speed)| (entity, speed.copied())).eq(speed_of));
+    assert!((entities, Maybe(speeds))
+        .join()
+        .map(|(entity, speed)| (entity, speed.copied()))
+        .eq(speed_of));
 }
 
 #[test]
@@ -343,8 +402,14 @@ fn systems_join_what_they_need() {
         world.frozen.remove(entity);
     }
     assert_joins(&world, &model);
-    let drained = world.speeds.drain().map(|(entity, _)| entity).collect::<Vec<_>>();
-    let had = model.iter_mut().filter_map(|(&entity, parts)| parts.1.take().map(|_| entity));
+    let drained = world
+        .speeds
+        .drain()
+        .map(|(entity, _)| entity)
+        .collect::<Vec<_>>();
+    let had = model
+        .iter_mut()
+        .filter_map(|(&entity, parts)| parts.1.take().map(|_| entity));
     assert_eq!(drained, had.collect::<Vec<_>>());
     assert_joins(&world, &model);
 }
@@ -356,8 +421,15 @@ fn a_join_in_parts_has_the_same_items() {
     use rayon::iter::ParallelIterator;
 
     let (world, _) = world_of(40_000);
-    let World { entities, positions, speeds, frozen } = &world;
-    let expected: Vec<_> = (entities, (positions, speeds), Not(frozen)).join().collect();
+    let World {
+        entities,
+        positions,
+        speeds,
+        frozen,
+    } = &world;
+    let expected: Vec<_> = (entities, (positions, speeds), Not(frozen))
+        .join()
+        .collect();
     let mut items: Vec<_> = JoinParIter((entities, (positions, speeds), Not(frozen))).collect();
     items.sort_unstable();
     assert!(items == expected && items.len() > 10_000);
@@ -374,9 +446,15 @@ fn masks_are_combined_in_place() {
     let (mut world, _) = world_of(1_000);
     let mut dirty = world.speeds.mask.clone();
     dirty |= &world.frozen.mask;
-    assert_eq!(dirty, (0..1_000).filter(|i| i % 3 == 0 || i % 5 == 0).collect());
+    assert_eq!(
+        dirty,
+        (0..1_000).filter(|i| i % 3 == 0 || i % 5 == 0).collect()
+    );
     dirty &= &BitSetNot(&world.frozen.mask);
-    assert_eq!(dirty, (0..1_000).filter(|i| i % 3 == 0 && i % 5 != 0).collect());
+    assert_eq!(
+        dirty,
+        (0..1_000).filter(|i| i % 3 == 0 && i % 5 != 0).collect()
+    );
     dirty ^= &world.speeds.mask;
     assert_eq!(dirty, (0..1_000).filter(|i| i % 15 == 0).collect());
     assert!(world.frozen.mask.contains_set(&dirty));

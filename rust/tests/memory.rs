@@ -9,7 +9,10 @@ use std::panic::{catch_unwind, resume_unwind, AssertUnwindSafe};
 use std::process::Command;
 use std::ptr::null_mut;
 
-use hibitset::{AllocError, AtomicBitSet, BitSet, BitSetLike, BitSetLikeExt, Index, Ranked, RoaringError, MAX_EID};
+use hibitset::{
+    AllocError, AtomicBitSet, BitSet, BitSetLike, BitSetLikeExt, Index, Ranked, RoaringError,
+    MAX_EID,
+};
 
 thread_local! {
     // How many requests are let through before one is refused; none is refused if it is negative.
@@ -176,12 +179,24 @@ fn a_refused_call_leaves_an_atomic_set() {
     for refused in 0.. {
         let mut set = AtomicBitSet::new();
         let (added, was_refused) = with_refused(refused, || set.try_add(70_000));
-        assert_eq!(added, if was_refused { Err(AllocError) } else { Ok(false) });
-        assert_eq!((set.contains(70_000), set.is_empty()), (!was_refused, was_refused));
+        assert_eq!(
+            added,
+            if was_refused {
+                Err(AllocError)
+            } else {
+                Ok(false)
+            }
+        );
+        assert_eq!(
+            (set.contains(70_000), set.is_empty()),
+            (!was_refused, was_refused)
+        );
         assert_eq!(set.add(70_000), !was_refused);
         let (made, was_refused_too) = with_refused(refused, || AtomicBitSet::try_new().map(drop));
         assert_eq!((made.is_err(), was_refused_too), (was_refused, was_refused));
-        let (shared, _) = with_refused(if was_refused { refused } else { -1 }, || AtomicBitSet::new().try_share());
+        let (shared, _) = with_refused(if was_refused { refused } else { -1 }, || {
+            AtomicBitSet::new().try_share()
+        });
         match shared {
             Ok(seat) => assert!(!was_refused && seat.is_whole()),
             Err(set) => assert!(was_refused && set.is_empty()),
@@ -198,7 +213,8 @@ fn an_atomic_set_takes_memory_once() {
     let mut set = AtomicBitSet::new();
     REFUSED.set(0);
     // An empty set has none, whatever is asked of it.
-    let is_empty = set.is_empty() && !set.contains(5) && (&set).iter().next().is_none() && !set.remove(5);
+    let is_empty =
+        set.is_empty() && !set.contains(5) && (&set).iter().next().is_none() && !set.remove(5);
     set.clear();
     assert_eq!(REFUSED.replace(-1), 0);
     assert!(is_empty);

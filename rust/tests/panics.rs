@@ -99,8 +99,12 @@ fn state_after(members: &[Index], given: usize) -> ([usize; 5], [u32; 4]) {
         let word = |index: Index| u64::from(index) >> (6 * (layer + 1));
         // What is left of the word over the first member that is left, and above layer 0 only behind it.
         let own = first_left >> (6 * layer);
-        let bits = members[given..].iter().filter(|&&index| word(index) == word(first_left));
-        let bits = bits.map(|index| index >> (6 * layer)).filter(|&bit| layer == 0 || bit > own);
+        let bits = members[given..]
+            .iter()
+            .filter(|&&index| word(index) == word(first_left));
+        let bits = bits
+            .map(|index| index >> (6 * layer))
+            .filter(|&bit| layer == 0 || bit > own);
         masks[layer] = bits.fold(0, |mask, bit| mask | 1 << (bit % 64));
         if layer < 4 {
             prefixes[layer] = (own / 64) * 64;
@@ -111,13 +115,26 @@ fn state_after(members: &[Index], given: usize) -> ([usize; 5], [u32; 4]) {
 
 #[test]
 fn an_iteration_goes_on_from_a_state() {
-    let members = [5, 7, 63, 64, 130, 5_000, 300_000, 300_001, 20_000_000, MAX - 1];
+    let members = [
+        5,
+        7,
+        63,
+        64,
+        130,
+        5_000,
+        300_000,
+        300_001,
+        20_000_000,
+        MAX - 1,
+    ];
     let set = BitSet::from(members);
     for given in 0..members.len() {
         let (masks, prefixes) = state_after(&members, given);
         assert!(BitIter::new(&set, masks, prefixes).eq(members[given..].iter().copied()));
         let mut drained = set.clone();
-        assert!(DrainBitIter::new(&mut drained, masks, prefixes).eq(members[given..].iter().copied()));
+        assert!(
+            DrainBitIter::new(&mut drained, masks, prefixes).eq(members[given..].iter().copied())
+        );
         assert!((&drained).iter().eq(members[..given].iter().copied()));
     }
     let small = BitSet::from([5, 70]);
@@ -135,14 +152,23 @@ fn a_state_of_no_iteration_panics() {
         // The word of layer 0 is under the bit that layer 1 has left, or behind it, or under another word.
         ([1, 1, 0, 0, 0], [0, 0, 0, 0], "does not lie before"),
         ([1, 1, 0, 0, 0], [128, 0, 0, 0], "does not lie before"),
-        ([1, 1 << 63, 0, 0, 0], [4096, 0, 0, 0], "does not lie before"),
+        (
+            [1, 1 << 63, 0, 0, 0],
+            [4096, 0, 0, 0],
+            "does not lie before",
+        ),
     ];
     for (masks, prefixes, text) in states {
         let result = catch_unwind(|| BitIter::new(&set, masks, prefixes).count());
-        let message = *result.expect_err("it panics").downcast::<String>().expect("the panic has a text");
+        let message = *result
+            .expect_err("it panics")
+            .downcast::<String>()
+            .expect("the panic has a text");
         assert!(message.contains(text), "{message}");
         let mut drained = set.clone();
-        let message = message_of(&mut drained, |set| drop(DrainBitIter::new(set, masks, prefixes)));
+        let message = message_of(&mut drained, |set| {
+            _ = DrainBitIter::new(set, masks, prefixes)
+        });
         assert!(message.contains(text) && drained == set, "{message}");
     }
 }

@@ -22,7 +22,10 @@ fn parts_have_all_members() {
         assert!(set.iter().eq(list));
         let sum: u64 = set.par_iter().map(u64::from).sum();
         assert_eq!(sum, set.iter().map(u64::from).sum());
-        assert_eq!(set.par_iter().filter(|i| i % 7 == 0).min(), set.iter().find(|i| i % 7 == 0));
+        assert_eq!(
+            set.par_iter().filter(|i| i % 7 == 0).min(),
+            set.iter().find(|i| i % 7 == 0)
+        );
     }
     assert_eq!(a.clone().par_iter().max(), a.last());
 }
@@ -31,7 +34,10 @@ fn parts_have_all_members() {
 fn parts_go_to_several_threads() {
     let set: BitSet = (0..200_000).collect();
     let seen = Mutex::new((HashSet::new(), 0));
-    let pool = rayon::ThreadPoolBuilder::new().num_threads(4).build().expect("threads are there");
+    let pool = rayon::ThreadPoolBuilder::new()
+        .num_threads(4)
+        .build()
+        .expect("threads are there");
     pool.install(|| {
         (&set).par_iter().for_each(|_| {
             let mut seen = seen.lock().expect("no thread panicked");
@@ -40,7 +46,11 @@ fn parts_go_to_several_threads() {
         });
     });
     let (threads, count) = seen.into_inner().expect("no thread panicked");
-    assert!(count == 200_000 && threads.len() > 1, "{} threads", threads.len());
+    assert!(
+        count == 200_000 && threads.len() > 1,
+        "{} threads",
+        threads.len()
+    );
 }
 
 /// All items of a producer, which is split as often as it can be.
@@ -62,11 +72,20 @@ fn a_split_keeps_the_order() {
         for layers in [0, 1, 2, 3, 4, 255] {
             let mut parts = Vec::new();
             split_all(BitProducer((&set).iter(), layers), &mut parts);
-            assert!(parts.concat().into_iter().eq(model.iter().copied()), "{layers} layers");
+            assert!(
+                parts.concat().into_iter().eq(model.iter().copied()),
+                "{layers} layers"
+            );
             // A part has whole ranges of indices.
             let shift = 6 * (4 - u32::from(layers.min(3)));
-            let ranges: Vec<Index> = parts.iter().flat_map(|part| part.iter().map(|i| i >> shift).collect::<BTreeSet<_>>()).collect();
-            assert!(ranges.windows(2).all(|pair| pair[0] < pair[1]), "{layers} layers");
+            let ranges: Vec<Index> = parts
+                .iter()
+                .flat_map(|part| part.iter().map(|i| i >> shift).collect::<BTreeSet<_>>())
+                .collect();
+            assert!(
+                ranges.windows(2).all(|pair| pair[0] < pair[1]),
+                "{layers} layers"
+            );
         }
     }
 }
@@ -75,12 +94,22 @@ fn a_split_keeps_the_order() {
 fn layers_to_split_are_counted() {
     let set: BitSet = (0..100_000).step_by(3).collect();
     for layers in 1..5 {
-        assert_eq!(BitParIter::new(&set).layers_split(layers).count(), set.len());
+        assert_eq!(
+            BitParIter::new(&set).layers_split(layers).count(),
+            set.len()
+        );
     }
     for layers in [0, 5, 255] {
-        let result = std::panic::catch_unwind(|| BitParIter::new(&set).layers_split(layers).count());
-        let message = *result.expect_err("it panics").downcast::<String>().expect("the panic has a text");
-        assert_eq!(message, format!("a walk is cut in 1 to 4 layers, and not in {layers}"));
+        let result =
+            std::panic::catch_unwind(|| BitParIter::new(&set).layers_split(layers).count());
+        let message = *result
+            .expect_err("it panics")
+            .downcast::<String>()
+            .expect("the panic has a text");
+        assert_eq!(
+            message,
+            format!("a walk is cut in 1 to 4 layers, and not in {layers}")
+        );
     }
 }
 
@@ -88,7 +117,9 @@ fn layers_to_split_are_counted() {
 fn a_panic_in_a_part_reaches_the_caller() {
     let set: BitSet = (0..100_000).collect();
     let result = std::panic::catch_unwind(|| {
-        (&set).par_iter().for_each(|index| assert!(index != 77_777, "one index"));
+        (&set)
+            .par_iter()
+            .for_each(|index| assert!(index != 77_777, "one index"));
     });
     assert!(result.is_err());
 }

@@ -23,9 +23,15 @@ fn a_binary_format_has_the_bytes_of_a_stream() {
         let bytes = bincode::serialize(&set).expect("it is written");
         // Behind their number.
         assert_eq!(&bytes[8..], set.to_roaring());
-        assert_eq!(bincode::deserialize::<BitSet>(&bytes).expect("it is read"), set);
+        assert_eq!(
+            bincode::deserialize::<BitSet>(&bytes).expect("it is read"),
+            set
+        );
         // From a reader, whose bytes are not borrowed.
-        assert_eq!(bincode::deserialize_from::<_, BitSet>(&bytes[..]).expect("it is read"), set);
+        assert_eq!(
+            bincode::deserialize_from::<_, BitSet>(&bytes[..]).expect("it is read"),
+            set
+        );
     }
 }
 
@@ -33,10 +39,19 @@ fn a_binary_format_has_the_bytes_of_a_stream() {
 fn a_text_has_the_list_of_members() {
     for set in sets() {
         let text = serde_json::to_string(&set).expect("it is written");
-        assert_eq!(text, serde_json::to_string(&set.to_vec()).expect("it is written"));
-        assert_eq!(serde_json::from_str::<BitSet>(&text).expect("it is read"), set);
+        assert_eq!(
+            text,
+            serde_json::to_string(&set.to_vec()).expect("it is written")
+        );
+        assert_eq!(
+            serde_json::from_str::<BitSet>(&text).expect("it is read"),
+            set
+        );
         let value = serde_json::to_value(&set).expect("it is written");
-        assert_eq!(serde_json::from_value::<BitSet>(value).expect("it is read"), set);
+        assert_eq!(
+            serde_json::from_value::<BitSet>(value).expect("it is read"),
+            set
+        );
     }
     let unordered = serde_json::from_str::<BitSet>("[7, 5, 7]").expect("it is read");
     assert_eq!(unordered.to_vec(), [5, 7]);
@@ -68,21 +83,43 @@ fn a_field_comes_back() {
         name: String,
         dead: Option<BitSet>,
     }
-    let world = World { alive: BitSet::from([5, 70_000]), name: "a".into(), dead: Some(BitSet::new()) };
+    let world = World {
+        alive: BitSet::from([5, 70_000]),
+        name: "a".into(),
+        dead: Some(BitSet::new()),
+    };
     let text = serde_json::to_string(&world).expect("it is written");
     assert_eq!(text, r#"{"alive":[5,70000],"name":"a","dead":[]}"#);
-    assert_eq!(serde_json::from_str::<World>(&text).expect("it is read"), world);
+    assert_eq!(
+        serde_json::from_str::<World>(&text).expect("it is read"),
+        world
+    );
     let bytes = bincode::serialize(&world).expect("it is written");
-    assert_eq!(bincode::deserialize::<World>(&bytes).expect("it is read"), world);
+    assert_eq!(
+        bincode::deserialize::<World>(&bytes).expect("it is read"),
+        world
+    );
 }
 
 fn error_of<'a, T: Deserialize<'a> + std::fmt::Debug>(text: &'a str) -> String {
-    serde_json::from_str::<T>(text).expect_err("it is refused").to_string()
+    serde_json::from_str::<T>(text)
+        .expect_err("it is refused")
+        .to_string()
 }
 
 #[test]
 fn what_is_no_list_of_indices_is_refused() {
-    for text in ["[-1]", "[4294967296]", "[1.5]", "[\"5\"]", "{}", "5", "[5", "null", "\"abc\""] {
+    for text in [
+        "[-1]",
+        "[4294967296]",
+        "[1.5]",
+        "[\"5\"]",
+        "{}",
+        "5",
+        "[5",
+        "null",
+        "\"abc\"",
+    ] {
         error_of::<BitSet>(text);
     }
     assert_eq!(
@@ -106,9 +143,13 @@ fn what_is_no_stream_is_refused() {
         }
     }
     let cut = bincode::serialize(&good[8..good.len() - 1]).expect("it is written");
-    let error = bincode::deserialize::<BitSet>(&cut).expect_err("it is refused").to_string();
+    let error = bincode::deserialize::<BitSet>(&cut)
+        .expect_err("it is refused")
+        .to_string();
     assert!(error.contains("at byte"), "{error}");
     let far = bincode::serialize(&BitSet::from([1 << 24])).expect("it is written");
-    let error = bincode::deserialize::<AtomicBitSet>(&far).expect_err("it is refused").to_string();
+    let error = bincode::deserialize::<AtomicBitSet>(&far)
+        .expect_err("it is refused")
+        .to_string();
     assert!(error.contains("a key is out of range at byte 8"), "{error}");
 }

@@ -8,7 +8,9 @@ use std::sync::Barrier;
 use std::thread;
 
 use common::Numbers;
-use hibitset::{AtomicBitSet, BitSet, BitSetLike, BitSetLikeExt, DrainableBitSet, Index, ATOMIC_MAX_EID};
+use hibitset::{
+    AtomicBitSet, BitSet, BitSetLike, BitSetLikeExt, DrainableBitSet, Index, ATOMIC_MAX_EID,
+};
 
 const END: Index = ATOMIC_MAX_EID as Index;
 
@@ -32,7 +34,9 @@ fn each_index_is_new_once_and_none_is_lost() {
         let mut set = AtomicBitSet::from(old);
         let lists = [0, 1, 0, 1].map(|list| {
             let mut numbers = Numbers::new(10 * round + list);
-            (0..5_000).map(|_| numbers.below(END >> (round % 16))).collect::<Vec<_>>()
+            (0..5_000)
+                .map(|_| numbers.below(END >> (round % 16)))
+                .collect::<Vec<_>>()
         });
         let fresh = AtomicUsize::new(0);
         thread::scope(|scope| {
@@ -130,13 +134,23 @@ impl Growing<'_> {
         let set = self.set;
         self.assert_list(&set.iter().collect::<Vec<_>>());
         self.assert_list(&set.to_vec());
-        self.assert_list(&set.iter_rev().collect::<BTreeSet<_>>().into_iter().collect::<Vec<_>>());
+        self.assert_list(
+            &set.iter_rev()
+                .collect::<BTreeSet<_>>()
+                .into_iter()
+                .collect::<Vec<_>>(),
+        );
         self.assert_number(set.len());
-        assert!(set.first() <= self.old.first() && set.last() >= self.old.last() && !set.is_empty());
+        assert!(
+            set.first() <= self.old.first() && set.last() >= self.old.last() && !set.is_empty()
+        );
         let both: BitSet = (set & other).iter().collect();
         assert!(both.contains_set(&(other & &self.old).to_bit_set()) && other.contains_set(&both));
         let without: BitSet = (other - set).iter().collect();
-        assert!(without.contains_set(&(other - &self.all).to_bit_set()) && without.is_disjoint(&self.old));
+        assert!(
+            without.contains_set(&(other - &self.all).to_bit_set())
+                && without.is_disjoint(&self.old)
+        );
         #[cfg(feature = "parallel")]
         {
             use rayon::iter::ParallelIterator;
@@ -149,9 +163,17 @@ impl Growing<'_> {
     /// Calls whose answers may be of two moments: they return, and give what was added.
     fn look_twice(&self, other: &BitSet) {
         let set = self.set;
-        let selected = [set.select(100), set.select(1 << 16), set.last_before(END / 2)];
-        assert!(selected.into_iter().flatten().all(|index| self.all.contains(index)));
-        assert!(self.all.contains_set(&(set ^ set).to_bit_set()));
+        let selected = [
+            set.select(100),
+            set.select(1 << 16),
+            set.last_before(END / 2),
+        ];
+        assert!(selected
+            .into_iter()
+            .flatten()
+            .all(|index| self.all.contains(index)));
+        let (same, set_too) = (set, set);
+        assert!(self.all.contains_set(&(same ^ set_too).to_bit_set()));
         assert!(set.rank(END) <= self.all.len() && set.len_range(5, END / 4) <= self.all.len());
         let mut copy = other.clone();
         copy |= set;
@@ -160,7 +182,9 @@ impl Growing<'_> {
         assert!(copy.is_disjoint(&self.old));
         copy.clone_from(other);
         copy &= set;
-        assert!(copy.contains_set(&(other & &self.old).to_bit_set()) && self.all.contains_set(&copy));
+        assert!(
+            copy.contains_set(&(other & &self.old).to_bit_set()) && self.all.contains_set(&copy)
+        );
     }
 }
 
@@ -168,14 +192,27 @@ impl Growing<'_> {
 fn looks_at_a_set_that_grows() {
     let mut numbers = Numbers::new(7);
     let old: BitSet = (0..2_000).map(|i| i * 4_099 % END).collect();
-    let lists = [16, 24].map(|bits| (0..30_000).map(|_| numbers.below(1 << bits)).collect::<Vec<_>>());
+    let lists = [16, 24].map(|bits| {
+        (0..30_000)
+            .map(|_| numbers.below(1 << bits))
+            .collect::<Vec<_>>()
+    });
     let other: BitSet = (0..1 << 18).step_by(3).collect();
     let set: AtomicBitSet = (&old).into_iter().collect();
-    let all = (&old).into_iter().chain(lists.iter().flatten().copied()).collect();
-    let growing = Growing { set: &set, old, all };
+    let all = (&old)
+        .into_iter()
+        .chain(lists.iter().flatten().copied())
+        .collect();
+    let growing = Growing {
+        set: &set,
+        old,
+        all,
+    };
     let done = AtomicBool::new(false);
     thread::scope(|scope| {
-        let adders = lists.each_ref().map(|list| scope.spawn(|| add_all(&set, list)));
+        let adders = lists
+            .each_ref()
+            .map(|list| scope.spawn(|| add_all(&set, list)));
         for _ in 0..2 {
             scope.spawn(|| loop {
                 let is_last = done.load(Ordering::Acquire);

@@ -8,7 +8,10 @@ use std::hash::Hash;
 use std::iter::FusedIterator;
 
 use common::Numbers;
-use hibitset::{AtomicBitSet, BitIter, BitIterBoth, BitRevIter, BitSet, BitSetLike, DrainBitIter, Index, MAX_EID};
+use hibitset::{
+    AtomicBitSet, BitIter, BitIterBoth, BitRevIter, BitSet, BitSetLike, DrainBitIter, Index,
+    MAX_EID,
+};
 
 /// A set with these members that has more capacity than they need.
 fn wide(model: &BTreeSet<Index>) -> BitSet {
@@ -24,9 +27,16 @@ fn models() -> Vec<BTreeSet<Index>> {
     let mut models = vec![BTreeSet::new()];
     for round in 0..80 {
         let len = numbers.below(6);
-        models.push((0..len).map(|_| numbers.below(64 << (round % 14))).collect());
+        models.push(
+            (0..len)
+                .map(|_| numbers.below(64 << (round % 14)))
+                .collect(),
+        );
     }
-    let begun = models.iter().map(|model| model.iter().copied().take(2).collect()).collect::<Vec<_>>();
+    let begun = models
+        .iter()
+        .map(|model| model.iter().copied().take(2).collect())
+        .collect::<Vec<_>>();
     models.extend(begun);
     models
 }
@@ -109,7 +119,11 @@ fn types_have_traits() {
     assert_fused::<BitIterBoth<BitSet>>();
     fn assert_collection<'a, T>()
     where
-        T: 'a + IntoIterator<Item = Index> + From<[Index; 3]> + FromIterator<Index> + FromIterator<&'a Index>,
+        T: 'a
+            + IntoIterator<Item = Index>
+            + From<[Index; 3]>
+            + FromIterator<Index>
+            + FromIterator<&'a Index>,
         T: Extend<Index> + Extend<&'a Index> + Default + Debug,
         &'a T: IntoIterator<Item = Index>,
     {

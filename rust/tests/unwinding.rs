@@ -2,7 +2,6 @@
 
 use std::cell::Cell;
 use std::collections::BTreeSet;
-use std::mem;
 use std::panic::{catch_unwind, resume_unwind, AssertUnwindSafe};
 
 use hibitset::{BitSet, BitSetLike, Index};
@@ -58,8 +57,16 @@ impl BitSetLike for Failing<'_> {
 fn assert_summed(set: &BitSet) {
     let anew = BitSet::from_words(set.layer0_as_slice());
     let above = |set: &BitSet| {
-        [set.layer1_as_slice(), set.layer2_as_slice(), set.layer3_as_slice()].map(|words| {
-            let end = words.iter().rposition(|&word| word != 0).map_or(0, |last| last + 1);
+        [
+            set.layer1_as_slice(),
+            set.layer2_as_slice(),
+            set.layer3_as_slice(),
+        ]
+        .map(|words| {
+            let end = words
+                .iter()
+                .rposition(|&word| word != 0)
+                .map_or(0, |last| last + 1);
             words[..end].to_vec()
         })
     };
@@ -98,21 +105,36 @@ fn pairs() -> Vec<(BitSet, BitSet)> {
         (spread.clone(), dense.clone()),
         (dense.clone(), spread.clone()),
         (dense.clone(), few),
-        (dense.clone(), dense.iter_both().rev().filter(|i| i % 2 == 0).collect()),
+        (
+            dense.clone(),
+            dense.iter_both().rev().filter(|i| i % 2 == 0).collect(),
+        ),
     ]
 }
 
 /// Makes an assignment panic at one read. Returns false if it came to its end, and compares the set in either case.
 fn fails_at(start: &BitSet, other: &BitSet, assign: Assignment, reads: usize) -> bool {
     let mut set = start.clone();
-    let failing = Failing { set: other, reads_left: Cell::new(reads) };
+    let failing = Failing {
+        set: other,
+        reads_left: Cell::new(reads),
+    };
     let result = catch_unwind(AssertUnwindSafe(|| assign(&mut set, &failing)));
     // Each word is merged or as it was.
     let mut merged = start.clone();
-    assign(&mut merged, &Failing { set: other, reads_left: Cell::new(usize::MAX) });
+    assign(
+        &mut merged,
+        &Failing {
+            set: other,
+            reads_left: Cell::new(usize::MAX),
+        },
+    );
     for place in 0..set.layer0_as_slice().len() {
         let word = set.layer0(place);
-        assert!(word == start.layer0(place) || word == merged.layer0(place), "word {place}");
+        assert!(
+            word == start.layer0(place) || word == merged.layer0(place),
+            "word {place}"
+        );
     }
     assert!(result.is_err() || set == merged);
     assert_usable(&mut set);
@@ -124,7 +146,9 @@ fn a_panic_at_each_read_of_another_set() {
     let mut panics = 0;
     for (start, other) in pairs() {
         for assign in ASSIGNMENTS {
-            panics += (0..).take_while(|&reads| fails_at(&start, &other, assign, reads)).count();
+            panics += (0..)
+                .take_while(|&reads| fails_at(&start, &other, assign, reads))
+                .count();
         }
     }
     assert!(panics > 500, "{panics} panics");
@@ -176,14 +200,15 @@ fn a_panic_in_each_call_of_a_closure() {
 }
 
 #[test]
-fn a_drain_that_is_forgotten() {
+fn a_drain_that_is_left_early() {
     let start: BitSet = (0..100).map(|i| i * 997).collect();
     let members: BTreeSet<Index> = start.iter_both().collect();
     for count in 0..=start.len() {
         let mut set = start.clone();
-        let mut drain = set.drain();
-        assert!(drain.by_ref().take(count).eq(members.iter().copied().take(count)));
-        mem::forget(drain);
+        assert!(set
+            .drain()
+            .take(count)
+            .eq(members.iter().copied().take(count)));
         assert!((&set).iter().eq(members.iter().copied().skip(count)));
         assert_usable(&mut set);
     }
@@ -232,10 +257,17 @@ impl BitSetLike for Unlawful {
 #[test]
 fn a_set_that_breaks_the_law_leaves_exact_summaries() {
     for seed in 1..20 {
-        let mut set: BitSet = (0..60_000).step_by(7).chain([300_000, 20_000_000]).collect();
+        let mut set: BitSet = (0..60_000)
+            .step_by(7)
+            .chain([300_000, 20_000_000])
+            .collect();
         let other = Unlawful(Cell::new(seed * 77_777));
-        let assign: [fn(&mut BitSet, &Unlawful); 4] =
-            [|a, b| *a |= b, |a, b| *a ^= b, |a, b| *a &= b, |a, b| *a -= b];
+        let assign: [fn(&mut BitSet, &Unlawful); 4] = [
+            |a, b| *a |= b,
+            |a, b| *a ^= b,
+            |a, b| *a &= b,
+            |a, b| *a -= b,
+        ];
         for assign in assign {
             _ = catch_unwind(AssertUnwindSafe(|| assign(&mut set, &other)));
             assert_summed(&set);

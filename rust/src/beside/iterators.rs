@@ -142,7 +142,10 @@ fn check_walk(masks: &[usize; LAYERS], prefixes: &[u32; LAYERS - 1]) {
     for layer in (0..LAYERS).filter(|&layer| masks[layer] != 0) {
         let first = prefix(layer);
         let end = 1 << (BITS * (LAYERS - layer));
-        assert!(first % 64 == 0 && first < end, "the prefix {first} of layer {layer} is no multiple of 64 below {end}");
+        assert!(
+            first % 64 == 0 && first < end,
+            "the prefix {first} of layer {layer} is no multiple of 64 below {end}"
+        );
         for above in (layer + 1..LAYERS).filter(|&above| masks[above] != 0) {
             assert!(
                 lies_before(layer, first, above, masks[above], prefix(above)),
@@ -197,7 +200,9 @@ impl<'a, T> DrainBitIter<'a, T> {
 #[inline]
 pub(crate) fn size_hint(masks: &[usize; LAYERS]) -> (usize, Option<usize>) {
     let least = masks[0].count_ones() as usize;
-    let most = masks.iter().rev().fold(0, |most: usize, mask| 64 * most + mask.count_ones() as usize);
+    let most = masks.iter().rev().fold(0, |most: usize, mask| {
+        64 * most + mask.count_ones() as usize
+    });
     (least, Some(most))
 }
 

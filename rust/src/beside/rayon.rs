@@ -17,7 +17,11 @@ impl<T: BitSetLike + Send + Sync> ParallelIterator for BitParIter<T> {
 
     fn drive_unindexed<C: UnindexedConsumer<Index>>(self, consumer: C) -> C::Result {
         let BitParIter { set, layers, .. } = self;
-        assert!((1..LAYERS as u8).contains(&layers), "a walk is cut in 1 to {} layers, and not in {layers}", LAYERS - 1);
+        assert!(
+            (1..LAYERS as u8).contains(&layers),
+            "a walk is cut in 1 to {} layers, and not in {layers}",
+            LAYERS - 1
+        );
         bridge_unindexed(BitProducer((&set).iter(), layers - 1), consumer)
     }
 }
@@ -31,7 +35,10 @@ impl<'a, T: BitSetLike + Send + Sync> UnindexedProducer for BitProducer<'a, T> {
         let BitProducer(walk, layers) = self;
         let looks = layers.min(MOST_CUT_LAYERS) + 1;
         let (first, second) = BitProducer::split(BitProducer(walk, looks));
-        (BitProducer(first.0, layers), second.map(|second| BitProducer(second.0, layers)))
+        (
+            BitProducer(first.0, layers),
+            second.map(|second| BitProducer(second.0, layers)),
+        )
     }
 
     fn fold_with<F: Folder<Index>>(self, folder: F) -> F {

@@ -2,7 +2,9 @@
 //! the seats can be left out.
 
 use crate::derived::hibitset_atomic::layers::ATOMIC_LAYERS;
-use crate::derived::hibitset_atomic::shared::layout::{LAYER1_START, LAYER2_START, LAYER3_START, ROW_WORDS, SHARES};
+use crate::derived::hibitset_atomic::shared::layout::{
+    LAYER1_START, LAYER2_START, LAYER3_START, ROW_WORDS, SHARES,
+};
 use crate::derived::hibitset_atomic::shared::types::{Seat, SharedBitSet, TableSeat};
 use crate::derived::hibitset_atomic::ATOMIC_MAX_EID;
 use crate::derived::hibitset_base::like::BitSetLike;
@@ -21,20 +23,29 @@ impl Seat {
     /// A seat of one share, for one call or one read.
     #[inline]
     pub(crate) fn erased() -> Seat {
-        Seat { pass: TableSeat::erased(), weight: 1 }
+        Seat {
+            pass: TableSeat::erased(),
+            weight: 1,
+        }
     }
 
     /// The seat with all shares, where no other is in use.
     #[inline]
     pub(crate) fn opening() -> Seat {
-        Seat { pass: TableSeat::erased(), weight: SHARES }
+        Seat {
+            pass: TableSeat::erased(),
+            weight: SHARES,
+        }
     }
 }
 
 impl SharedBitSet {
     /// Returns what `share` makes of the empty set. Without memory it ends the process.
     pub(crate) fn empty() -> SharedBitSet {
-        SharedBitSet { table: Table::of_zeros(ROW_WORDS), alloc: Global }
+        SharedBitSet {
+            table: Table::of_zeros(ROW_WORDS),
+            alloc: Global,
+        }
     }
 
     /// Returns what `share` makes of the empty set, or the error if there is no memory. It writes to all words.
@@ -42,7 +53,10 @@ impl SharedBitSet {
         let mut row = Vec::with_capacity(Global, ROW_WORDS)?;
         row.resize(ROW_WORDS, 0)?;
         let (table, _) = Table::of_words(Global, row.as_slice(), &Snapshot::of(&row))?;
-        Ok(SharedBitSet { table, alloc: Global })
+        Ok(SharedBitSet {
+            table,
+            alloc: Global,
+        })
     }
 
     /// The word of a layer at a position, which is 0 past the layer's end.
@@ -77,10 +91,16 @@ impl SharedBitSet {
     fn clear_under(&mut self, layer: usize, position: usize) {
         let mut left = core::mem::take(self.table.shared.word_mut(LAYER_STARTS[layer] + position));
         if layer == 1 && left != 0 {
-            return self.table.shared.zero(WORD_BITS * position..WORD_BITS * (position + 1));
+            return self
+                .table
+                .shared
+                .zero(WORD_BITS * position..WORD_BITS * (position + 1));
         }
         while left != 0 {
-            self.clear_under(layer - 1, WORD_BITS * position + left.trailing_zeros() as usize);
+            self.clear_under(
+                layer - 1,
+                WORD_BITS * position + left.trailing_zeros() as usize,
+            );
             left &= left - 1;
         }
     }

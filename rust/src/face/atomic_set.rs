@@ -88,7 +88,9 @@ impl AtomicBitSet {
         if id as usize >= ATOMIC_MAX_EID {
             index_out_of_range(id, ATOMIC_MAX_EID);
         }
-        self.0.get_or_make().add_atomic(&mut proved::shared::Seat::erased(), id)
+        self.0
+            .get_or_make()
+            .add_atomic(&mut proved::shared::Seat::erased(), id)
     }
 
     /// Adds an index. Returns whether it was in the set before.
@@ -115,7 +117,10 @@ impl AtomicBitSet {
         if id as usize >= ATOMIC_MAX_EID {
             index_out_of_range(id, ATOMIC_MAX_EID);
         }
-        Ok(self.0.try_get_or_make()?.add_atomic(&mut proved::shared::Seat::erased(), id))
+        Ok(self
+            .0
+            .try_get_or_make()?
+            .add_atomic(&mut proved::shared::Seat::erased(), id))
     }
 
     /// Removes an index. Returns whether it was in the set.
@@ -164,7 +169,8 @@ impl AtomicBitSet {
     /// ```
     #[must_use]
     pub fn share(self) -> Seat {
-        self.try_share().unwrap_or_else(|_| out_of_memory(AllocError))
+        self.try_share()
+            .unwrap_or_else(|_| out_of_memory(AllocError))
     }
 
     /// Shares the set by seats, as [`share`](AtomicBitSet::share) does. The few bytes that count the seats end the

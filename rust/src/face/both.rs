@@ -27,7 +27,12 @@ pub struct BitIterBoth<'a, T> {
 impl<'a, T: BitSetLike> BitIterBoth<'a, T> {
     /// Returns an iterator over the members of a set.
     pub fn new(set: &'a T) -> Self {
-        BitIterBoth { up: set.iter(), down: set.iter_rev(), start: 0, end: Index::MAX }
+        BitIterBoth {
+            up: set.iter(),
+            down: set.iter_rev(),
+            start: 0,
+            end: Index::MAX,
+        }
     }
 }
 

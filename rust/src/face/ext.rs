@@ -24,7 +24,8 @@ pub trait BitSetLikeExt: BitSetLike + Sized {
 
     /// Returns a [`BitSet`] with the members.
     fn to_bit_set(&self) -> BitSet {
-        self.try_to_bit_set().unwrap_or_else(|error| out_of_memory(error))
+        self.try_to_bit_set()
+            .unwrap_or_else(|error| out_of_memory(error))
     }
 
     /// Returns a [`BitSet`] with the members.

@@ -11,7 +11,8 @@ impl Drop for Unfinished<'_> {
     #[cold]
     fn drop(&mut self) {
         // The empty set needs no memory.
-        *self.0 = BitSet::from_words(Global, self.0.layer0_as_slice()).unwrap_or_else(|_| BitSet::new(Global));
+        *self.0 = BitSet::from_words(Global, self.0.layer0_as_slice())
+            .unwrap_or_else(|_| BitSet::new(Global));
     }
 }
 

@@ -41,5 +41,8 @@ fn index_out_of_range(id: crate::Index, end: usize) -> ! {
 #[cold]
 #[inline(never)]
 fn bound_out_of_range(bound: u64) -> ! {
-    panic!("the bound {bound} is out of range: it is at most {}", crate::MAX_EID)
+    panic!(
+        "the bound {bound} is out of range: it is at most {}",
+        crate::MAX_EID
+    )
 }

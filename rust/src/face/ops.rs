@@ -1,6 +1,8 @@
 //! What the two sets have alike: words, operators, and items of iterators.
 
-use crate::{AtomicBitSet, BitIter, BitSet, BitSetAnd, BitSetLike, BitSetNot, BitSetOr, BitSetXor, Index};
+use crate::{
+    AtomicBitSet, BitIter, BitSet, BitSetAnd, BitSetLike, BitSetNot, BitSetOr, BitSetXor, Index,
+};
 use core::ops::{BitAnd, BitOr, BitXor, Not, Sub};
 
 // The words are those of the set within.
@@ -9,7 +11,11 @@ macro_rules! words {
         impl $crate::BitSetLike for $set {
             #[inline]
             fn get_from_layer(&self, layer: usize, idx: usize) -> usize {
-                assert!(layer < $crate::LAYERS, "a set has {} layers, and none with number {layer}", $crate::LAYERS);
+                assert!(
+                    layer < $crate::LAYERS,
+                    "a set has {} layers, and none with number {layer}",
+                    $crate::LAYERS
+                );
                 $crate::BitSetLike::get_from_layer(&self.0, layer, idx)
             }
 

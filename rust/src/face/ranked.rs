@@ -57,6 +57,8 @@ impl<T: BitSetLike> Ranked<T> {
 
 impl<T: BitSetLike + Debug> Debug for Ranked<T> {
     fn fmt(&self, f: &mut Formatter<'_>) -> fmt::Result {
-        f.debug_struct("Ranked").field("set", self.set()).finish_non_exhaustive()
+        f.debug_struct("Ranked")
+            .field("set", self.set())
+            .finish_non_exhaustive()
     }
 }

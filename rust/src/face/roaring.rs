@@ -51,7 +51,8 @@ impl BitSet {
     /// Returns the set as a stream in the portable Roaring format.
     #[must_use]
     pub fn to_roaring(&self) -> Vec<u8> {
-        self.try_to_roaring().unwrap_or_else(|error| out_of_memory(error))
+        self.try_to_roaring()
+            .unwrap_or_else(|error| out_of_memory(error))
     }
 
     /// Returns the set as a stream, as [`to_roaring`](BitSet::to_roaring) does.

@@ -50,12 +50,17 @@ const THERE: &str = "no call of the seat is running";
 
 impl Seat {
     fn of(set: Arc<SharedBitSet>, shares: Shares) -> Seat {
-        Seat { set, shares: RefCell::new(Some(shares)) }
+        Seat {
+            set,
+            shares: RefCell::new(Some(shares)),
+        }
     }
 
     /// The first seat of the set that a row has.
     pub(crate) fn first_of(row: Row) -> Seat {
-        let words = row.into_words().expect("the words of a set that is shared are made");
+        let words = row
+            .into_words()
+            .expect("the words of a set that is shared are made");
         Seat::of(Arc::new(words), Shares::opening())
     }
 
@@ -87,7 +92,8 @@ impl Seat {
     /// Adds to a set what an iteration over the shared set gives, while others add: each index of which
     /// [`contains`](Seat::contains) must be true.
     pub fn collect_into(&self, set: &mut BitSet) {
-        self.try_collect_into(set).unwrap_or_else(|error| out_of_memory(error))
+        self.try_collect_into(set)
+            .unwrap_or_else(|error| out_of_memory(error))
     }
 
     /// Adds to a set what an iteration over the shared set gives, as [`collect_into`](Seat::collect_into) does.
@@ -137,9 +143,15 @@ impl Seat {
     pub fn divide_among(self, count: usize) -> Vec<Seat> {
         let shares = self.shares.into_inner().expect(THERE);
         assert!(count > 0, "a seat can't be divided among none");
-        assert!(count <= shares.weight() as usize, "the seat has fewer shares than seats are asked for");
+        assert!(
+            count <= shares.weight() as usize,
+            "the seat has fewer shares than seats are asked for"
+        );
         match self.set.divide_among(Global, shares, count) {
-            Ok(seats) => seats.into_iter().map(|shares| Seat::of(self.set.clone(), shares)).collect(),
+            Ok(seats) => seats
+                .into_iter()
+                .map(|shares| Seat::of(self.set.clone(), shares))
+                .collect(),
             Err(_) => out_of_memory(AllocError),
         }
     }

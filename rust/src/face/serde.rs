@@ -38,7 +38,11 @@ impl<'de> Visitor<'de> for Members {
     type Value = BitSet;
 
     fn expecting(&self, f: &mut Formatter<'_>) -> fmt::Result {
-        write!(f, "indices below {}, as a list or as a portable Roaring stream", self.end)
+        write!(
+            f,
+            "indices below {}, as a list or as a portable Roaring stream",
+            self.end
+        )
     }
 
     fn visit_seq<A: SeqAccess<'de>>(self, mut list: A) -> Result<BitSet, A::Error> {
@@ -46,7 +50,10 @@ impl<'de> Visitor<'de> for Members {
         // The list need not ascend. Nothing is reserved for the length that it announces.
         while let Some(index) = list.next_element::<Index>()? {
             if index as usize >= self.end {
-                return Err(A::Error::invalid_value(Unexpected::Unsigned(index.into()), &self));
+                return Err(A::Error::invalid_value(
+                    Unexpected::Unsigned(index.into()),
+                    &self,
+                ));
             }
             set.try_add(index).map_err(A::Error::custom)?;
         }

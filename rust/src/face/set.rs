@@ -159,7 +159,11 @@ impl BitSet {
     ///
     /// If there are more than 16,777,216 words.
     pub fn try_from_words(words: &[usize]) -> Result<BitSet, AllocError> {
-        assert!(words.len() <= MAX_WORDS, "layer 0 has at most {} words", MAX_WORDS);
+        assert!(
+            words.len() <= MAX_WORDS,
+            "layer 0 has at most {} words",
+            MAX_WORDS
+        );
         proved::BitSet::from_words(Global, words).map(BitSet)
     }
 
@@ -208,7 +212,8 @@ impl BitSet {
     ///
     /// If an index in the range is not below [`MAX_EID`].
     pub fn add_range(&mut self, range: impl RangeBounds<Index>) {
-        self.try_add_range(range).unwrap_or_else(|error| out_of_memory(error))
+        self.try_add_range(range)
+            .unwrap_or_else(|error| out_of_memory(error))
     }
 
     /// Adds all indices in a range, as [`add_range`](BitSet::add_range) does.
@@ -259,7 +264,8 @@ impl BitSet {
     ///
     /// If an index in the range is not below [`MAX_EID`].
     pub fn flip_range(&mut self, range: impl RangeBounds<Index>) {
-        self.try_flip_range(range).unwrap_or_else(|error| out_of_memory(error))
+        self.try_flip_range(range)
+            .unwrap_or_else(|error| out_of_memory(error))
     }
 
     /// Flips all indices in a range, as [`flip_range`](BitSet::flip_range) does.
@@ -494,7 +500,8 @@ impl Default for BitSet {
 
 impl Clone for BitSet {
     fn clone(&self) -> BitSet {
-        self.try_clone().unwrap_or_else(|error| out_of_memory(error))
+        self.try_clone()
+            .unwrap_or_else(|error| out_of_memory(error))
     }
 }
 
@@ -519,12 +526,14 @@ impl<B: BitSetLike> SubAssign<&B> for BitSet {
 
 impl<B: BitSetLike> BitOrAssign<&B> for BitSet {
     fn bitor_assign(&mut self, other: &B) {
-        self.try_bitor_assign(other).unwrap_or_else(|error| out_of_memory(error))
+        self.try_bitor_assign(other)
+            .unwrap_or_else(|error| out_of_memory(error))
     }
 }
 
 impl<B: BitSetLike> BitXorAssign<&B> for BitSet {
     fn bitxor_assign(&mut self, other: &B) {
-        self.try_bitxor_assign(other).unwrap_or_else(|error| out_of_memory(error))
+        self.try_bitxor_assign(other)
+            .unwrap_or_else(|error| out_of_memory(error))
     }
 }

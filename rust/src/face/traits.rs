@@ -26,7 +26,11 @@ impl Ord for BitSet {
             return Ordering::Equal;
         };
         // Before it the lists are alike. Who has it is less if the other's list goes on, with a greater one, else longer.
-        let (lacks, order) = if self.contains(first) { (other, Ordering::Less) } else { (self, Ordering::Greater) };
+        let (lacks, order) = if self.contains(first) {
+            (other, Ordering::Less)
+        } else {
+            (self, Ordering::Greater)
+        };
         if lacks.last() > Some(first) {
             order
         } else {

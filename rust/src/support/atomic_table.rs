@@ -49,7 +49,9 @@ impl<S, V, K, P: TableRule<S, V, K>, A> Table<S, V, K, P, A> {
     /// A table of these words, and its first seat.
     pub fn of_words(_alloc: A, first: &[u64], _key: &K) -> Result<(Self, Seat<S, V>), AllocError> {
         let mut words = Vec::new();
-        words.try_reserve_exact(first.len()).map_err(|_| AllocError)?;
+        words
+            .try_reserve_exact(first.len())
+            .map_err(|_| AllocError)?;
         words.extend(first.iter().map(|word| AtomicU64::new(*word)));
         let shared = Shared {
             words,
@@ -65,7 +67,10 @@ impl<S, V, K, P: TableRule<S, V, K>, A> Table<S, V, K, P, A> {
     /// A table of zeros. The system gives their pages as they are touched.
     pub fn of_zeros(len: usize) -> Self {
         // The collection takes over the memory of the zeros, which is not touched.
-        let words = ::alloc::vec![0; len].into_iter().map(AtomicU64::new).collect();
+        let words = ::alloc::vec![0; len]
+            .into_iter()
+            .map(AtomicU64::new)
+            .collect();
         let shared = Shared {
             words,
             of: PhantomData,

@@ -13,6 +13,7 @@ use crate::derived::hibitset_atomic::steps::bit_over;
 use crate::derived::hibitset_base::util::Index;
 
 // Where a layer begins in the row of all words.
+#[inline]
 pub(crate) fn first_word(layer: usize) -> usize {
     match layer {
         0 => 0,
@@ -31,6 +32,7 @@ pub(crate) fn mark_of(id: Index, layer: usize) -> u32 {
 
 impl SharedBitSet {
     // The exchange at layer 0.
+    #[inline]
     pub(crate) fn fetch_or_layer0(&self, pass: &mut TableSeat, id: u32) -> bool {
         let found = self
             .table
@@ -40,6 +42,7 @@ impl SharedBitSet {
     }
 
     // The exchange at a layer above 0, after that of the layer below.
+    #[inline]
     fn fetch_or_summary(&self, pass: &mut TableSeat, id: Index, layer: usize) {
         let mark = mark_of(id, layer + 1);
         self.table
@@ -56,10 +59,12 @@ impl SharedBitSet {
         }
     }
 
+    #[inline]
     pub(crate) fn load(&self, pass: &mut TableSeat, place: usize) -> u64 {
         self.table.shared.load::<Load>(pass, place)
     }
 
+    #[inline]
     pub(crate) fn load_bit(&self, pass: &mut TableSeat, mark: u32) -> bool {
         let word = self.load(pass, (mark / 64) as usize);
         (word >> (mark % 64)) & 1 != 0
@@ -67,6 +72,7 @@ impl SharedBitSet {
 
     // The word of a layer at a position. Under a summary bit that the seat has seen it is not zero, and it has each bit
     // over an old or known index.
+    #[inline]
     pub(crate) fn load_word(&self, pass: &mut TableSeat, layer: usize, position: u32) -> u64 {
         self.load(pass, first_word(layer) + position as usize)
     }
