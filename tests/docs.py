@@ -100,7 +100,7 @@ def dead_links(page):
             yield line_at(text, link.start()), f"links to {link[1]}, but no heading has the anchor #{anchor}"
     # What a guide prints to be a file of the user's is not looked for here.
     printed = re.findall(r"`([\w./-]+)`:\n\n```", text_of(page))
-    named = r"(?<![\w./-])((?:docs|bench|tests|crates|bindings)/[\w./*+-]*\.(?:md|py|sh|rt|antt|edit|patch|svg)|CONTRIBUTING\.md)(?!\w)"
+    named = r"(?<![\w./-])((?:docs|bench|tests|crates|bindings|rust)/[\w./*+-]*\.(?:md|py|sh|rt|antt|edit|patch|svg)|CONTRIBUTING\.md)(?!\w)"
     for name in re.finditer(named, text):
         if PLACEHOLDER.search(name[1]) or name[1] in printed:
             continue
