@@ -43,7 +43,7 @@ class Erasing(unittest.TestCase):
         self.assertEqual(derived("struct S;\n\n" + impl), "struct S;\n")
 
     def test_a_drop_that_does_something_is_refused(self):
-        with self.assertRaisesRegex(Unknown, r"hibitset/set.rt:1: an impl of Drop"):
+        with self.assertRaisesRegex(Unknown, r"crates/hibitset/src/set.rt:1: an impl of Drop"):
             derived("impl Drop for S { fn drop(self) { let S { a } = self; a.free(); } }")
 
     def test_the_writer_of_fmt(self):
@@ -52,7 +52,7 @@ class Erasing(unittest.TestCase):
 
     def test_what_no_rule_knows(self):
         for source in ("let a = b ∧ c;", "ghost 5;", "prove!(a);", "fn fmt<W>(&self) {}", "fn f() where Drop {}"):
-            with self.subTest(source), self.assertRaisesRegex(Unknown, r"hibitset/set.rt:1: "):
+            with self.subTest(source), self.assertRaisesRegex(Unknown, r"crates/hibitset/src/set.rt:1: "):
                 derived(source)
 
 

@@ -583,13 +583,10 @@ def wrong_results():
 
 
 def derived(*words):
-    """What rust/derive.py says is stale or no rule knows: file, line and words."""
+    """What rust/derive.py says is stale or fits no rule: file, line and words."""
     ran = subprocess.run([sys.executable, TOP / "rust" / "derive.py", *words], capture_output=True, text=True)
-    for found in re.finditer(r"^(?:derive.py: )?([\w/.]+):(\d+): (.*)$", ran.stdout + ran.stderr, re.M):
-        path = TOP / found[1] if (TOP / found[1]).exists() else CRATES / found[1]
-        yield path, int(found[2]), found[3]
-    if ran.returncode and not ran.stdout:
-        yield TOP / "rust" / "derive.py", 1, ran.stderr.strip().splitlines()[-1]
+    for found in re.finditer(r"^([\w/.]+):(\d+): (.*)$", ran.stdout + ran.stderr, re.M):
+        yield TOP / found[1], int(found[2]), found[3]
 
 
 def faults():
