@@ -585,8 +585,10 @@ def wrong_results():
 def derived(*words):
     """What rust/derive.py says is stale or fits no rule: file, line and words."""
     ran = subprocess.run([sys.executable, TOP / "rust" / "derive.py", *words], capture_output=True, text=True)
-    for found in re.finditer(r"^([\w/.]+):(\d+): (.*)$", ran.stdout + ran.stderr, re.M):
-        yield TOP / found[1], int(found[2]), found[3]
+    faults = re.findall(r"^([\w/.]+):(\d+): (.*)$", ran.stdout + ran.stderr, re.M)
+    yield from ((TOP / path, int(line), words) for path, line, words in faults)
+    if ran.returncode and not faults:
+        yield TOP / "rust" / "derive.py", 1, f"ends with status {ran.returncode}"
 
 
 def faults():
