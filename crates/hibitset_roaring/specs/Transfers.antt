@@ -26,7 +26,7 @@ abbrev pub from_read : ReadError → ReadFromError
 from_read errors.Memory = from.Memory
 from_read (errors.Malformed m) = from.Malformed m
 
--- The reader or an allocation failed, which may be at any time.
+-- The error is `Io` or `Memory`, which may come at any time.
 abbrev pub IsOutside : ReadFromError → Type 0
 IsOutside (from.Io e) = ⊤
 IsOutside from.Memory = ⊤
