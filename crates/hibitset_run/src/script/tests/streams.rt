@@ -288,7 +288,13 @@ fn assert_no_read_fails(rt: &(impl Abort + AllocGlobal), script: &str, writes_le
 #[test]
 fn no_read_fails_where_none_can(rt: HostRuntime) -> Result<(), Fail> {
     let long = lines(rt.alloc(), "add h 16777215\n", 7000)?;
-    for script in ["", "add a 5\nlist a", "add a 5\nlist\n", "store", long.as_str()] {
+    for script in [
+        "",
+        "add a 5\nlist a",
+        "add a 5\nlist\n",
+        "store",
+        long.as_str(),
+    ] {
         assert_no_read_fails(&rt, script, 1000);
         assert_no_read_fails(&rt, script, 0);
     }
