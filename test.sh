@@ -1,18 +1,19 @@
 #!/usr/bin/env bash
 # test.sh [--anew] [PART [WORD..]]: passes all tests of this repository, or one part of them.
-#   docs [--write]              pages, files, edits and patches agree; --write makes the generated tables anew
+#   docs [--write]              pages, files, edits, patches and derived files agree; --write makes tables and derived files anew
 #   proofs [CRATE..]            rt ci: proofs from nothing, must-fail edits, tests, programs
 #   mutants contract [CRATE..]  the prover refuses the mutants of tests/mutants/contract
 #   mutants tests [--gate|PATCH]  tests kill the mutants of tests/mutants/tests; --gate: those that the gate tries
 #   allocation                  each allocation of each call fails in turn, in what proofs has built
 #   differential [PROGRAM]      the program gives the stored answers; without PROGRAM it is proved and built first
-#   bindings                    C and Rust programs over the library pass their tests
+#   bindings                    C and C++ programs over the library pass their tests
+#   rust                        the Cargo crate of rust/: its derivation, its tests, derived tests, scripts, lints, package
 #   guide [--make FOLDER]       the repository that docs/GUIDE.md prints passes; --make makes it alone
-# Without PART: docs, proofs beside mutants tests --gate, allocation, differential, bindings. It stops at the first part that fails.
+# Without PART: docs, proofs beside mutants tests --gate, allocation, differential, bindings, rust. It stops at the first part that fails.
 # --anew: rt ci proves and tries all, whatever it has kept on this machine.
 set -euo pipefail
 top=$(cd "$(dirname "$0")" && pwd)
-parts=6
+parts=7
 beside=
 lowest=
 anew=
@@ -58,6 +59,7 @@ run() { # PART [WORD..]: one part, by the script that does it
         "allocation "*) "$top/tests/allocation_failures.py" ;;
         "differential "*) sh "$top/tests/differential/replay.sh" "${@:2}" ;;
         "bindings "*) "$top/tests/bindings.sh" "${@:2}" ;;
+        "rust "*) "$top/tests/rust.sh" ;;
         "guide "*) "$top/tests/guide.py" "${@:2}" ;;
         *) usage ;;
     esac
@@ -104,4 +106,5 @@ both
 part 4 allocation
 part 5 differential "$top/crates/hibitset_run/out/hibitset_run"
 part 6 bindings --proved
+part 7 rust
 echo "test.sh: all passed after $((SECONDS / 60)) min"

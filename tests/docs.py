@@ -20,6 +20,7 @@ Mutants   An edit of must-fail/ or tests/mutants/contract/ can be applied: its o
           NAME_twin that it puts before a function NAME has the clauses of NAME. A patch of tests/mutants/tests/ can be
           applied, and the tests that its head names are there.
 Results   bench/RESULTS.md says in its first line which commit was measured.
+Derived   rust/src/derived has what rust/derive.py makes of the sources. --write makes it anew.
 
 It prints a line for each fault, with page and line, and ends with status 1 where there is one.
 """
@@ -36,7 +37,7 @@ CRATES = TOP / "crates"
 LIBRARY = "hibitset_base hibitset_atomic hibitset hibitset_store hibitset_roaring hibitset_c".split()
 PAGES = sorted(
     path
-    for pattern in ("*.md", "docs/*.md", "bench/*.md", "tests/**/*.md", "crates/*/*.md", "bindings/*/*.md")
+    for pattern in ("*.md", "docs/*.md", "bench/*.md", "tests/**/*.md", "crates/*/*.md", "bindings/*/*.md", "rust/*.md")
     for path in TOP.glob(pattern)
     if not path.is_relative_to(TOP / "tests" / "differential" / "scripts")
 )
@@ -581,6 +582,16 @@ def wrong_results():
         yield path, 1, "its first line does not say which commit was measured"
 
 
+def derived(*words):
+    """What rust/derive.py says is stale or no rule knows: file, line and words."""
+    ran = subprocess.run([sys.executable, TOP / "rust" / "derive.py", *words], capture_output=True, text=True)
+    for found in re.finditer(r"^(?:derive.py: )?([\w/.]+):(\d+): (.*)$", ran.stdout + ran.stderr, re.M):
+        path = TOP / found[1] if (TOP / found[1]).exists() else CRATES / found[1]
+        yield path, int(found[2]), found[3]
+    if ran.returncode and not ran.stdout:
+        yield TOP / "rust" / "derive.py", 1, ran.stderr.strip().splitlines()[-1]
+
+
 def faults():
     """All that is wrong, each as page, line and words."""
     for page in PAGES:
@@ -595,13 +606,15 @@ def faults():
     yield from wrong_twins()
     yield from wrong_patches()
     yield from wrong_results()
+    yield from derived()
 
 
 def main():
     reader = argparse.ArgumentParser(description="Sees that pages, sources, mutants and tables agree.")
-    reader.add_argument("--write", action="store_true", help="write the tables of modules anew before")
+    reader.add_argument("--write", action="store_true", help="write the tables of modules and the derived files anew before")
     if reader.parse_args().write:
         write_modules()
+        list(derived("--write"))
     said = [f"{shown(path)}:{line}: {words}" for path, line, words in faults()]
     for line in said:
         print(line)
