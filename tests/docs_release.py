@@ -4,7 +4,8 @@ Versions   The version in VERSION is that of the header, of rust/Cargo.toml if i
            CHANGELOG.md.
 Header     bindings/c/check.py finds no fault.
 Toolchains README names each toolchain of .ci/kit, and its logic.
-Packages   The Dockerfile installs what .ci/packages lists. That has a package for each command that tests/bindings.sh asks for.
+Packages   The Dockerfile installs what .ci/packages lists, and Rust. .ci/packages has a package for each command that
+           tests/bindings.sh asks for.
 Speed      README's tables between <!-- speed --> and <!-- slower --> and their ends are those that bench/RESULTS.md gives.
            Each row that is slower than the original is in one of them.
 Pictures   Those of docs/pictures are what draw.py draws. docs.py --write makes tables and pictures anew.
@@ -73,8 +74,8 @@ PACKAGES = {
     "python3": "python3",
 }
 
-# What is not taken from .ci/packages: the Dockerfile names it.
-RUST = {"cargo": "cargo"}
+# What the Dockerfile installs beside .ci/packages: a machine may have it from elsewhere.
+RUST = ("cargo", "rustc")
 
 
 def wrong_packages(text=text_of):
@@ -86,15 +87,15 @@ def wrong_packages(text=text_of):
     installs = re.search(r"^RUN .*apt-get install .*$", docker, re.M)
     if not copied or not installs or f"$(cat {copied[1]})" not in installs[0]:
         yield "Dockerfile", "does not install what .ci/packages lists"
+    for package in RUST:
+        if not re.search(rf" {package}\b", installs[0] if installs else ""):
+            yield "Dockerfile", f"does not install {package}"
     for line in re.findall(r'has "[^"]*" ([^;]*);', text("tests/bindings.sh")):
         for command in line.split():
-            package = PACKAGES.get(command) or RUST.get(command)
-            if not package:
+            if command not in PACKAGES:
                 yield "tests/docs_release.py", f"PACKAGES has no package for {command}"
-            elif command in RUST and not re.search(rf"\b{package}\b", installs[0] if installs else ""):
-                yield "Dockerfile", f"does not install {package}"
-            elif command in PACKAGES and package not in listed:
-                yield ".ci/packages", f"lacks {package}, which has {command}"
+            elif PACKAGES[command] not in listed:
+                yield ".ci/packages", f"lacks {PACKAGES[command]}, which has {command}"
 
 
 # Tables of speed.
