@@ -20,24 +20,28 @@ Clauses   A table with a column 'clause' names in each cell what carries the row
 Modules   Between <!-- modules --> and <!-- /modules --> a crate's README has what the first sentence of each file says.
           --write writes these tables anew.
 Heads     Each .rt file begins with //!, and each .antt file beside Lib.antt that is of no single function with --.
-Mutants   An edit of must-fail/ or tests/mutants/contract/ can be applied: its old text stands once in its file. The twin
-          NAME_twin that it puts before a function NAME has the clauses of NAME. A patch of tests/mutants/tests/ can be
-          applied, and the tests that its head names are there.
+Mutants   Of each mutant of a table of tests/mutants/contract/ an edit can be made and applied: its heading names a function
+          of the table's module, or what holds the line that goes, and that line stands there once. must-fail/ of each
+          crate has the edits of those marked gate, and no other; --write writes them anew. Each public function with
+          clauses has a mutant, but for those of without_mutant.txt. A patch of tests/mutants/tests/ can be applied, and
+          the tests that its head names are there.
 Results   bench/RESULTS.md says in its first line which commit was measured.
 
 It prints a line for each fault, with page and line, and ends with status 1 where there is one.
 """
 import argparse
-import os
 import re
-import subprocess
 import sys
 from functools import lru_cache
 from pathlib import Path
 
+from checks.mutants import Mutants, without_mutant, write_gate_edits, wrong_mutants, wrong_patches, wrong_untried
+from checks.repository import LIBRARY, Repository
+from checks.sources import is_test, line_at, text_of
+
 TOP = Path(__file__).resolve().parent.parent
 CRATES = TOP / "crates"
-LIBRARY = "hibitset_base hibitset_atomic hibitset hibitset_store hibitset_roaring hibitset_c".split()
+REPOSITORY = Repository(TOP)
 PAGES = sorted(
     path
     for pattern in ("*.md", "docs/*.md", "bench/*.md", "tests/**/*.md", "crates/*/*.md", "bindings/*/*.md")
@@ -52,16 +56,8 @@ UNNAMED = set()
 PLACEHOLDER = re.compile(r"\b(F|FILE|NAME|CRATE|PATCH|MODULE|TYPE|FUNCTION|SUBJECT|WHAT_IS_WRONG|PROGRAM)\b|[*]|\.\.")
 
 
-def text_of(path):
-    return path.read_text(encoding="utf-8")
-
-
 def shown(path):
     return str(path.relative_to(TOP))
-
-
-def line_at(text, offset):
-    return text.count("\n", 0, offset) + 1
 
 
 # Pages: links, quotes, tables.
@@ -152,7 +148,7 @@ def lacking_tests(where, name, functions):
     module = CRATES / where / "src" / f"{name.replace('::', '/')}.rt"
     if where and module.is_file():
         return [each for each in functions if not is_test(each, text_of(module))]
-    return [] if where and has_test(where, name) else [name]
+    return [] if where and REPOSITORY.has_test(where, name) else [name]
 
 
 def quoted(page, kind, comment):
@@ -265,149 +261,13 @@ def lacking(names, which, labels):
 # Sources: functions and their clauses.
 
 
-def flat(head):
-    """The head of an impl or a trait without what stands in angle brackets."""
-    while (less := re.sub(r"<[^<>]*>", "", head.replace("->", ""))) != head:
-        head = less
-    return head
-
-
-def last_word(text):
-    words = re.findall(r"\w+", text.split(" where ")[0])
-    return words[-1] if words else ""
-
-
-class Function:
-    """A function: where it stands, and what its head promises."""
-
-    def __init__(self, module, owner, trait, name, is_pub, head):
-        self.module, self.owner, self.trait, self.name = module, owner, trait, name
-        self.is_pub, self.clauses = is_pub, clauses_of(head)
-        self.labels = {said.split(":")[0].split()[-1] for said in self.clauses} - {"ensures", "requires"}
-        self.ensures = "ensures" in head
-
-    def names(self):
-        """All names by which a page may call it."""
-        if self.owner or self.trait:
-            return [f"{owner}::{self.name}" for owner in (self.owner, self.trait) if owner]
-        path = [*self.module, self.name]
-        return ["::".join(path[at:]) for at in range(len(path))]
-
-
-class Crate:
-    """What the sources of a crate declare."""
-
-    def __init__(self, name):
-        self.name, self.folder = name, CRATES / name
-        self.functions, self.impls = [], set()
-        self.words = {}  # records with their fields, types with their invariants, traits with their facts
-        self.facts = {}  # of an impl, by its type and its trait
-        self.open, self.exported = {(): True}, set()
-        for path in modules(name):
-            self.read_source(path)
-        for path in sorted((self.folder / "specs").glob("*.antt")):
-            self.read_specs(path)
-
-    def read_source(self, path):
-        """Reads the functions of a file, with the type and the trait whose block each is in, and the facts of these blocks."""
-        parts = path.relative_to(self.folder / "src").with_suffix("").parts
-        module = () if parts in (("lib",), ("main",)) else parts
-        lines = text_of(path).splitlines()
-        self.read_names(module, lines)
-        kind = owner = trait = ""
-        for at, line in enumerate(lines):
-            if opened := re.match(r"(?:pub(?:\([^)]*\))? )?(impl|trait|struct|enum)\b", line):
-                kind = opened[1]
-                owner, trait = self.read_block(kind, " ".join(lines[at : at + 3])[opened.end() :])
-            elif line == "}":
-                kind = owner = trait = ""
-            if ghost := re.match(r"    (?:pub )?ghost (\w+)(:| =) \{", line):
-                of_impl = kind == "impl"
-                (self.facts if of_impl else self.words).setdefault((owner, trait) if of_impl else owner or trait, set()).add(ghost[1])
-            elif call := re.match(r' *(pub )?(?:pub\([^)]*\) )?(?:const )?(?:final )?(?:extern "C" )?fn (\w+)', line):
-                is_pub = bool(call[1]) or bool(trait)
-                self.functions.append(Function(module, owner, trait, call[2], is_pub, head_of(lines, at)))
-
-    def read_names(self, module, lines):
-        """Reads which modules are open, and what is given on."""
-        for at, line in enumerate(lines):
-            if declared := re.match(r"(pub )?mod (\w+);", line):
-                self.open[(*module, declared[2])] = bool(declared[1])
-            elif line.startswith("pub use "):
-                said = " ".join(lines[at:]).split(";")[0]
-                self.exported.update(re.findall(r"\w+", said.split("::")[-1]))
-
-    def read_block(self, kind, rest):
-        """The type and the trait of a block, by what follows its first word."""
-        first, _, second = flat(rest.split("{")[0]).partition(" for ")
-        if kind == "trait":
-            return "", re.search(r"\w+", first)[0]
-        if second:
-            owner, trait = last_word(second), last_word(first)
-            self.impls.add((owner, trait))
-            return owner, trait
-        owner = re.search(r"\w+", first)[0]
-        self.words.setdefault(owner, set())
-        return owner, ""
-
-    def read_specs(self, path):
-        """Reads the records of a file, with their fields, and its definitions."""
-        record, indent = "", ""
-        for line in text_of(path).splitlines():
-            if found := re.match(r"( *)(?:\w+ )*record (\S+)", line):
-                indent, record = found[1], found[2]
-                self.words.setdefault(record, set())
-            elif record and (field := re.match(rf"{indent}  (?:pub )?(\S+) :", line)):
-                self.words[record].add(field[1])
-            elif found := re.match(r" *(?:\w+ )*pub (?!use|mod|module)(\S+) :", line):
-                record = ""
-                self.words.setdefault(found[1], set())
-            elif line.strip() and not line.startswith(indent + "  "):
-                record = ""
-
-    def is_public(self, function):
-        """Whether a user can name it."""
-        path = function.module
-        if function.is_pub and all(self.open.get(path[:at], False) for at in range(len(path) + 1)):
-            return True
-        return function.is_pub and (function.owner or function.trait or function.name) in self.exported
-
-
-def head_of(lines, at):
-    """The head of the function that begins at a line, up to its body."""
-    indent = re.match(" *", lines[at])[0]
-    for end in range(at, len(lines)):
-        if lines[end].startswith((indent + "{", indent + "}")) or lines[end].endswith((" {", ";", " {}")):
-            return "\n".join(lines[at : end + 1])
-    return lines[at]
-
-
-def clauses_of(head):
-    """The clauses of a function's head, each in one line, as 'ensures LABEL: ..'."""
-    found = set()
-    for clause in re.finditer(r"\b((?:ensures|requires)\*?(?: \w+)?) \{", head):
-        depth, end = 1, clause.end()
-        while depth and end < len(head):
-            depth += {"{": 1, "}": -1}.get(head[end], 0)
-            end += 1
-        found.add(f"{clause[1]}: {' '.join(head[clause.end() : end - 1].split())}")
-    return found
-
-
 def modules(crate):
     """The source files of a crate that are no tests, each before those of its folder, lib.rt or main.rt first."""
-
-    def place(path):
-        parts = path.relative_to(CRATES / crate / "src").with_suffix("").parts
-        return (parts not in (("lib",), ("main",)), parts)
-
-    found = (CRATES / crate / "src").rglob("*.rt")
-    return sorted((path for path in found if path.name != "tests.rt" and "tests" not in path.parts), key=place)
+    return crate_of(crate).modules()
 
 
-@lru_cache(maxsize=None)
-def crate(name):
-    return Crate(name)
+def crate_of(name):
+    return REPOSITORY.crate(name)
 
 
 @lru_cache(maxsize=None)
@@ -430,7 +290,7 @@ class Names(dict):
     def __init__(self, crates, where):
         super().__init__()
         self.where, self.clauses = where, {}
-        read = [crate(name) for name in crates]
+        read = [crate_of(name) for name in crates]
         for each in read:
             for function in each.functions:
                 for name in function.names():
@@ -468,10 +328,10 @@ def unnamed_functions(name):
         return
     said = {who for *_, cell in clause_cells(page) for which, _ in carriers(cell) or [] for who in which}
     seen = set()
-    for function in crate(name).functions:
+    for function in crate_of(name).functions:
         calls = function.names()
         shown_name = calls[-1] if not (function.owner or function.trait) else calls[0]
-        if not function.ensures or not crate(name).is_public(function) or shown_name in seen:
+        if not function.ensures or not crate_of(name).is_public(function) or shown_name in seen:
             continue
         seen.add(shown_name)
         if not said & set(calls) and f"{name} {shown_name}" not in UNNAMED:
@@ -535,7 +395,7 @@ def write_modules():
                 print(f"docs.py: {shown(page)}: its table of modules is written anew")
 
 
-# Sources: heads. Mutants: edits and patches.
+# Sources: heads.
 
 
 def headless():
@@ -549,88 +409,16 @@ def headless():
             yield path, "does not begin with --"
 
 
-def edits():
-    """Each edit, and the folder of its crate."""
-    found = [(path, path.parent.parent) for path in CRATES.glob("*/must-fail/*.edit")]
-    found += [(path, CRATES / path.parent.name) for path in TOP.glob("tests/mutants/contract/*/*.edit")]
-    return sorted(found)
-
-
-def pairs_of(path):
-    """Each pair of an edit: the line of its new text, its file, its old text and its new one."""
-    name = old = ""
-    for number, line in enumerate(text_of(path).splitlines(), 1):
-        word, _, said = line.partition(": ")
-        if word == "file":
-            name = said
-        elif word == "old":
-            old = said
-        elif word == "new":
-            yield number, name, old, said
-
-
-def wrong_edits():
-    """The edits that cannot be applied: each old text stands once in what the earlier pairs made."""
-    for path, folder in edits():
-        texts = {}
-        for number, name, old, new in pairs_of(path):
-            if name not in texts:
-                texts[name] = text_of(folder / name) if (folder / name).is_file() else ""
-            count = texts[name].count(old)
-            if count != 1:
-                yield path, number - 1, f"the old text stands {count} times in {name or 'no file'}"
-                break
-            texts[name] = texts[name].replace(old, new)
-
-
-def wrong_twins():
-    """The twins whose clauses are not those of the function that they are named after."""
-    for path, folder in edits():
-        for number, name, old, new in pairs_of(path):
-            twin = re.search(r"\bfn (\w+)_twin\b", new)
-            if not twin or not re.search(rf"\bfn {twin[1]}\b", old):
-                continue
-            lines = text_of(folder / name).splitlines()
-            heads = [head_of(lines, at) for at, line in enumerate(lines) if old in line]
-            if [clauses_of(head) for head in heads] != [clauses_of(new[twin.start() :])]:
-                yield path, number, f"its twin does not have the clauses of {twin[1]}"
-
-
-def is_test(function, text):
-    """Whether a source has this test function."""
-    return re.search(rf"#\[test\]\s+(?:#\[.*\]\s+)*(?:pub )?fn {function}\b", text)
-
-
-def has_test(name, test):
-    """Whether the crate has a test function of this path."""
-    *_, function = test.split("::")
-    return any(is_test(function, text_of(path)) for path in (CRATES / name / "src").rglob("*.rt"))
-
-
-def wrong_patches():
-    """The patches that cannot be applied, or that name a test that is not there."""
-    # Above this folder git looks for no repository, so that each path of a patch is one from here.
-    environment = {**os.environ, "GIT_CEILING_DIRECTORIES": str(TOP.parent)}
-    for path in sorted(TOP.glob("tests/mutants/tests/*.patch")):
-        ran = subprocess.run(["git", "apply", "--check", path], cwd=TOP, env=environment, capture_output=True, text=True)
-        if ran.returncode:
-            yield path, 1, f"cannot be applied: {ran.stderr.strip().splitlines()[0]}"
-        name = ""
-        for number, line in enumerate(text_of(path).split("\ndiff ")[0].splitlines(), 1):
-            word, _, said = line.partition(": ")
-            if word == "crate":
-                name = said
-                if not (CRATES / name).is_dir():
-                    yield path, number, f"there is no crate {name}"
-            elif word in ("fails", "misses") and not has_test(name, said):
-                yield path, number, f"{name} has no test {said}"
-
-
 def wrong_results():
     path = TOP / "bench" / "RESULTS.md"
     first = text_of(path).split("\n", 1)[0] if path.is_file() else ""
     if not re.search(r"\bcommit [0-9a-f]{7,40}\b", first):
         yield path, 1, "its first line does not say which commit was measured"
+
+
+@lru_cache(maxsize=None)
+def mutants_read():
+    return Mutants(REPOSITORY)
 
 
 def faults():
@@ -643,9 +431,10 @@ def faults():
     for name in LIBRARY:
         yield from ((CRATES / name / "README.md", 1, words) for words in unnamed_functions(name))
     yield from ((path, 1, words) for path, words in headless())
-    yield from wrong_edits()
-    yield from wrong_twins()
-    yield from wrong_patches()
+    mutants = mutants_read()
+    yield from wrong_mutants(REPOSITORY, mutants)
+    yield from wrong_untried(REPOSITORY, mutants)
+    yield from wrong_patches(REPOSITORY)
     yield from wrong_results()
 
 
@@ -654,9 +443,12 @@ def main():
     reader.add_argument("--write", action="store_true", help="write the tables of modules anew before")
     if reader.parse_args().write:
         write_modules()
+        write_gate_edits(REPOSITORY, Mutants(REPOSITORY))
+        text_of.cache_clear()
     said = [f"{shown(path)}:{line}: {words}" for path, line, words in faults()]
     for line in said:
         print(line)
+    print("docs.py: public functions without a mutant: " + ", ".join(without_mutant(REPOSITORY, mutants_read())))
     cells = sum(1 for page in PAGES for _ in clause_cells(page))
     print(f"docs.py: {len(PAGES)} pages, {cells} cells of clauses: {f'{len(said)} faults' if said else 'ok'}")
     sys.exit(1 if said else 0)
