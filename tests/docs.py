@@ -25,6 +25,7 @@ Mutants   Of each mutant of a table of tests/mutants/contract/ an edit can be ma
           crate has the edits of those marked gate, and no other; --write writes them anew. Each public function with
           clauses has a mutant, but for those of without_mutant.txt. A patch of tests/mutants/tests/ can be applied, and
           the tests that its head names are there.
+Operators The sources of the operators are what the template of operators.py makes of its table; --write writes them anew.
 Results   bench/RESULTS.md says in its first line which commit was measured.
 
 It prints a line for each fault, with page and line, and ends with status 1 where there is one.
@@ -35,6 +36,7 @@ import sys
 from functools import lru_cache
 from pathlib import Path
 
+import operators
 from checks.mutants import Mutants, without_mutant, write_gate_edits, wrong_mutants, wrong_patches, wrong_untried
 from checks.repository import LIBRARY, Repository
 from checks.sources import is_test, line_at, text_of
@@ -435,13 +437,15 @@ def faults():
     yield from wrong_mutants(REPOSITORY, mutants)
     yield from wrong_untried(REPOSITORY, mutants)
     yield from wrong_patches(REPOSITORY)
+    yield from ((path, 1, "is not as the template of operators.py makes it") for path, _ in operators.different())
     yield from wrong_results()
 
 
 def main():
     reader = argparse.ArgumentParser(description="Sees that pages, sources, mutants and tables agree.")
-    reader.add_argument("--write", action="store_true", help="write the tables of modules anew before")
+    reader.add_argument("--write", action="store_true", help="write anew what is generated before")
     if reader.parse_args().write:
+        operators.write()
         write_modules()
         write_gate_edits(REPOSITORY, Mutants(REPOSITORY))
         text_of.cache_clear()
