@@ -40,7 +40,7 @@ prove_lowest() { # hibitset_base, for which all other crates wait: rt gives a pr
 }
 
 docs() { # [--write]: the unit tests of the scripts, and what they check
-    (cd "$top/tests" && python3 -m unittest discover --quiet --start-directory unit --top-level-directory .)
+    (cd "$top/tests" && python3 -m unittest discover --quiet --start-directory unit --top-level-directory .) || return
     "$top/tests/docs.py" "$@"
 }
 

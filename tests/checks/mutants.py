@@ -5,6 +5,7 @@ import subprocess
 
 from mutants import edits, tables
 
+from . import known
 from .repository import LIBRARY
 from .sources import text_of
 
@@ -97,17 +98,20 @@ def without_mutant(repository, mutants):
                 yield f"{name} {function.name_shown()}"
 
 
-def known(path):
-    """The lines of a list that may only shrink."""
-    return [line for line in text_of(path).splitlines() if line and not line.startswith("#")] if path.is_file() else []
+def list_of_untried(repository):
+    return repository.top / "tests" / "mutants" / "without_mutant.txt"
 
 
 def wrong_untried(repository, mutants):
     """The public functions without a mutant that the list does not have, and those of the list that have one now."""
-    path = repository.top / "tests" / "mutants" / "without_mutant.txt"
-    found, listed = list(without_mutant(repository, mutants)), known(path)
-    yield from ((path, 1, f"{each} has no mutant: write one") for each in found if each not in listed)
-    yield from ((path, 1, f"{each} has a mutant, or is no public function with clauses: take it off the list") for each in listed if each not in found)
+    found = list(without_mutant(repository, mutants))
+    gone = "has a mutant, or is no public function with clauses, so take it off the list"
+    return known.changes(list_of_untried(repository), found, "has no mutant, so write one", gone)
+
+
+def shrink(repository, mutants):
+    if known.shrink(list_of_untried(repository), list(without_mutant(repository, mutants))):
+        print("docs.py: without_mutant.txt is shorter")
 
 
 def wrong_patches(repository):

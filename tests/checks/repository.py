@@ -3,6 +3,7 @@ import re
 from functools import cached_property
 from pathlib import Path
 
+from .pages import files_of_crate
 from .sources import Crate, is_test, text_of
 
 LIBRARY = "hibitset_base hibitset_atomic hibitset hibitset_store hibitset_roaring hibitset_c".split()
@@ -14,7 +15,7 @@ class Repository:
 
     def __init__(self, top):
         self.top, self.crates = Path(top), Path(top) / "crates"
-        self.read = {}
+        self.read, self.names, self.listed = {}, {}, {}
 
     @cached_property
     def pages(self):
@@ -34,6 +35,12 @@ class Repository:
         if name not in self.read:
             self.read[name] = Crate(self.crates / name)
         return self.read[name]
+
+    def files(self, name):
+        """The paths of a crate's sources, specs and proofs, each with a slash before it."""
+        if name not in self.listed:
+            self.listed[name] = files_of_crate(self.crates / name)
+        return self.listed[name]
 
     @cached_property
     def libraries(self):

@@ -1,4 +1,6 @@
 """Small repositories for the unit tests."""
+import contextlib
+import io
 import tempfile
 import unittest
 from pathlib import Path
@@ -52,6 +54,10 @@ class InRepository(unittest.TestCase):
             path.parent.mkdir(parents=True, exist_ok=True)
             path.write_text(text, encoding="utf-8")
         return Repository(folder.name)
+
+    def silence(self):
+        """A place for what is printed, which no test looks at."""
+        return contextlib.redirect_stdout(io.StringIO())
 
     def said(self, faults):
         """The words of all faults, in one text."""

@@ -97,7 +97,7 @@ class Checks(InRepository):
 
     def test_a_public_function_without_a_mutant(self):
         repository = self.repository({TABLE: PLAIN.replace("Set::has", "Set"), "crates/hibitset/src/lib.rt": "//! Has.\npub fn f()\n    ensures { true }\n{\n}\n"})
-        self.assertIn("hibitset f has no mutant", self.said(checks.wrong_untried(repository, checks.Mutants(repository))))
+        self.assertIn("has no mutant, so write one: hibitset f", self.said(checks.wrong_untried(repository, checks.Mutants(repository))))
 
     def test_a_function_of_the_list_that_has_a_mutant(self):
         repository = self.repository({TABLE: PLAIN, "tests/mutants/without_mutant.txt": "# Words.\nlow has\n"})
