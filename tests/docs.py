@@ -27,6 +27,8 @@ Mutants   Of each mutant of a table of tests/mutants/contract/ an edit can be ma
           those of without_mutant.txt. A patch of tests/mutants/tests/ can be applied, and the tests that its head names
           are there.
 Operators The sources of the operators are what the template of operators.py makes of its table.
+Calls     Each public call that can fail for memory is in the line above a test of hibitset_refusals, and each such line has
+          the form that allocation/lines.py gives.
 Results   bench/RESULTS.md says in its first line which commit was measured.
 
 The two lists may only shrink. --write writes anew what is made by a script (tables of modules, edits of must-fail/,
@@ -38,6 +40,7 @@ import sys
 from pathlib import Path
 
 import operators
+from allocation import calls
 from checks import clauses, counts, heads, lemmas, module_tables, mutants, pages, quotes
 from checks.repository import Repository
 from checks.sources import text_of
@@ -54,6 +57,7 @@ OF_PAGES = (
     module_tables.wrong_modules,
 )
 OF_REPOSITORY = (
+    calls.wrong_calls,
     clauses.unnamed_functions,
     counts.wrong_counts,
     heads.headless,
