@@ -8,7 +8,7 @@ use uses::budget::{halves, in_both, in_both_from};
 use uses::lists::{add_all, set_of, set_of_range};
 use uses::nested::chosen;
 use uses::ready::Ready;
-use uses::room::{add_beside, saved, with_one_more};
+use uses::room::{add_beside, add_without_growth, saved, with_one_more};
 use uses::weights::{weight_here, weight_of_both};
 
 #[test]
@@ -109,6 +109,8 @@ fn additions_without_memory(rt: HostRuntime) -> Result<(), Fail> {
     assert_eq!(rt; summaries.as_slice(), [1].as_slice());
     let copy = with_one_more(&set, 40)?;
     assert_eq!(rt; copy.to_vec(rt.alloc())?.as_slice(), [3, 40].as_slice());
+    assert!(rt; !add_without_growth(&mut set, 100) && add_without_growth(&mut set, 100));
+    assert_eq!(rt; set.to_vec(rt.alloc())?.as_slice(), [3, 100].as_slice());
     Ok(())
 }
 
