@@ -3,6 +3,10 @@
 
 Links     A relative link of a page leads to a file, and its #anchor to a heading there. A path of a page, a script or a
           source, given from the top of the repository (docs/.., bench/.., tests/.., crates/.., CONTRIBUTING.md), is there.
+Files     A file in backticks that is one of Rattle's (`cost.rt`, `src/set.rt`, `specs/Seats.antt`) is in some crate, and of
+          a crate's page, if src/, specs/ or proofs/ stands before it, in this crate or one below it.
+Tests     What "What is only tested" names is there: after a crate the modules and functions `tests::..`, after a module
+          or a file of C the functions in brackets.
 Quotes    A block of rust whose first line is '// crates/..', the path of a file, has parts of that file, with an empty line
           between two; a block of antt with '-- crates/..' has whole statements of it. A block of text that has lines
           'fn NAME(..' and below them 'ensures LABEL: ..' or 'ensures LABEL { .. }' has clauses of these functions.
@@ -45,7 +49,7 @@ PAGES = sorted(
 UNNAMED = set()
 
 # Words that stand for a name in a path, as in crates/NAME/must-fail.
-PLACEHOLDER = re.compile(r"\b(NAME|CRATE|PATCH|MODULE|TYPE|FUNCTION|SUBJECT|WHAT_IS_WRONG|PROGRAM)\b|[*]|\.\.")
+PLACEHOLDER = re.compile(r"\b(F|FILE|NAME|CRATE|PATCH|MODULE|TYPE|FUNCTION|SUBJECT|WHAT_IS_WRONG|PROGRAM)\b|[*]|\.\.")
 
 
 def text_of(path):
@@ -105,6 +109,50 @@ def dead_links(page):
             continue
         if not any((folder / name[1]).exists() for folder in (TOP, page.parent)):
             yield line_at(text, name.start()), f"names {name[1]}, which is not there"
+
+
+@lru_cache(maxsize=None)
+def files_of_crate(name):
+    """The paths of a crate's sources, specs and proofs, each with a slash before it."""
+    folders = (CRATES / name / part for part in ("src", "specs", "proofs"))
+    return ["/" + str(path.relative_to(CRATES / name)) for folder in folders for path in folder.rglob("*.*t")]
+
+
+def dead_files(page):
+    """The files of Rattle that a page names in backticks, and that no crate has."""
+    every = [path.name for path in CRATES.iterdir()]
+    text, own = text_of(page), at_or_below(page.parent.name) if page.parent.parent == CRATES else every
+    for name in re.finditer(r"`((?!crates/|tests/)(?:[\w-]+/)*[\w-]+\.(?:rt|antt))`", text):
+        among = own if name[1].startswith(("src/", "specs/", "proofs/")) else every
+        there = any(path.endswith("/" + name[1]) for each in among for path in files_of_crate(each))
+        if not there and not PLACEHOLDER.search(name[1]):
+            yield line_at(text, name.start()), f"names {name[1]}, which is in no crate"
+
+
+def untested(page):
+    """The tests that "What is only tested" names, and that are not there."""
+    text = text_of(page)
+    section = re.search(r"^## What is only tested\n(.*?)(?=^## |\Z)", text, re.M | re.S)
+    if not section:
+        return
+    for number, line in enumerate(section[1].splitlines(), line_at(text, section.start(1))):
+        where = ""
+        for name, within in re.findall(r"`([^`]+)`(?: \(((?:`\w+`(?:, )?)+)\))?", line):
+            if (CRATES / name).is_dir() or (TOP / name).is_file():
+                where = name
+            if name.startswith("tests::") or within:
+                functions = re.findall(r"\w+", within)
+                yield from ((number, f"there is no {test} in {where or 'no crate'}") for test in lacking_tests(where, name, functions))
+
+
+def lacking_tests(where, name, functions):
+    """Which tests a crate or a file of C lacks: functions, alone or of a module tests::.. that is named before them."""
+    if where and (TOP / where).is_file():
+        return [each for each in functions if f"static void {each}(void)" not in text_of(TOP / where)]
+    module = CRATES / where / "src" / f"{name.replace('::', '/')}.rt"
+    if where and module.is_file():
+        return [each for each in functions if not is_test(each, text_of(module))]
+    return [] if where and has_test(where, name) else [name]
 
 
 def quoted(page, kind, comment):
@@ -548,11 +596,15 @@ def wrong_twins():
                 yield path, number, f"its twin does not have the clauses of {twin[1]}"
 
 
+def is_test(function, text):
+    """Whether a source has this test function."""
+    return re.search(rf"#\[test\]\s+(?:#\[.*\]\s+)*(?:pub )?fn {function}\b", text)
+
+
 def has_test(name, test):
     """Whether the crate has a test function of this path."""
     *_, function = test.split("::")
-    sources = (CRATES / name / "src").rglob("*.rt")
-    return any(re.search(rf"#\[test\]\s+(?:#\[.*\]\s+)*(?:pub )?fn {function}\b", text_of(path)) for path in sources)
+    return any(is_test(function, text_of(path)) for path in (CRATES / name / "src").rglob("*.rt"))
 
 
 def wrong_patches():
@@ -584,7 +636,7 @@ def wrong_results():
 def faults():
     """All that is wrong, each as page, line and words."""
     for page in PAGES:
-        for found in (dead_links, misquoted, misquoted_clauses, wrong_cells):
+        for found in (dead_links, dead_files, untested, misquoted, misquoted_clauses, wrong_cells):
             yield from ((page, line, words) for line, words in found(page))
         if page.parent.parent == CRATES and page.name == "README.md":
             yield from ((page, line, words) for line, words in wrong_modules(page))

@@ -447,7 +447,8 @@ hibitset_status hibitset_seat_collect(hibitset_seat_t *seat, hibitset_t *set);
 bool hibitset_seat_is_whole(hibitset_seat_t *seat);
 
 /* Ends the shared set. Leaves in `set`, whose members are freed, the set held alone again, and no seat in `seat`. It has
- * exactly the indices from before it was shared and those that its seats put in. No addition to it allocates.
+ * the indices from before it was shared, and those that this seat put in or saw. That it also has those that freed seats
+ * put in, and no others, is tested and not proved. No addition to it allocates.
  * HIBITSET_SHARED (another seat is not freed yet), HIBITSET_NO_MEMORY, HIBITSET_NO_SEAT: both are unchanged. */
 hibitset_status hibitset_seat_settle(hibitset_seat_t *seat, hibitset_atomic_t *set);
 

@@ -160,3 +160,7 @@ Grew v w = (w.1 ≡ v.1) × (w.0.old ≡ v.0.old) × (w.0.shares ≡ v.0.shares)
 -- at some moment the mark was clear, while all that the seat had seen was set, and the paths of all old indices
 abbrev pub Gap : View → ℕ → Type 0
 Gap v mark = (words : List ℕ) × ¬ IsSet words mark × Sees words v × OldPathsSet v.old words
+
+-- the index was there when the set was shared, or the seat knows it
+abbrev pub IsOldOrKnownTo : View → ℕ → Type 0
+IsOldOrKnownTo v i = (i < ATOMIC_MAX_EID) × (IsSet v.old i ⊎ Knows v i)

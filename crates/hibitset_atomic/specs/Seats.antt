@@ -37,6 +37,7 @@ BelongsTo set s = (s.pass.table_id ≡ set.table.shared.table_id) × (s.pass.me.
 abbrev pub IsStateOf : SharedBitSet → Seat → State (Unit {0}) View → Type 0
 IsStateOf set s = Seen (Invariant set.table.shared.key.value.items) s.pass.id s.pass.me.0
 
--- These are exactly the old indices and those that some seat of the set reported, the given one or another.
+-- In some state of the set that the rule admits beside this seat, these are exactly the old indices and those that some
+-- seat reported. Which state it is, is not said.
 unfoldable pub HasAllReports : SharedBitSet → Seat → (ℕ → Bool) → Type 0
 HasAllReports set s members = (state : State (Unit {0}) View) × IsStateOf set s state × ((i : ℕ) → (members i ≡ true) ↔ (IsOld set i ⊎ Reported state.views i))

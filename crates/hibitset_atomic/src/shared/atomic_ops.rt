@@ -2,8 +2,8 @@
 ghost use Rattle.std.specs.Prelude.{◌≡◌, ℕ, ◌+◌, ◌-◌, ◌*◌, ◌/◌, ◌%◌, ◌^◌, ◌<◌, ◌≤◌, true, false, [], ◌∷◌, length};
 ghost use Rattle.std.specs.Int.{bit_at};
 ghost use Rattle.hibitset_atomic.specs.Lists.{Has};
-ghost use Rattle.hibitset_atomic.specs.Levels.{first_mark};
-ghost use Rattle.hibitset_atomic.specs.Rule.{AllReportsKnown, Grew, Gap, Knows, IsSet, LoadAt};
+ghost use Rattle.hibitset_atomic.specs.Levels.{first_mark, ShareBit};
+ghost use Rattle.hibitset_atomic.specs.Rule.{AllReportsKnown, Grew, Gap, Knows, IsSet, LoadAt, IsOldOrKnownTo};
 ghost use Rattle.hibitset_atomic.specs.declared.layers.TheConstants.{ATOMIC_LAYERS};
 ghost use Rattle.hibitset_atomic.specs.declared.atomic.TheConstants.{ATOMIC_MAX_EID};
 ghost use Rattle.hibitset_atomic.specs.declared.shared.layout.TheConstants.{ROW_WORDS};
@@ -17,6 +17,7 @@ use crate::steps::bit_over;
 use hibitset_base::util::Index;
 
 // Where a layer begins in the row of all words.
+#[inline]
 pub(crate) fn first_word(layer: usize) -> usize
     requires { layer < 4 }
     ensures { result ≡ first_mark layer / 64 }
@@ -43,6 +44,7 @@ pub(crate) fn mark_of(id: Index, layer: usize) -> u32
 
 impl SharedBitSet {
     // The exchange at layer 0.
+    #[inline]
     pub(crate) fn fetch_or_layer0(&self, pass: &mut TableSeat, id: u32) -> bool
         requires came { pass.old.table_id ≡ self.now.table.shared.table_id }
         requires seat { (0 < length pass.old.me.0.shares) × AllReportsKnown pass.old.me.0 }
@@ -63,6 +65,7 @@ impl SharedBitSet {
     }
 
     // The exchange at a layer above 0, after that of the layer below.
+    #[inline]
     fn fetch_or_summary(&self, pass: &mut TableSeat, id: Index, layer: usize)
         requires came { pass.old.table_id ≡ self.now.table.shared.table_id }
         requires id { id < ATOMIC_MAX_EID }
@@ -94,12 +97,15 @@ impl SharedBitSet {
         ensures mark { Has pass.new.me.0.seen (first_mark (layer + 1) + id / 64 ^ (layer + 1)) }
         ensures counts { (pass.new.me.0.loads ≡ pass.old.me.0.loads + 1)
             × (pass.new.me.0.exchanges ≤ pass.old.me.0.exchanges + 1) }
+        ensures spared { (i : ℕ) → IsOldOrKnownTo pass.old.me.0 i → ShareBit (layer + 1) i id
+            → pass.new.me.0.exchanges ≡ pass.old.me.0.exchanges }
     {
         if !self.load_bit(pass, mark_of(id, layer + 1)) {
             self.fetch_or_summary(pass, id, layer);
         }
     }
 
+    #[inline]
     pub(crate) fn load(&self, pass: &mut TableSeat, place: usize) -> u64
         requires came { pass.old.table_id ≡ self.now.table.shared.table_id }
         requires seat { 0 < length pass.old.me.0.shares }
@@ -112,6 +118,7 @@ impl SharedBitSet {
         self.table.shared.load::<Load>(pass, place)
     }
 
+    #[inline]
     pub(crate) fn load_bit(&self, pass: &mut TableSeat, mark: u32) -> bool
         requires came { pass.old.table_id ≡ self.now.table.shared.table_id }
         requires seat { 0 < length pass.old.me.0.shares }
@@ -129,6 +136,7 @@ impl SharedBitSet {
 
     // The word of a layer at a position. Under a summary bit that the seat has seen it is not zero, and it has each bit
     // over an old or known index.
+    #[inline]
     pub(crate) fn load_word(&self, pass: &mut TableSeat, layer: usize, position: u32) -> u64
         requires came { pass.old.table_id ≡ self.now.table.shared.table_id }
         requires seat { 0 < length pass.old.me.0.shares }

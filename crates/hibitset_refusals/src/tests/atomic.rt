@@ -97,6 +97,17 @@ fn from_index_refs(rt: HostRuntime) -> Result<(), Fail> {
     Ok(())
 }
 
+#[test]
+fn from_slice(rt: HostRuntime) -> Result<(), Fail> {
+    let set = retried!(&rt, AtomicBitSet::from_slice(rt.alloc(), &SPREAD));
+    assert_has(
+        &rt,
+        &set,
+        &[6, 7, 8, 9, 10, 11, 5_000_000, 9_000_000, 13_000_000],
+    );
+    Ok(())
+}
+
 const ONE_FITS: [Index; 3] = [7, 16_777_216, 8];
 
 // Returns whether the allocation failed for the empty set, or for the first item.
@@ -253,6 +264,24 @@ fn extend_index_refs(rt: HostRuntime) -> Result<(), Fail> {
     let mut set = atomic_of(rt.alloc(), &[5])?;
     let extended = tried!(&rt, extended_by(&mut set, true), |it| it.0.is_err());
     assert_extended(&rt, &mut set, extended, true)?;
+    Ok(())
+}
+
+#[test]
+fn extend_from_slice(rt: HostRuntime) -> Result<(), Fail> {
+    let mut set = atomic_of(rt.alloc(), &[5])?;
+    let extended = tried!(&rt, set.extend_from_slice(&SPREAD));
+    if let Err(error) = extended {
+        let is_first = error == (BuildError::Memory { place: 4 });
+        assert!(rt; is_first || error == (BuildError::Memory { place: 7 }));
+        assert!(rt; set.contains(9) && set.contains(9_000_000) != is_first && !set.contains(11));
+        set.extend_from_slice(&SPREAD)?;
+    }
+    assert_has(
+        &rt,
+        &set,
+        &[5, 6, 7, 8, 9, 10, 11, 5_000_000, 9_000_000, 13_000_000],
+    );
     Ok(())
 }
 

@@ -194,21 +194,13 @@ fn set_of_a_list(rt: HostRuntime) -> Result<(), Fail> {
     Ok(())
 }
 
-fn of_range(alloc: Global) -> Result<BitSet, BuildError> {
+fn of_range(alloc: Global) -> Result<BitSet, AllocError> {
     lists::set_of_range(alloc, 62, 1_000)
 }
 
 #[test]
 fn set_of_a_range(rt: HostRuntime) -> Result<(), Fail> {
-    let made = tried!(&rt, of_range(rt.alloc()));
-    let set = match made {
-        Ok(set) => set,
-        Err(BuildError::Memory { place }) => {
-            assert!(rt; place == 0 || place % 64 == 2);
-            of_range(rt.alloc())?
-        }
-        Err(_) => panic!(rt; "out of range"),
-    };
+    let set = retried!(&rt, of_range(rt.alloc()));
     assert!(rt; set.len() == 938 && set.contains(62) && set.contains(999));
     Ok(())
 }

@@ -276,6 +276,13 @@ fn from_index_refs(rt: HostRuntime) -> Result<(), Fail> {
     Ok(())
 }
 
+#[test]
+fn from_slice(rt: HostRuntime) -> Result<(), Fail> {
+    let set = retried!(&rt, BitSet::from_slice(rt.alloc(), &ITEMS));
+    assert_has(&rt, &set, &[6, 7, FAR]);
+    Ok(())
+}
+
 // How a set took the items, or references to them.
 fn extended_by(set: &mut BitSet, by_reference: bool) -> Drawn<()> {
     drawn!(
@@ -315,6 +322,19 @@ fn extend_index_refs(rt: HostRuntime) -> Result<(), Fail> {
     let mut set = set_of(rt.alloc(), &[5])?;
     let extended = tried!(&rt, extended_by(&mut set, true), |it| it.0.is_err());
     assert_extends_again(&rt, &mut set, extended, true)?;
+    assert_has(&rt, &set, &[5, 6, 7, FAR]);
+    Ok(())
+}
+
+#[test]
+fn extend_from_slice(rt: HostRuntime) -> Result<(), Fail> {
+    let mut set = set_of(rt.alloc(), &[5])?;
+    let extended = tried!(&rt, set.extend_from_slice(&ITEMS));
+    if let Err(error) = extended {
+        assert!(rt; error == BuildError::Memory { place: 1 });
+        assert_way(&rt, &set, &[5, 6], FAR, UPPER);
+        set.extend_from_slice(&ITEMS)?;
+    }
     assert_has(&rt, &set, &[5, 6, 7, FAR]);
     Ok(())
 }

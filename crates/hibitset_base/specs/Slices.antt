@@ -1,7 +1,11 @@
--- Why a list, or a range, was not taken into a set.
-use Rattle.std.specs.Prelude.{◌≡◌, ◌⊎◌, ℕ, ◌+◌, ◌%◌, ◌<◌, ◌≤◌, List, slice_index}
+-- Sets that take the indices of a slice, and why one was refused.
+use Rattle.std.specs.Prelude.{◌≡◌, ◌⊎◌, ◌↔◌, ℕ, ◌<◌, ◌≤◌, Bool, true, List, slice_index, Contains}
 use Rattle.hibitset_base.specs.declared.build.BuildError.{BuildError}
 use Rattle.hibitset_base.specs.declared.build.BuildError.TheVariants.{OutOfRange, Memory}
+
+-- the members are the old ones and the indices of the list
+abbrev pub AddsList : (ℕ → Bool) → (ℕ → Bool) → List ℕ → Type 0
+AddsList old new list = (i : ℕ) → (new i ≡ true) ↔ ((old i ≡ true) ⊎ Contains list i)
 
 -- the place of the index that was refused
 abbrev pub place_of : BuildError → ℕ
@@ -26,14 +30,3 @@ LacksRoom lacks list (Memory place) = lacks (slice_index list place)
 abbrev pub LiesApartIn : (ℕ → ℕ → Type 0) → List ℕ → BuildError → Type 0
 LiesApartIn apart list (OutOfRange place index) = Unit {0}
 LiesApartIn apart list (Memory place) = (k : ℕ) → k < place → apart (slice_index list k) (slice_index list place)
-
--- Of the indices from a start on, the one at the place is out of range, or it lies in range and there was no memory for
--- it.
-abbrev pub IsWhyFrom : ℕ → ℕ → BuildError → Type 0
-IsWhyFrom range start (OutOfRange place index) = (index ≡ start + place) × (range ≤ index)
-IsWhyFrom range start (Memory place) = start + place < range
-
--- if an allocation failed, the index is the first of all, or the first of a word
-abbrev pub BeginsWord : ℕ → BuildError → Type 0
-BeginsWord start (OutOfRange place index) = Unit {0}
-BeginsWord start (Memory place) = (place ≡ 0) ⊎ ((start + place) % 64 ≡ 0)
