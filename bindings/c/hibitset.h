@@ -259,22 +259,22 @@ hibitset_status hibitset_roaring_read_below(hibitset_t *set, const uint8_t *byte
 
 /* ---- Assignments ---- */
 
-/* As the functions below without `raw_`, of two sets that are not the same. */
-hibitset_status hibitset_raw_assign(hibitset_t *set, const hibitset_t *other);
-hibitset_status hibitset_raw_or_assign(hibitset_t *set, const hibitset_t *other);
-hibitset_status hibitset_raw_xor_assign(hibitset_t *set, const hibitset_t *other);
-void hibitset_raw_and_assign(hibitset_t *set, const hibitset_t *other);
-void hibitset_raw_andnot_assign(hibitset_t *set, const hibitset_t *other);
+/* As the functions below without `internal_`, of two sets that are not the same. */
+hibitset_status hibitset_internal_assign(hibitset_t *set, const hibitset_t *other);
+hibitset_status hibitset_internal_or_assign(hibitset_t *set, const hibitset_t *other);
+hibitset_status hibitset_internal_xor_assign(hibitset_t *set, const hibitset_t *other);
+void hibitset_internal_and_assign(hibitset_t *set, const hibitset_t *other);
+void hibitset_internal_andnot_assign(hibitset_t *set, const hibitset_t *other);
 
 /* Makes `set` a copy of `other`. HIBITSET_NO_MEMORY: `set` is unchanged. */
 static inline hibitset_status hibitset_assign(hibitset_t *set, const hibitset_t *other) {
-    return set == other ? HIBITSET_OK : hibitset_raw_assign(set, other);
+    return set == other ? HIBITSET_OK : hibitset_internal_assign(set, other);
 }
 
 /* Adds the members of `other`. HIBITSET_NO_MEMORY (never if all of them are below hibitset_capacity): the members are
  * unchanged. */
 static inline hibitset_status hibitset_or_assign(hibitset_t *set, const hibitset_t *other) {
-    return set == other ? HIBITSET_OK : hibitset_raw_or_assign(set, other);
+    return set == other ? HIBITSET_OK : hibitset_internal_or_assign(set, other);
 }
 
 /* Adds the members of `other` that `set` lacks, and removes those that both have. HIBITSET_NO_MEMORY (never if all of
@@ -284,12 +284,12 @@ static inline hibitset_status hibitset_xor_assign(hibitset_t *set, const hibitse
         hibitset_remove_range(set, 0, HIBITSET_MAX_EID);
         return HIBITSET_OK;
     }
-    return hibitset_raw_xor_assign(set, other);
+    return hibitset_internal_xor_assign(set, other);
 }
 
 /* Removes the members that `other` lacks. The capacity stays. */
 static inline void hibitset_and_assign(hibitset_t *set, const hibitset_t *other) {
-    if (set != other) hibitset_raw_and_assign(set, other);
+    if (set != other) hibitset_internal_and_assign(set, other);
 }
 
 /* Removes the members that `other` has. The capacity stays. */
@@ -297,7 +297,7 @@ static inline void hibitset_andnot_assign(hibitset_t *set, const hibitset_t *oth
     if (set == other) {
         hibitset_remove_range(set, 0, HIBITSET_MAX_EID);
     } else {
-        hibitset_raw_andnot_assign(set, other);
+        hibitset_internal_andnot_assign(set, other);
     }
 }
 

@@ -23,7 +23,7 @@ impl BitSet {
         other: &B,
     ) -> Result<(), AllocError> {
         match other.form() {
-            Form::Set(other) => done(raw::hibitset_raw_or_assign(self.raw_mut(), other.raw())),
+            Form::Set(other) => done(raw::hibitset_internal_or_assign(self.raw_mut(), other.raw())),
             _ => self.take_in(other.try_to_bit_set()?, BitSet::try_bitor_assign),
         }
     }
@@ -38,7 +38,7 @@ impl BitSet {
         other: &B,
     ) -> Result<(), AllocError> {
         match other.form() {
-            Form::Set(other) => done(raw::hibitset_raw_xor_assign(self.raw_mut(), other.raw())),
+            Form::Set(other) => done(raw::hibitset_internal_xor_assign(self.raw_mut(), other.raw())),
             _ => self.take_in(other.try_to_bit_set()?, BitSet::try_bitxor_assign),
         }
     }
@@ -67,11 +67,11 @@ impl BitSet {
     /// ```
     pub fn subtract_assign<B: BitSetLike + ?Sized>(&mut self, other: &B) {
         match other.form() {
-            Form::Set(a) => raw::hibitset_raw_andnot_assign(self.raw_mut(), a.raw()),
-            Form::Not(a) => raw::hibitset_raw_and_assign(self.raw_mut(), a.raw()),
+            Form::Set(a) => raw::hibitset_internal_andnot_assign(self.raw_mut(), a.raw()),
+            Form::Not(a) => raw::hibitset_internal_and_assign(self.raw_mut(), a.raw()),
             Form::Or(a, b) => {
-                raw::hibitset_raw_andnot_assign(self.raw_mut(), a.raw());
-                raw::hibitset_raw_andnot_assign(self.raw_mut(), b.raw());
+                raw::hibitset_internal_andnot_assign(self.raw_mut(), a.raw());
+                raw::hibitset_internal_andnot_assign(self.raw_mut(), b.raw());
             }
             Form::And(..) | Form::AndNot(..) | Form::Xor(..) => {
                 let mut common = self.clone();
@@ -101,15 +101,15 @@ impl BitSet {
 impl<B: BitSetLike + ?Sized> BitAndAssign<&B> for BitSet {
     fn bitand_assign(&mut self, other: &B) {
         match other.form() {
-            Form::Set(a) => raw::hibitset_raw_and_assign(self.raw_mut(), a.raw()),
-            Form::Not(a) => raw::hibitset_raw_andnot_assign(self.raw_mut(), a.raw()),
+            Form::Set(a) => raw::hibitset_internal_and_assign(self.raw_mut(), a.raw()),
+            Form::Not(a) => raw::hibitset_internal_andnot_assign(self.raw_mut(), a.raw()),
             Form::And(a, b) => {
-                raw::hibitset_raw_and_assign(self.raw_mut(), a.raw());
-                raw::hibitset_raw_and_assign(self.raw_mut(), b.raw());
+                raw::hibitset_internal_and_assign(self.raw_mut(), a.raw());
+                raw::hibitset_internal_and_assign(self.raw_mut(), b.raw());
             }
             Form::AndNot(a, b) => {
-                raw::hibitset_raw_and_assign(self.raw_mut(), a.raw());
-                raw::hibitset_raw_andnot_assign(self.raw_mut(), b.raw());
+                raw::hibitset_internal_and_assign(self.raw_mut(), a.raw());
+                raw::hibitset_internal_andnot_assign(self.raw_mut(), b.raw());
             }
             Form::Or(..) => {
                 let mut rest = self.clone();

@@ -173,11 +173,11 @@ unsafe extern "C" {
         at: &mut usize,
     ) -> u32;
 
-    pub(crate) safe fn hibitset_raw_assign(set: &mut Set, other: &Set) -> u32;
-    pub(crate) safe fn hibitset_raw_or_assign(set: &mut Set, other: &Set) -> u32;
-    pub(crate) safe fn hibitset_raw_xor_assign(set: &mut Set, other: &Set) -> u32;
-    pub(crate) safe fn hibitset_raw_and_assign(set: &mut Set, other: &Set);
-    pub(crate) safe fn hibitset_raw_andnot_assign(set: &mut Set, other: &Set);
+    pub(crate) safe fn hibitset_internal_assign(set: &mut Set, other: &Set) -> u32;
+    pub(crate) safe fn hibitset_internal_or_assign(set: &mut Set, other: &Set) -> u32;
+    pub(crate) safe fn hibitset_internal_xor_assign(set: &mut Set, other: &Set) -> u32;
+    pub(crate) safe fn hibitset_internal_and_assign(set: &mut Set, other: &Set);
+    pub(crate) safe fn hibitset_internal_andnot_assign(set: &mut Set, other: &Set);
 
     pub(crate) safe fn hibitset_contains(set: &Set, index: Index) -> bool;
     pub(crate) safe fn hibitset_len(set: &Set) -> usize;

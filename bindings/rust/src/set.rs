@@ -400,7 +400,7 @@ impl BitSet {
     pub fn try_clone(&self) -> Result<BitSet, AllocError> {
         let mut set = BitSet::new();
         if !self.is_empty() {
-            done(raw::hibitset_raw_assign(&mut set.set, &self.set))?;
+            done(raw::hibitset_internal_assign(&mut set.set, &self.set))?;
         }
         Ok(set)
     }

@@ -2,11 +2,11 @@ use Rattle.std.proofs.Common.{subst}
 use Rattle.hibitset.specs.Merge.{NoWordsFrom}
 use Rattle.hibitset_c.specs.Seen.{has as other_has, word_of as other_word}
 use Rattle.hibitset_c.specs.Set.{has}
-use Rattle.hibitset_c.proofs.NoMemberLemmas.{no_words, xor_stays}
-use Rattle.hibitset_c.proofs.change.hibitset_raw_xor_assign.Goals as goal
+use Rattle.hibitset_c.proofs.NoMemberLemmas.{no_words, or_stays}
+use Rattle.hibitset_c.proofs.change.hibitset_internal_or_assign.Goals as goal
 
 pub returns-then-is_empty-clause-members : goal.returns-then-is_empty-clause-members
-returns-then-is_empty-clause-members c = λ _. xor_stays (has c.args.set.now) (other_has c.args.other.now) (c.is_empty.ensures.0 c.if-is_empty.true)
+returns-then-is_empty-clause-members c = λ _. or_stays (has c.args.set.now) (other_has c.args.other.now) (c.is_empty.ensures.0 c.if-is_empty.true)
 
 -- Without a set there is no word, so the other has no member.
 pub returns-then-not-make-clause-succeeds : goal.returns-then-not-make-clause-succeeds
