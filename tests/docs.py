@@ -30,9 +30,10 @@ Operators The sources of the operators are what the template of operators.py mak
 Calls     Each public call that can fail for memory is in the line above a test of hibitset_refusals, and each such line has
           the form that allocation/lines.py gives.
 Results   bench/RESULTS.md says in its first line which commit was measured.
+Release   Versions, the C header, toolchains, packages, README's tables of speed and the pictures agree (release.py says how).
 
 The two lists may only shrink. --write writes anew what is made by a script (tables of modules, edits of must-fail/,
-sources of the operators), and takes off the lists what is no longer so. It prints a line for each fault, with page and
+sources of the operators, tables of speed, pictures), and takes off the lists what is no longer so. It prints a line for each fault, with page and
 line, and ends with status 1 where there is one. checks/ has a module for each subject.
 """
 import argparse
@@ -41,7 +42,7 @@ from pathlib import Path
 
 import operators
 from allocation import calls
-from checks import clauses, counts, heads, lemmas, module_tables, mutants, pages, quotes
+from checks import clauses, counts, heads, lemmas, module_tables, mutants, pages, quotes, release
 from checks.repository import Repository
 from checks.sources import text_of
 
@@ -64,6 +65,7 @@ OF_REPOSITORY = (
     heads.wrong_results,
     lemmas.repeated,
     mutants.wrong_patches,
+    release.faults,
 )
 OF_MUTANTS = (mutants.wrong_mutants, mutants.wrong_untried)
 
@@ -88,6 +90,7 @@ def write(repository):
     mutants.write_gate_edits(repository, tables)
     mutants.shrink(repository, tables)
     lemmas.shrink(repository)
+    release.write_tables()
     text_of.cache_clear()
 
 

@@ -11,13 +11,14 @@ const RUST: &str = include_str!("../src/raw.rs");
 fn header() -> String {
     let path = concat!(env!("CARGO_MANIFEST_DIR"), "/../c/hibitset.h");
     let text = fs::read_to_string(path).expect("the header lies in ../c");
-    // Without comments.
+    // Without comments, and without the macro before what returns a status.
     let mut parts = text.split("/*");
     let first = parts.next().expect("a text has a first part").to_owned();
     first
         + &parts
             .map(|part| part.split_once("*/").expect("a comment ends").1)
             .collect::<String>()
+            .replace("HIBITSET_MUST_USE ", "")
 }
 
 /// What both languages call a type of C.
@@ -35,7 +36,7 @@ fn type_of_c(text: &str) -> String {
         "hibitset_t" => "Set",
         "hibitset_atomic_t" => "Atomic",
         "hibitset_seat_t" => "Seat",
-        "hibitset_status" | "uint32_t" => "u32",
+        "hibitset_status" | "hibitset_fault" | "uint32_t" => "u32",
         "uint64_t" | "size_t" => "usize",
         "uint8_t" => "u8",
         "void" => "()",
