@@ -31,9 +31,10 @@ Calls     Each public call that can fail for memory is in the line above a test 
           the form that allocation/lines.py gives.
 Results   bench/RESULTS.md says in its first line which commit was measured.
 Release   Versions, the C header, toolchains, packages, README's tables of speed and the pictures agree (release.py says how).
+Derived   rust/src/derived has what rust/derive.py makes of the sources, if that is there.
 
 The two lists may only shrink. --write writes anew what is made by a script (tables of modules, edits of must-fail/,
-sources of the operators, tables of speed, pictures), and takes off the lists what is no longer so. It prints a line for each fault, with page and
+sources of the operators, tables of speed, pictures, derived files), and takes off the lists what is no longer so. It prints a line for each fault, with page and
 line, and ends with status 1 where there is one. checks/ has a module for each subject.
 """
 import argparse
@@ -42,7 +43,7 @@ from pathlib import Path
 
 import operators
 from allocation import calls
-from checks import clauses, counts, heads, lemmas, module_tables, mutants, pages, quotes, release
+from checks import clauses, counts, derived, heads, lemmas, module_tables, mutants, pages, quotes, release
 from checks.repository import Repository
 from checks.sources import text_of
 
@@ -66,6 +67,7 @@ OF_REPOSITORY = (
     lemmas.repeated,
     mutants.wrong_patches,
     release.faults,
+    derived.derive,
 )
 OF_MUTANTS = (mutants.wrong_mutants, mutants.wrong_untried)
 
@@ -91,6 +93,7 @@ def write(repository):
     mutants.shrink(repository, tables)
     lemmas.shrink(repository)
     release.write_tables()
+    list(derived.derive(repository, "--write"))
     text_of.cache_clear()
 
 

@@ -7,7 +7,7 @@ from .sources import is_test, line_at, text_of
 # Words that stand for a name in a path, as in crates/NAME/must-fail.
 PLACEHOLDER = re.compile(r"\b(F|FILE|NAME|CRATE|OTHER|PATCH|MODULE|TYPE|FUNCTION|SUBJECT|WHAT_IS_WRONG|PROGRAM)\b|[*]|\.\.")
 PATH = re.compile(
-    r"(?<![\w./-])((?:docs|bench|tests|crates|bindings)/[\w./*+-]*\.(?:md|py|sh|rt|antt|edit|mutants|patch|svg)|CONTRIBUTING\.md)(?!\w)"
+    r"(?<![\w./-])((?:docs|bench|tests|crates|bindings|rust)/[\w./*+-]*\.(?:md|py|sh|rt|antt|edit|mutants|patch|svg)|CONTRIBUTING\.md)(?!\w)"
 )
 RATTLE_FILE = re.compile(r"`((?!crates/|tests/)(?:[\w-]+/)*[\w-]+\.(?:rt|antt))`")
 
