@@ -62,6 +62,7 @@ OF_REPOSITORY = (
     calls.wrong_calls,
     clauses.unnamed_functions,
     counts.wrong_counts,
+    counts.wrong_lists,
     heads.headless,
     heads.wrong_results,
     lemmas.repeated,
@@ -107,9 +108,9 @@ def main():
     said = [f"{repository.shown(path)}:{line}: {words}" for path, line, words in faults(repository, tables)]
     for line in said:
         print(line)
-    untried = ", ".join(mutants.without_mutant(repository, tables))
     cells = sum(1 for page in repository.pages for _ in clauses.clause_cells(page))
-    print(f"docs.py: public functions without a mutant: {untried or 'none'}")
+    for line in mutants.untried_lines(repository, tables):
+        print(f"docs.py: public functions without a mutant: {line}")
     print(f"docs.py: {len(repository.pages)} pages, {cells} cells of clauses: {f'{len(said)} faults' if said else 'ok'}")
     return 1 if said else 0
 

@@ -1,6 +1,7 @@
 """Numbers in the prose of pages that a script can count."""
 import re
 
+from .repository import LIBRARY
 from .sources import line_at, text_of
 
 WORDS = "zero one two three four five six seven eight nine ten eleven twelve thirteen fourteen fifteen sixteen seventeen eighteen nineteen".split()
@@ -32,12 +33,32 @@ def stored_scripts(repository):
     return sum(len(re.findall(name, text_of(path), re.M)) for path in scripts)
 
 
+def laws(repository):
+    crates = (repository.crate(name) for name in LIBRARY)
+    return sum(each.name.endswith("laws") and crate.is_public(each) for crate in crates for each in crate.functions)
+
+
 # What pages say, with the number as its group, and what counts it.
 PHRASES = (
     (r"crates/uses/README\.md\)\*{0,2}(?: has|:) (\S+) (?:whole )?modules", "modules of uses", modules_of_uses),
     (r"(?<!\S)(\S+) exports for C\b", "exports of hibitset_c", exports),
+    (r"(?<!\S)(\S+) calls that do nothing, whose contracts are such facts", "calls that state laws", laws),
     (r"(?<!\S)(\S+) scripts(?= with the answers|, six)", "stored scripts", stored_scripts),
 )
+
+# Lists of modules of uses, with how many they are: the number and the names.
+LISTS = re.compile(r"(\S+) modules (?:work on|are about) [^:;.]*: ([^;.]*)")
+
+
+def wrong_lists(repository):
+    """The lists of modules of uses that have other names than there are, or another number of them."""
+    there = {path.stem for path in repository.crate("uses").modules()}
+    for page in repository.pages:
+        for each in LISTS.finditer(text_of(page)):
+            names, line = re.findall(r"`(\w+)`", each[2]), line_at(text_of(page), each.start())
+            yield from ((page, line, f"names {name}, which is no module of uses") for name in names if name not in there)
+            if number(each[1]) != len(names):
+                yield page, line, f"says {each[1]} modules where it names {len(names)}"
 
 
 def wrong_counts(repository, phrases=PHRASES):

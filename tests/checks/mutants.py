@@ -10,6 +10,13 @@ from .repository import LIBRARY
 from .sources import text_of
 
 
+# Mutants that restate clauses, as CRATE NAME: no twin can take them from the source.
+RESTATED = {
+    "hibitset equal_where_contained",  # a law says them, and `eq` has no clauses
+    "hibitset_store join_looks_up_each_key",  # of another type than `join` returns
+}
+
+
 class Mutants:
     """The mutants of a repository, and the edits that are made of them."""
 
@@ -56,6 +63,14 @@ class Mutants:
         }
 
 
+def restated(mutants):
+    """The mutants that write clauses, where a twin gets them from the source."""
+    for name, mutant in mutants.found:
+        clauses = any(re.search(r"\b(?:ensures|requires)\b.*\{", new) for _, _, new in mutant.pairs)
+        if clauses and f"{name} {mutant.name}" not in RESTATED:
+            yield mutant.table, mutant.line, f"{mutant.name} restates clauses: write it as a twin"
+
+
 def strays(repository):
     """The edits of must-fail/ that there are, and those of contract/, where none belongs."""
     return sorted(repository.crates.glob("*/must-fail/*.edit")), sorted(repository.top.glob("tests/mutants/contract/**/*.edit"))
@@ -64,6 +79,7 @@ def strays(repository):
 def wrong_mutants(repository, mutants):
     """What is wrong in the tables, and where must-fail/ has not the edits that are made of them."""
     yield from mutants.bad
+    yield from restated(mutants)
     there, strayed = strays(repository)
     yield from ((path, 1, "is an edit beside the tables: it belongs into one of them") for path in strayed)
     wanted = mutants.gate_edits()
@@ -96,6 +112,15 @@ def without_mutant(repository, mutants):
             if function.ensures and crate.is_public(function) and not any((name, call) in tried for call in calls) and not calls & seen:
                 seen |= calls
                 yield f"{name} {function.name_shown()}"
+
+
+def untried_lines(repository, mutants):
+    """The public functions without a mutant, in a line for each crate."""
+    crates = {}
+    for each in without_mutant(repository, mutants):
+        name, function = each.split()
+        crates.setdefault(name, []).append(function)
+    return [f"{name}: {', '.join(functions)}" for name, functions in crates.items()]
 
 
 def list_of_untried(repository):

@@ -89,6 +89,11 @@ class Checks(InRepository):
         self.assertIn("there is no function Set::had", self.faults(TWIN.replace("Set::has", "Set::had")))
         self.assertIn("stands also in line", self.faults(PLAIN + PLAIN))
 
+    def test_clauses_that_a_mutant_restates(self):
+        text = "fn twin(&self) -> bool ensures found { IsTrue result } { true } fn word"
+        said = self.faults(PLAIN.replace("- self.word(id) == 1", "- fn word").replace("+ self.word(id) == 2", f"+ {text}").replace("Set::has", "Set::word"))
+        self.assertIn("has_none restates clauses", said)
+
     def test_edits_of_the_gate(self):
         self.assertIn("is not what its table makes", self.faults(TWIN))
         stray = {"crates/low/must-fail/stray.edit": "file: src/set.rt\n"}

@@ -104,4 +104,8 @@ class Repositories(InRepository):
         repository = self.repository({"README.md": "low has two modules\n"})
         one = ((r"low has (\S+) modules", "modules", lambda _: 1),)
         self.assertIn("says two where there are 1 modules", self.said(counts.wrong_counts(repository, one)))
+        lists = {"README.md": "Three modules are about rows: `rows`, `lost`.", "crates/uses/src/rows.rt": "//! Rows.\n"}
+        said = self.said(counts.wrong_lists(self.repository(lists)))
+        self.assertIn("names lost, which is no module of uses", said)
+        self.assertIn("says Three modules where it names 2", said)
         self.assertIn("no page says", self.said(counts.wrong_counts(repository, ((r"high has (\S+)", "modules", len),))))
