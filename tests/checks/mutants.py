@@ -2,6 +2,7 @@
 import os
 import re
 import subprocess
+from concurrent.futures import ThreadPoolExecutor
 
 from mutants import edits, tables
 
@@ -139,15 +140,23 @@ def shrink(repository, mutants):
         print("docs.py: without_mutant.txt is shorter")
 
 
-def wrong_patches(repository):
-    """The patches that cannot be applied, or that name a test that is not there."""
+def why_not_applied(repository, path):
+    """What git says of a patch that cannot be applied to the sources as they are; nothing of one that can."""
     # Above this folder git looks for no repository, so that each path of a patch is one from here.
     environment = {**os.environ, "GIT_CEILING_DIRECTORIES": str(repository.top.parent)}
-    for path in sorted(repository.top.glob("tests/mutants/tests/*.patch")):
-        checked = ["git", "apply", "--check", path]
-        ran = subprocess.run(checked, cwd=repository.top, env=environment, capture_output=True, text=True)
-        if ran.returncode:
-            yield path, 1, f"cannot be applied: {ran.stderr.strip().splitlines()[0]}"
+    checked = ["git", "apply", "--check", path]
+    ran = subprocess.run(checked, cwd=repository.top, env=environment, capture_output=True, text=True)
+    return ran.stderr.strip().splitlines()[0] if ran.returncode else ""
+
+
+def wrong_patches(repository):
+    """The patches that cannot be applied, or that name a test that is not there."""
+    paths = sorted(repository.top.glob("tests/mutants/tests/*.patch"))
+    with ThreadPoolExecutor() as pool:
+        whys = list(pool.map(lambda path: why_not_applied(repository, path), paths))
+    for path, why in zip(paths, whys):
+        if why:
+            yield path, 1, f"cannot be applied: {why}"
         yield from ((path, line, words) for line, words in wrong_head(repository, path))
 
 

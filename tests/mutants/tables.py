@@ -16,7 +16,7 @@ from pathlib import Path
 
 CONTRACT = Path(__file__).resolve().parent / "contract"
 NAME = re.compile(r"(\w+)(?:: (twin|gate|twin, gate))?$")
-WORDS = ("file", "before", "with", "for", "parts")
+OF_TWINS = ("before", "with", "for", "parts")
 
 
 class BadTable(Exception):
@@ -40,7 +40,7 @@ class Mutant:
     is_gate: bool = False
     pairs: list = field(default_factory=list)  # file, old text, new text
     body: list = field(default_factory=list)
-    said: dict = field(default_factory=dict)  # before, with, for
+    said: dict = field(default_factory=dict)  # what its lines before:, with:, for: and parts: say
 
 
 def file_of(table, folder):
@@ -53,7 +53,8 @@ class Reader:
 
     def __init__(self, table, file):
         self.table, self.file, self.number = table, file, 0
-        self.function, self.old, self.last = "", None, None
+        self.function, self.into = "", file
+        self.old, self.last = None, ""  # the text of a line - that has no line + yet; the kind of the line before
         self.found = []
 
     def fail(self, words):
@@ -65,13 +66,14 @@ class Reader:
                 self.close()
                 self.function = line[3:].strip()
             elif line.startswith("    ") and line.strip():
-                self.read_part(line)
+                self.read_part(line[4:])
             elif line.strip() and not line.startswith("# "):
                 self.open(line)
         self.close()
         return self.found
 
     def open(self, line):
+        """Begins a mutant."""
         self.close()
         named = NAME.match(line)
         if not named:
@@ -80,40 +82,47 @@ class Reader:
             self.fail(f"{named[1]} stands under no heading ## FUNCTION")
         marks = named[2] or ""
         self.found.append(Mutant(named[1], self.function, self.table, self.number, self.file, "twin" in marks, "gate" in marks))
-        self.into, self.last = self.file, None
+        self.into, self.last = self.file, ""
 
     def close(self):
+        """Sees that the mutant before is whole."""
         if self.old is not None:
             self.fail("a line - has no line + behind it")
-        if self.found and self.found[-1].is_twin != bool(self.found[-1].body):
-            self.fail(f"{self.found[-1].name} is a twin without a body, or has a body and is none")
-        if self.found and not self.found[-1].body and not self.found[-1].pairs:
-            self.fail(f"{self.found[-1].name} changes nothing")
+        if not self.found:
+            return
+        mutant = self.found[-1]
+        if mutant.is_twin != bool(mutant.body):
+            self.fail(f"{mutant.name} is a twin without a body, or has a body and is none")
+        if not mutant.is_twin and (mutant.said or not mutant.pairs):
+            self.fail(f"{mutant.name} changes nothing, or has lines of a twin and is none")
 
-    def read_part(self, line):
+    def read_part(self, said):
+        """Reads a line of a mutant, without its first four spaces."""
         if not self.found:
             self.fail("stands below no mutant")
-        mutant, said = self.found[-1], line[4:]
+        mutant = self.found[-1]
         word, colon, rest = said.partition(": ")
-        if said.startswith("    ") and self.last in ("new", "with"):
+        if said.startswith("    ") and self.last in ("+", "with"):
             self.go_on(mutant, said.strip())
-        elif said.startswith("- "):
-            self.old, self.last = said[2:], "old"
-        elif said == "+" or said.startswith("+ "):
-            if self.old is None:
-                self.fail("a line + has no line - before it")
-            mutant.pairs.append((self.into, self.old, said[2:]))
-            self.old, self.last = None, "new"
+        elif said.startswith("- ") or said == "+" or said.startswith("+ "):
+            self.read_pair(mutant, said[0], said[2:])
         elif colon and word == "file":
             self.into, self.last = rest, word
-        elif colon and word in WORDS:
+        elif colon and word in OF_TWINS:
             mutant.said[word], self.last = rest, word
         else:
             mutant.body.append(said.strip())
             self.last = "body"
 
+    def read_pair(self, mutant, sign, text):
+        if (sign == "-") != (self.old is None):
+            self.fail("a line - has no line + behind it" if sign == "-" else "a line + has no line - before it")
+        if sign == "+":
+            mutant.pairs.append((self.into, self.old, text))
+        self.old, self.last = (text, sign) if sign == "-" else (None, sign)
 
     def go_on(self, mutant, said):
+        """Reads a line that goes on with the one before."""
         if self.last == "with":
             mutant.said["with"] += f" {said}"
         else:

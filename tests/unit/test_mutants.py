@@ -45,6 +45,9 @@ class Tables(unittest.TestCase):
         self.refuses("## f\nm\n", "changes nothing")
         self.refuses("## f\nm: twin\n    - a\n    + b\n", "twin without a body")
         self.refuses("## f\nm\n    body()\n", "has a body and is none")
+        self.refuses("## f\nm\n    - a\n    - b\n    + c\n", "no line + behind it")
+        self.refuses("## f\nm\n    with: #[inline]\n    - a\n    + c\n", "has lines of a twin and is none")
+        self.refuses("    - a\n", "stands below no mutant")
 
 
 class Edits(InRepository):
