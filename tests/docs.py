@@ -45,7 +45,7 @@ import operators
 from allocation import calls
 from checks import clauses, counts, derived, heads, lemmas, module_tables, mutants, pages, quotes, release
 from checks.repository import Repository
-from checks.sources import text_of
+from checks.sources import lines_of, text_of
 
 TOP = Path(__file__).resolve().parent.parent
 OF_PAGES = (
@@ -96,6 +96,7 @@ def write(repository):
     release.write_tables()
     list(derived.derive(repository, "--write"))
     text_of.cache_clear()
+    lines_of.cache_clear()
 
 
 def main():

@@ -38,12 +38,11 @@ def refusal(line):
     return next((kind for form, kind in KINDS if re.search(form, found[1])), "READ THE LINE")
 
 
-def chosen(crate, function):
-    """The mutants of a crate to be tried."""
-    found = tables.mutants_of(crate)
+def chosen(mutants, function=None):
+    """Which of the mutants are to be tried."""
     if not function:
-        return [mutant for mutant in found if not mutant.is_gate]
-    return [mutant for mutant in found if mutant.function == function or mutant.function.endswith(f"::{function}")]
+        return [mutant for mutant in mutants if not mutant.is_gate]
+    return [mutant for mutant in mutants if mutant.function == function or mutant.function.endswith(f"::{function}")]
 
 
 def copy(work):
@@ -85,7 +84,7 @@ def main():
     names = [crate] if crate else tables.crates()
     if len(sys.argv) > 3 or not set(names) <= set(tables.crates()):
         sys.exit(__doc__)
-    found = {name: chosen(name, function) for name in names}
+    found = {name: chosen(tables.mutants_of(name), function) for name in names}
     if not any(found.values()):
         sys.exit(f"run_contract.py: no heading of {crate} is {function}")
     with tempfile.TemporaryDirectory() as folder:

@@ -4,7 +4,7 @@ from pathlib import Path
 
 from checks import mutants as checks
 from mutants import edits, tables
-from mutants.run_contract import refusal
+from mutants.run_contract import chosen, refusal, write
 
 from .fixture import InRepository
 
@@ -118,6 +118,20 @@ class Checks(InRepository):
         said = self.said(checks.wrong_patches(repository))
         self.assertIn("cannot be applied", said)
         self.assertIn("low has no test tests::lost", said)
+
+
+class Tries(InRepository):
+    def test_which_are_tried(self):
+        mutants = read(PLAIN + TWIN)
+        self.assertEqual([mutant.name for mutant in chosen(mutants)], ["has_none"])
+        self.assertEqual([mutant.name for mutant in chosen(mutants, "has")], ["has_none", "has_all"])
+        self.assertEqual(chosen(mutants, "as"), [])
+
+    def test_their_edits(self):
+        repository = self.repository({"crates/low/must-fail/old.edit": "file: src/set.rt\n"})
+        write(repository.top, "low", read(PLAIN))
+        (edit,) = (repository.crates / "low" / "must-fail").iterdir()
+        self.assertEqual(edit.read_text(encoding="utf-8"), "file: src/set.rt\nold: self.word(id) == 1\nnew: self.word(id) == 2\n")
 
 
 class Refusals(unittest.TestCase):
