@@ -1,19 +1,20 @@
 #!/usr/bin/env bash
 # test.sh [--anew] [PART [WORD..]]: passes all tests of this repository, or one part of them.
-#   docs [--write]              pages, files and mutants agree, and the scripts pass their tests; --write makes anew what is generated
+#   docs [--write]              pages, files, mutants and derived files agree, and the scripts pass their tests; --write makes anew what is generated
 #   proofs [CRATE..]            rt ci: proofs from nothing, must-fail edits, tests, programs
 #   mutants contract [CRATE [FUNCTION]]  the prover refuses the mutants of tests/mutants/contract
 #   mutants tests [--gate|PATCH]  tests kill the mutants of tests/mutants/tests; --gate: those that the gate tries
 #   allocation                  each allocation of each call fails in turn, in what proofs has built
 #   differential [PROGRAM]      the program gives the stored answers; without PROGRAM it is proved and built first
-#   bindings                    C and Rust programs over the library pass their tests, also where it is installed
+#   bindings                    C and C++ programs over the library pass their tests, also where it is installed
 #   bench                       each row of the benchmark runs once, at the smallest size
+#   rust                        the Cargo crate of rust/: its derivation, its tests, derived tests, scripts, lints, package
 #   guide [--make FOLDER]       the repository that docs/GUIDE.md prints passes; --make makes it alone
-# Without PART: docs, proofs beside mutants tests --gate, allocation, differential, bindings, bench. It stops at the first part that fails.
+# Without PART: docs, proofs beside mutants tests --gate, allocation, differential, bindings, bench, rust. It stops at the first part that fails.
 # --anew: rt ci proves and tries all, whatever it has kept on this machine.
 set -euo pipefail
 top=$(cd "$(dirname "$0")" && pwd)
-parts=7
+parts=8
 beside=
 lowest=
 anew=
@@ -75,6 +76,7 @@ run() { # PART [WORD..]: one part, by the script that does it
         "differential "*) sh "$top/tests/differential/replay.sh" "${@:2}" ;;
         "bindings "*) "$top/tests/bindings.sh" "${@:2}" ;;
         "bench "*) "$top/tests/bench_rows.sh" "${@:2}" ;;
+        "rust "*) "$top/tests/rust.sh" ;;
         "guide "*) "$top/tests/guide.py" "${@:2}" ;;
         *) usage ;;
     esac
@@ -123,4 +125,5 @@ part 4 allocation
 part 5 differential "$top/crates/hibitset_run/out/hibitset_run"
 part 6 bindings --proved
 part 7 bench --proved
+part 8 rust
 echo "test.sh: all passed after $((SECONDS / 60)) min"

@@ -39,6 +39,7 @@ line, and ends with status 1 where there is one. checks/ has a module for each s
 """
 import argparse
 import sys
+from concurrent.futures import ThreadPoolExecutor
 from pathlib import Path
 
 import operators
@@ -66,15 +67,23 @@ OF_REPOSITORY = (
     heads.headless,
     heads.wrong_results,
     lemmas.repeated,
-    mutants.wrong_patches,
-    release.faults,
-    derived.derive,
 )
+# Those that wait for other programs, beside the others.
+BESIDE = (mutants.wrong_patches, release.faults, derived.derive)
 OF_MUTANTS = (mutants.wrong_mutants, mutants.wrong_untried)
 
 
 def faults(repository, tables):
     """All that is wrong, each as page, line and words."""
+    with ThreadPoolExecutor() as pool:
+        beside = [pool.submit(lambda check=check: list(check(repository))) for check in BESIDE]
+        yield from faults_read(repository, tables)
+        for found in beside:
+            yield from found.result()
+
+
+def faults_read(repository, tables):
+    """What is wrong by the files alone."""
     for page in repository.pages:
         for check in OF_PAGES:
             yield from ((page, line, words) for line, words in check(repository, page))

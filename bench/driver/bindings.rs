@@ -1,4 +1,4 @@
-//! bindings [REPEATS [MILLISECONDS [WORDS]]]: the kernels of `original.rs` over the crate of bindings/rust and over the original, in one process.
+//! bindings [REPEATS [MILLISECONDS [WORDS]]]: the kernels of `original.rs` over the crate of rust/ and over the original, in one process.
 //! bindings count [WORDS]: has callgrind count the instructions of each kernel.
 mod callgrind;
 mod harness;

@@ -4,7 +4,7 @@ Versions   The version in VERSION is that of the header, of rust/Cargo.toml if i
            CHANGELOG.md.
 Header     bindings/c/check.py finds no fault.
 Toolchains README names each toolchain of .ci/kit, and its logic.
-Packages   The Dockerfile installs what .ci/packages lists. That has a package for each command that tests/bindings.sh asks for.
+Packages   The Dockerfile installs what .ci/packages lists. That has a package for each command that tests/bindings.sh or tests/rust.sh asks for.
 Speed      README's tables between <!-- speed --> and <!-- slower --> and their ends are those that bench/RESULTS.md gives.
            Each row that is slower than the original is in one of them.
 Pictures   Those of docs/pictures are what draw.py draws. docs.py --write makes tables and pictures anew.
@@ -86,7 +86,8 @@ def wrong_packages(text=text_of):
     installs = re.search(r"^RUN .*apt-get install .*$", docker, re.M)
     if not copied or not installs or f"$(cat {copied[1]})" not in installs[0]:
         yield "Dockerfile", "does not install what .ci/packages lists"
-    for line in re.findall(r'has "[^"]*" ([^;]*);', text("tests/bindings.sh")):
+    asked = re.findall(r'has "[^"]*" ([^;]*);', text("tests/bindings.sh")) + re.findall(r"command -v ([\w-]+)", text("tests/rust.sh"))
+    for line in asked:
         for command in line.split():
             package = PACKAGES.get(command) or RUST.get(command)
             if not package:
