@@ -1,12 +1,12 @@
 -- The layers among the marks: what holds of all marks of an index, and what a load at a position of a layer tells.
-use Rattle.std.proofs.Common.{◌≡◌, ◌≢◌, ⊎_elim, ℕ, zero, suc, ◌+◌, ◌-◌, ◌*◌, ◌/◌, ◌%◌, ◌^◌, ◌<◌, sym, refl, subst, arith, add-one}
+use Rattle.std.proofs.Common.{◌≡◌, ◌≢◌, ℕ, zero, suc, ◌+◌, ◌-◌, ◌*◌, ◌/◌, ◌%◌, ◌^◌, ◌<◌, sym, refl, subst, arith, add-one}
 use Rattle.std.specs.Int.{bit_at}
 use Rattle.std.proofs.Math.Nat.{pow-succ', div-div-eq-div-mul}
 use Rattle.atomic_table.specs.Table.{Me}
 use Rattle.hibitset_atomic.specs.declared.shared.view.View.{View}
 use Rattle.hibitset_atomic.specs.Lists.{Has}
-use Rattle.hibitset_atomic.specs.Levels.{first_mark, ShareBit}
-use Rattle.hibitset_atomic.specs.Rule.{IsSet, HoldsOnPath, Knows, LoadAt, above, Gap, IsOldOrKnownTo}
+use Rattle.hibitset_atomic.specs.Levels.{first_mark}
+use Rattle.hibitset_atomic.specs.Rule.{IsSet, HoldsOnPath, Knows, LoadAt, above}
 use Rattle.hibitset_atomic.proofs.LoadLemmas.{under_nonzero, under_seen, under_known, under_old}
 use Rattle.hibitset_atomic.specs.declared.shared.layout.TheConstants.{LAYER3_START, ROW_WORDS}
 use Rattle.hibitset_atomic.specs.declared.atomic.TheConstants.{ATOMIC_MAX_EID}
@@ -114,12 +114,3 @@ module _ (l q : ℕ) (lt : l < 4) where
         let h : Has v.0.seen (first_mark l + i / 64 ^ l) = whole_at (Has v.0.seen) i l knows lt in
         let m-is : first_mark l + i / 64 ^ l ≡ (first_mark l / 64 + q) * 64 + i / 64 ^ l % 64 = (let z = whole_words l lt in let u = up_one i l in omega (arith, z, u, e)) in
         under_known (first_mark l / 64 + q) n v w t (i / 64 ^ l % 64) (omega arith) (subst (Has v.0.seen) m-is h)
-
--- Where a seat finds the bit of an index clear, no index that is old or known to it has the same bit.
-pub no-gap : (i j l : ℕ) (v w : View) → IsOldOrKnownTo v i → ShareBit l i j → l < 4 → w.old ≡ v.old → ((m : ℕ) → Has v.seen m → Has w.seen m) → Gap w (first_mark l + j / 64 ^ l) → ⊥
-no-gap i j l v w known share lt same grew gap =
-    let there : IsSet gap.0 (first_mark l + i / 64 ^ l) → ⊥ = λ on. gap.1 (subst (λ q. IsSet gap.0 (first_mark l + q)) share on) in
-    ⊎_elim
-    (λ old. there (whole_at (IsSet gap.0) i l (gap.3 i known.0 (subst (λ words. IsSet words i) (sym same) old)) lt))
-    (λ knows. there (gap.2 _ (grew _ (whole_at (Has v.seen) i l knows lt))))
-    known.1

@@ -10,6 +10,7 @@ use lib.ListN.{get_elem?}
 use Rattle.atomic_table.specs.Table.{State, Step, Me}
 use Rattle.hibitset_atomic.specs.declared.shared.view.View.{View}
 use Rattle.hibitset_atomic.specs.Lists.{Has, Distinct, Apart, below, Each, Pairs}
+use Rattle.hibitset_atomic.specs.Levels.{ShareBit}
 use Rattle.hibitset_atomic.specs.declared.shared.layout.TheConstants.{SHARES, ROW_WORDS}
 use Rattle.hibitset_atomic.specs.declared.atomic.TheConstants.{ATOMIC_MAX_EID}
 
@@ -164,3 +165,7 @@ Gap v mark = (words : List ℕ) × ¬ IsSet words mark × Sees words v × OldPat
 -- the index was there when the set was shared, or the seat knows it
 abbrev pub IsOldOrKnownTo : View → ℕ → Type 0
 IsOldOrKnownTo v i = (i < ATOMIC_MAX_EID) × (IsSet v.old i ⊎ Knows v i)
+
+-- between two steps of one seat, no exchange was made if an old or known index has the bit of this one in the layer
+unfoldable pub SparesSharedBit : ℕ → ℕ → View → View → Type 0
+SparesSharedBit layer id v w = (i : ℕ) → IsOldOrKnownTo v i → ShareBit layer i id → w.exchanges ≡ v.exchanges

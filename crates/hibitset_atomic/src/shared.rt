@@ -11,12 +11,11 @@ ghost use Rattle.std.specs.Slots.{slots_items, slots_len, IsFull};
 ghost use Rattle.std.specs.List.{IsDistinct};
 ghost use Rattle.hibitset_atomic.specs.AtomicBitSet.{has, word_of, AllBlocksReserved};
 ghost use Rattle.hibitset_atomic.specs.Blocks.{HasRoom};
-ghost use Rattle.hibitset_atomic.specs.Levels.{ShareBit};
 ghost use Rattle.hibitset_atomic.specs.Row.{word_in_row};
 ghost use Rattle.hibitset_base.specs.Words.{SummariesExactEverywhere};
 ghost use Rattle.hibitset_atomic.specs.declared.layers.TheConstants.{ATOMIC_LAYERS};
 ghost use Rattle.hibitset_atomic.specs.declared.atomic.TheConstants.{ATOMIC_MAX_EID};
-ghost use Rattle.hibitset_atomic.specs.Seats.{IsOld, BelongsTo, IsKnown, weight_of, reports_of, loads_by, exchanges_by, HasAllReports};
+ghost use Rattle.hibitset_atomic.specs.Seats.{IsOld, BelongsTo, IsKnown, weight_of, reports_of, loads_by, exchanges_by, SparesSharedBits, HasAllReports};
 ghost use Rattle.hibitset_atomic.specs.declared.shared.layout.TheConstants.{SHARES, LAYER1_START, ROW_WORDS};
 
 use crate::atomic::{ATOMIC_MAX_EID, AtomicBitSet};
@@ -150,8 +149,7 @@ impl SharedBitSet {
         ensures still { IsOld self.now id ⊎ IsKnown seat.old id
             → (loads_by seat.new ≤ loads_by seat.old + ATOMIC_LAYERS)
             × (exchanges_by seat.new ≡ exchanges_by seat.old) }
-        ensures spared { (i layer : ℕ) → IsOld self.now i ⊎ IsKnown seat.old i
-            → ShareBit layer i id → exchanges_by seat.new ≤ exchanges_by seat.old + layer }
+        ensures spared { SparesSharedBits self.now seat.old seat.new id }
     {
         if self.contains(seat, id) {
             return true;
@@ -172,8 +170,7 @@ impl SharedBitSet {
         ensures new { result ≡ false → reports_of seat.new ≡ id ∷ reports_of seat.old }
         ensures loads { loads_by seat.new ≡ loads_by seat.old + (ATOMIC_LAYERS - 1) }
         ensures exchanges { exchanges_by seat.new ≤ exchanges_by seat.old + ATOMIC_LAYERS }
-        ensures spared { (i layer : ℕ) → IsOld self.now i ⊎ IsKnown seat.old i
-            → ShareBit layer i id → exchanges_by seat.new ≤ exchanges_by seat.old + layer }
+        ensures spared { SparesSharedBits self.now seat.old seat.new id }
     {
         let there = self.fetch_or_layer0(&mut seat.pass, id);
         self.set_summary(&mut seat.pass, id, 0);

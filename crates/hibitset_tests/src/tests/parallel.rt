@@ -175,11 +175,18 @@ fn folds_count_their_pieces(rt: HostRuntime) -> Result<(), Fail> {
 #[test]
 fn folds_count_the_pieces_of_large_sets(rt: HostRuntime) -> Result<(), Fail> {
     let is_cut = available_parallelism(&rt)?.get() > 1;
-    for (members, parts) in [(33_554_432u32, 1_024), (134_217_728, 4_096), (150_994_944, 4_096)] {
+    for (members, parts) in [
+        (33_554_432u32, 1_024),
+        (134_217_728, 4_096),
+        (150_994_944, 4_096),
+    ] {
         let wanted = if is_cut { parts } else { 1 };
         let mut many = BitSet::new(rt.alloc());
         many.add_range(0, members)?;
-        assert!(rt; pieces_of(&rt, rt.alloc(), &many, 4)? == wanted, "{members} members");
+        assert!(rt;
+            pieces_of(&rt, rt.alloc(), &many, 4)? == wanted,
+            "{members} members"
+        );
     }
     Ok(())
 }
