@@ -104,6 +104,8 @@ def function_twin(mutant, crate, traits):
             raise BadMutant(f"{mutant.function} is not in {mutant.file}: a line 'before: ..' has to say where its twin stands")
         old = lines_of(function.path)[function.at].strip()
         return old, " ".join(filter(None, [extra, twin, *attributes(function), old]))
+    if before not in (line.strip() for line in lines_of(crate.folder / mutant.file)):
+        raise BadMutant(f"{mutant.file} has no line: {before}")
     twin = " ".join(filter(None, [extra, twin]))
     if BLOCK.match(before):
         owner = block_head(function).removesuffix(" {") if function else f"impl {mutant.function.split('::')[0]}"

@@ -67,6 +67,10 @@ class Edits(InRepository):
         self.assertTrue(new.startswith("impl Set { pub fn has_twin"))
         self.assertTrue(new.endswith("{ self.has(id); true } } impl<T: Sets> BitAnd<T> for Set {"))
 
+    def test_a_twin_before_a_part_of_a_line(self):
+        with self.assertRaises(edits.BadMutant):
+            self.pairs(TWIN.replace("gate\n", "gate\n    before: fn has(&self\n"))
+
     def test_an_operator(self):
         ((_, old, new),) = self.pairs(OPERATOR)
         self.assertIn("type Output = Or<Self, T>; ghost bitand_gives = { λ set other result. (result.1 ≡ set)", new)

@@ -27,9 +27,6 @@ class Faults(unittest.TestCase):
         said = list(check(changed(name, old, new)))
         self.assertTrue(any(words in f"{page}: {line}" for page, line in said), said)
 
-    def test_repository(self):
-        self.assertEqual(list(release.faults()), [])
-
     def test_versions(self):
         version = release.text_of("VERSION").strip()
         self.finds(release.wrong_versions, "CHANGELOG.md", f"## [{version}]", "## [9.9.9]", "no heading for")
