@@ -1,8 +1,8 @@
 #!/usr/bin/env bash
 # test.sh [--anew] [PART [WORD..]]: passes all tests of this repository, or one part of them.
-#   docs [--write]              pages, files, edits, patches and derived files agree; --write makes tables and derived files anew
+#   docs [--write]              pages, files, mutants and derived files agree, and the scripts pass their tests; --write makes anew what is generated
 #   proofs [CRATE..]            rt ci: proofs from nothing, must-fail edits, tests, programs
-#   mutants contract [CRATE..]  the prover refuses the mutants of tests/mutants/contract
+#   mutants contract [CRATE [FUNCTION]]  the prover refuses the mutants of tests/mutants/contract
 #   mutants tests [--gate|PATCH]  tests kill the mutants of tests/mutants/tests; --gate: those that the gate tries
 #   allocation                  each allocation of each call fails in turn, in what proofs has built
 #   differential [PROGRAM]      the program gives the stored answers; without PROGRAM it is proved and built first
@@ -51,6 +51,11 @@ prove_lowest() { # hibitset_base, for which all other crates wait: rt gives a pr
     lowest=
 }
 
+docs() { # [--write]: the unit tests of the scripts, and what they check
+    (cd "$top/tests" && python3 -m unittest discover --quiet --start-directory unit --top-level-directory .) || return
+    "$top/tests/docs.py" "$@"
+}
+
 proofs() { # [CRATE..]: rt ci
     if [ $# -gt 0 ]; then
         (cd "$top" && rt ci $anew "$@")
@@ -63,9 +68,9 @@ proofs() { # [CRATE..]: rt ci
 
 run() { # PART [WORD..]: one part, by the script that does it
     case "$1 ${2:-}" in
-        "docs "*) "$top/tests/docs.py" "${@:2}" && "$top/tests/docs_release_tests.py" --quiet ;;
+        "docs "*) docs "${@:2}" ;;
         "proofs "*) proofs "${@:2}" ;;
-        "mutants contract") "$top/tests/mutants/run_contract.sh" "${@:3}" ;;
+        "mutants contract") "$top/tests/mutants/run_contract.py" "${@:3}" ;;
         "mutants tests") "$top/tests/mutants/run_tests.sh" "${@:3}" ;;
         "allocation "*) "$top/tests/allocation_failures.py" ;;
         "differential "*) sh "$top/tests/differential/replay.sh" "${@:2}" ;;
