@@ -1,18 +1,20 @@
 #!/usr/bin/env bash
 # test.sh [--anew] [PART [WORD..]]: passes all tests of this repository, or one part of them.
-#   docs [--write]              pages, files, edits and patches agree; --write makes the generated tables anew
+#   docs [--write]              pages, files, edits, patches and derived files agree; --write makes tables and derived files anew
 #   proofs [CRATE..]            rt ci: proofs from nothing, must-fail edits, tests, programs
 #   mutants contract [CRATE..]  the prover refuses the mutants of tests/mutants/contract
 #   mutants tests [--gate|PATCH]  tests kill the mutants of tests/mutants/tests; --gate: those that the gate tries
 #   allocation                  each allocation of each call fails in turn, in what proofs has built
 #   differential [PROGRAM]      the program gives the stored answers; without PROGRAM it is proved and built first
-#   bindings                    C and Rust programs over the library pass their tests
+#   bindings                    C and C++ programs over the library pass their tests, also where it is installed
+#   bench                       each row of the benchmark runs once, at the smallest size
+#   rust                        the Cargo crate of rust/: its derivation, its tests, derived tests, scripts, lints, package
 #   guide [--make FOLDER]       the repository that docs/GUIDE.md prints passes; --make makes it alone
-# Without PART: docs, proofs beside mutants tests --gate, allocation, differential, bindings. It stops at the first part that fails.
+# Without PART: docs, proofs beside mutants tests --gate, allocation, differential, bindings, bench, rust. It stops at the first part that fails.
 # --anew: rt ci proves and tries all, whatever it has kept on this machine.
 set -euo pipefail
 top=$(cd "$(dirname "$0")" && pwd)
-parts=6
+parts=8
 beside=
 lowest=
 anew=
@@ -20,6 +22,16 @@ anew=
 usage() {
     sed -n '2,/^set /{/^#/s/^# \{0,1\}//p}' "$top/test.sh" >&2
     exit 64
+}
+
+say_toolchain() { # says so where the toolchain is none that .ci/kit names
+    local found name
+    found=$(rt version 2>/dev/null) || found="none: rt is not in PATH"
+    ! grep -qxF -- "$found" "$top/.ci/kit" || return 0
+    name="name and logic differ"
+    ! grep -q -- " ${found#* }\$" "$top/.ci/kit" || name="the name differs, the logic does not"
+    echo "test.sh: the toolchain is $found; .ci/kit has these, and $name:"
+    sed 's/^/test.sh:   /' "$top/.ci/kit"
 }
 
 prove_lowest() { # hibitset_base, for which all other crates wait: rt gives a proof several processors only where RT_JOBS is not set
@@ -51,13 +63,15 @@ proofs() { # [CRATE..]: rt ci
 
 run() { # PART [WORD..]: one part, by the script that does it
     case "$1 ${2:-}" in
-        "docs "*) "$top/tests/docs.py" "${@:2}" ;;
+        "docs "*) "$top/tests/docs.py" "${@:2}" && "$top/tests/docs_release_tests.py" --quiet ;;
         "proofs "*) proofs "${@:2}" ;;
         "mutants contract") "$top/tests/mutants/run_contract.sh" "${@:3}" ;;
         "mutants tests") "$top/tests/mutants/run_tests.sh" "${@:3}" ;;
         "allocation "*) "$top/tests/allocation_failures.py" ;;
         "differential "*) sh "$top/tests/differential/replay.sh" "${@:2}" ;;
         "bindings "*) "$top/tests/bindings.sh" "${@:2}" ;;
+        "bench "*) "$top/tests/bench_rows.sh" "${@:2}" ;;
+        "rust "*) "$top/tests/rust.sh" ;;
         "guide "*) "$top/tests/guide.py" "${@:2}" ;;
         *) usage ;;
     esac
@@ -94,6 +108,7 @@ fi
 scratch=$(mktemp -d)
 trap 'for group in $beside $lowest; do kill -- -"$group" 2>/dev/null || true; done; rm -rf "$scratch"' EXIT
 trap 'exit 130' INT TERM HUP
+[ "${1:-}" = docs ] || say_toolchain
 if [ $# -gt 0 ]; then
     parts=1
     part 1 "$@"
@@ -104,4 +119,6 @@ both
 part 4 allocation
 part 5 differential "$top/crates/hibitset_run/out/hibitset_run"
 part 6 bindings --proved
+part 7 bench --proved
+part 8 rust
 echo "test.sh: all passed after $((SECONDS / 60)) min"

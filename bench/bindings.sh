@@ -1,5 +1,5 @@
 #!/bin/sh
-# bindings.sh ORIGINAL [REPEATS [MILLISECONDS [WORDS]]]: builds the library for C, and prints the table of the crate of bindings/rust beside the original, in one process and compiled alike.
+# bindings.sh ORIGINAL [REPEATS [MILLISECONDS [WORDS]]]: prints the table of the crate of rust/ beside the original, in one process and compiled alike by rustc.
 # ORIGINAL, REPEATS, MILLISECONDS, WORDS, FLAGS: as of run.sh. RESULTS=1: also puts what it prints into RESULTS.md.
 # bindings.sh ORIGINAL count [WORDS]: leaves the driver in out/bindings/bench, whose words `count [WORDS]` are for callgrind.
 set -eu
@@ -11,26 +11,24 @@ shift
 work=$here/out/bindings
 bound=$work/bound
 mkdir -p "$bound"
-make -C "$here/../bindings/c" all >"$work/make.log" 2>&1 || { tail -n 30 "$work/make.log" >&2; exit 1; }
-native=$here/../bindings/c/out
 
 sources "$original" "$work"
 compile kernels_original 2021 "$here/driver/original.rs" --extern "hibitset=$work/libhibitset.rlib"
 (
     work=$bound
-    compile bindings 2021 "$here/../bindings/rust/src/lib.rs" -l static:-bundle=hibitset -L "native=$native"
+    compile bindings 2021 "$here/../rust/src/lib.rs" --cfg 'feature="std"'
     compile hibitset 2021 "$here/driver/bound.rs" -C metadata=bound --extern "bindings=$bound/libbindings.rlib"
     compile kernels_bound 2021 "$here/driver/original.rs" --extern "hibitset=$bound/libhibitset.rlib"
 )
 # The flags are words.
 # shellcheck disable=SC2086
 rustc $flags --edition 2021 --crate-name bench -A dead_code -A unexpected_cfgs -L "$work" -L "$bound" --extern "kernels_original=$work/libkernels_original.rlib" \
-    --extern "kernels_bound=$bound/libkernels_bound.rlib" -L "native=$native" -o "$work/bench" "$here/driver/bindings.rs"
+    --extern "kernels_bound=$bound/libkernels_bound.rlib" -o "$work/bench" "$here/driver/bindings.rs"
 [ "${1:-}" != count ] || exit 0
 
 MALLOC_MMAP_THRESHOLD_=1000000000 MALLOC_TRIM_THRESHOLD_=10000000000 "$work/bench" "$@" >"$work/result.txt"
 {
-    printf '%s; %s; %s, %s; %s; %s.\n\n' "$(date -u +%Y-%m-%d)" "$(machine)" "$(rt version)" "$(rustc --version)" "$(commit_of "$here/..")" \
+    printf '%s; %s; %s; %s; %s.\n\n' "$(date -u +%Y-%m-%d)" "$(machine)" "$(rustc --version)" "$(commit_of "$here/..")" \
         "${1:-9} repeats of ${2:-20} ms, load average $(cut -d' ' -f1 /proc/loadavg) at the end"
     cat "$work/result.txt"
 } >"$work/results.md"

@@ -24,6 +24,8 @@ Mutants   An edit of must-fail/ or tests/mutants/contract/ can be applied: its o
           NAME_twin that it puts before a function NAME has the clauses of NAME. A patch of tests/mutants/tests/ can be
           applied, and the tests that its head names are there.
 Results   bench/RESULTS.md says in its first line which commit was measured.
+Release   docs_release.py: versions, the C header, toolchains, packages, and README's tables of speed.
+Derived   rust/src/derived has what rust/derive.py makes of the sources. --write makes it anew.
 
 It prints a line for each fault, with page and line, and ends with status 1 where there is one.
 """
@@ -35,12 +37,14 @@ import sys
 from functools import lru_cache
 from pathlib import Path
 
+import docs_release
+
 TOP = Path(__file__).resolve().parent.parent
 CRATES = TOP / "crates"
 LIBRARY = "hibitset_base hibitset_atomic hibitset hibitset_store hibitset_roaring hibitset_c".split()
 PAGES = sorted(
     path
-    for pattern in ("*.md", "docs/*.md", "bench/*.md", "tests/**/*.md", "crates/*/*.md", "bindings/*/*.md")
+    for pattern in ("*.md", "docs/*.md", "bench/*.md", "tests/**/*.md", "crates/*/*.md", "bindings/*/*.md", "rust/*.md")
     for path in TOP.glob(pattern)
     if not path.is_relative_to(TOP / "tests" / "differential" / "scripts")
 )
@@ -103,7 +107,7 @@ def dead_links(page):
             yield line_at(text, link.start()), f"links to {link[1]}, but no heading has the anchor #{anchor}"
     # What a guide prints to be a file of the user's is not looked for here.
     printed = re.findall(r"`([\w./-]+)`:\n\n```", text_of(page))
-    named = r"(?<![\w./-])((?:docs|bench|tests|crates|bindings)/[\w./*+-]*\.(?:md|py|sh|rt|antt|edit|patch|svg)|CONTRIBUTING\.md)(?!\w)"
+    named = r"(?<![\w./-])((?:docs|bench|tests|crates|bindings|rust)/[\w./*+-]*\.(?:md|py|sh|rt|antt|edit|patch|svg)|CONTRIBUTING\.md)(?!\w)"
     for name in re.finditer(named, text):
         if PLACEHOLDER.search(name[1]) or name[1] in printed:
             continue
@@ -633,6 +637,15 @@ def wrong_results():
         yield path, 1, "its first line does not say which commit was measured"
 
 
+def derived(*words):
+    """What rust/derive.py says is stale or fits no rule: file, line and words."""
+    ran = subprocess.run([sys.executable, TOP / "rust" / "derive.py", *words], capture_output=True, text=True)
+    faults = re.findall(r"^([\w/.]+):(\d+): (.*)$", ran.stdout + ran.stderr, re.M)
+    yield from ((TOP / path, int(line), words) for path, line, words in faults)
+    if ran.returncode and not faults:
+        yield TOP / "rust" / "derive.py", 1, f"ends with status {ran.returncode}"
+
+
 def faults():
     """All that is wrong, each as page, line and words."""
     for page in PAGES:
@@ -647,13 +660,17 @@ def faults():
     yield from wrong_twins()
     yield from wrong_patches()
     yield from wrong_results()
+    yield from docs_release.faults()
+    yield from derived()
 
 
 def main():
     reader = argparse.ArgumentParser(description="Sees that pages, sources, mutants and tables agree.")
-    reader.add_argument("--write", action="store_true", help="write the tables of modules anew before")
+    reader.add_argument("--write", action="store_true", help="write the generated tables and derived files anew before")
     if reader.parse_args().write:
         write_modules()
+        docs_release.write_tables()
+        list(derived("--write"))
     said = [f"{shown(path)}:{line}: {words}" for path, line, words in faults()]
     for line in said:
         print(line)

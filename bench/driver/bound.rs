@@ -1,5 +1,2 @@
-//! The crate of bindings/rust in the original's place, for the kernels of `original.rs`. It has no atomic set, and the
-//! kernels over one are not called.
+//! The crate of rust/ in the original's place, for the kernels of `original.rs`.
 pub use bindings::*;
-
-pub type AtomicBitSet = BitSet;

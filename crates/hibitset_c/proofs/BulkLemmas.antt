@@ -1,5 +1,5 @@
 -- Lists that are written from the beginning on: what is made of each item of another, and words with zeros behind them.
-use Rattle.std.proofs.Common.{◌≡◌, ℕ, ◌+◌, ◌-◌, ◌<◌, ◌≤◌, min, List, ◌++◌, take, drop, length, map, get_or, replicate, refl, sym, ap, ◌∙◌, subst, inl, inr, arith}
+use Rattle.std.proofs.Common.{◌≡◌, ℕ, ◌+◌, ◌-◌, ◌<◌, min, List, ◌++◌, take, drop, length, map, get_or, replicate, sym, ap, ◌∙◌, inl, inr, arith}
 use Rattle.std.proofs.lemmas.Bool.{cases_lt}
 use Rattle.std.proofs.lemmas.List.{take-map, take_min, take_rest, get_or_append_left, get_or-append_right, get_or-take, get_or-drop, get_or_past, get_or-replicate, length-take, length-append, length-drop, length-replicate}
 use Rattle.hibitset_c.specs.Buffer.{Fills}
@@ -7,9 +7,9 @@ use Rattle.hibitset_c.specs.Buffer.{Fills}
 min-comm : (x y : ℕ) → min x y ≡ min y x
 min-comm x y = omega arith
 
-pub fills_map : (f : ℕ → ℕ) (items old new : List ℕ) (place count : ℕ) → place ≡ count → count ≡ min (length items) (length old) → take place new ≡ map f (take place items) → drop place new ≡ drop place old → length new ≡ length old
+pub fills_map : (f : ℕ → ℕ) (items old new : List ℕ) (slot count : ℕ) → slot ≡ count → count ≡ min (length items) (length old) → take slot new ≡ map f (take slot items) → drop slot new ≡ drop slot old → length new ≡ length old
     → Fills (map f items) old count new
-fills_map f items old new place count at most written rest same = record {
+fills_map f items old new slot count at most written rest same = record {
   written =
       let upto : count ≡ min (length old) (length items) = most ∙ min-comm (length items) (length old) in
       ap (λ n. take n new) (sym at) ∙ (written ∙ (ap (λ n. map f (take n items)) (at ∙ upto) ∙ (ap (map f) (take_min (length old) items) ∙ sym (take-map f (length old) items))));

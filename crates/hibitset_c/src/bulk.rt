@@ -16,8 +16,8 @@ pub extern "C" fn hibitset_contains_many(set: &Seen<'_>, indices: &[u32], found:
     ensures { Fills (map (λ i. bit_of (has set.now i)) indices.now) found.old result found.new }
 {
     let count = indices.len().min(found.len());
-    for place in 0..count {
-        found[place] = u8::from(set.contains(indices[place]));
+    for slot in 0..count {
+        found[slot] = u8::from(set.contains(indices[slot]));
     }
     count
 }

@@ -1,0 +1,1 @@
+"""The rules by which rust/derive.py makes plain Rust of the Rattle sources."""

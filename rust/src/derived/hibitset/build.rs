@@ -1,0 +1,270 @@
+// Derived from crates/hibitset/src/build.rt by rust/derive.py, and never edited by hand.
+
+//! Sets made of the items of an iterator, or extended by them, and sets made of words.
+
+use crate::support::rattle_std::prelude::*;
+
+use crate::derived::hibitset::layers::Layers;
+use crate::derived::hibitset::set::BitSet;
+pub use crate::derived::hibitset_base::build::BuildError;
+use crate::derived::hibitset_base::build::{self, FallibleInsert};
+use crate::derived::hibitset_base::util::{Index, LAYERS, MAX_EID};
+use crate::support::rattle_std::alloc::{AllocError, Global};
+
+impl FallibleInsert for BitSet {
+    const RANGE: usize = MAX_EID;
+
+    #[inline]
+    fn add_index(&mut self, index: Index) -> Result<bool, AllocError> {
+        self.add(index)
+    }
+}
+
+impl BitSet {
+    /// Adds the items of an iterator, each of which is to be below `MAX_EID`.
+    ///
+    /// It stops at the first item that is not, and if an allocation fails: then the set has its old members and the
+    /// items before that one, and no later item is drawn. An allocation can fail only for an item whose word lies past
+    /// `layer0_as_slice`, and no slice grows longer than the members need.
+    ///
+    /// # Contract
+    ///
+    /// ```text
+    /// requires { IsFiniteIterable U.into_iter_gives U.IntoIter.can_next U.IntoIter.remaining
+    ///     iter }
+    /// ensures all { OnOk result (TakesAll U.into_iter_gives U.IntoIter.next_gives (λ i. i) iter
+    ///     (has self.old) (has self.new)) }
+    /// ensures stops { IfErr result (StopsAtRefused U.into_iter_gives U.IntoIter.next_gives
+    ///     (λ i. i) iter (has self.old) (has self.new) (slice_len self.new 0)) }
+    /// ensures len_min { slice_len self.old 0 ≤ slice_len self.new 0 }
+    /// ensures len_max { (end : ℕ) → slice_len self.old 0 ≤ end → MembersEndBy (has self.new) end
+    ///     → slice_len self.new 0 ≤ end }
+    /// ensures upper_len_max { (l end : ℕ) → l < LAYERS - 1 → slice_len self.old l ≤ end
+    ///     → MembersEndBy (has self.new) (64 ^ l * end) → slice_len self.new l ≤ end }
+    /// ```
+    pub fn extend_indices<U: IntoIterator<Item = Index>>(
+        &mut self,
+        iter: U,
+    ) -> Result<(), BuildError> {
+        build::extend_indices(self, iter)
+    }
+
+    /// Adds the items that an iterator gives by reference, as `extend_indices` does.
+    ///
+    /// # Contract
+    ///
+    /// ```text
+    /// requires { IsFiniteIterable U.into_iter_gives U.IntoIter.can_next U.IntoIter.remaining
+    ///     iter }
+    /// ensures all { OnOk result (TakesAll U.into_iter_gives U.IntoIter.next_gives (λ i. i.now)
+    ///     iter (has self.old) (has self.new)) }
+    /// ensures stops { IfErr result (StopsAtRefused U.into_iter_gives U.IntoIter.next_gives
+    ///     (λ i. i.now) iter (has self.old) (has self.new) (slice_len self.new 0)) }
+    /// ensures len_min { slice_len self.old 0 ≤ slice_len self.new 0 }
+    /// ensures len_max { (end : ℕ) → slice_len self.old 0 ≤ end → MembersEndBy (has self.new) end
+    ///     → slice_len self.new 0 ≤ end }
+    /// ensures upper_len_max { (l end : ℕ) → l < LAYERS - 1 → slice_len self.old l ≤ end
+    ///     → MembersEndBy (has self.new) (64 ^ l * end) → slice_len self.new l ≤ end }
+    /// ```
+    pub fn extend_index_refs<'a, U: IntoIterator<Item = &'a Index>>(
+        &mut self,
+        iter: U,
+    ) -> Result<(), BuildError> {
+        build::extend_index_refs(self, iter)
+    }
+
+    /// A set of the items of an iterator, each of which is to be below `MAX_EID`.
+    ///
+    /// It stops at the first item that is not, and if an allocation fails: then no later item is drawn. An allocation
+    /// can fail only for an item whose word lies past those of all items before it.
+    ///
+    /// # Contract
+    ///
+    /// ```text
+    /// requires { IsFiniteIterable U.into_iter_gives U.IntoIter.can_next U.IntoIter.remaining
+    ///     iter }
+    /// ensures all { IfOk result (λ set. TakesAll U.into_iter_gives U.IntoIter.next_gives (λ i. i)
+    ///     iter (λ _. false) (has set)) }
+    /// ensures len_max { IfOk result (λ set. (end : ℕ) → MembersEndBy (has set) end
+    ///     → slice_len set 0 ≤ end) }
+    /// ensures upper_len_max { IfOk result (λ set. (l end : ℕ) → l < LAYERS - 1
+    ///     → MembersEndBy (has set) (64 ^ l * end) → slice_len set l ≤ end) }
+    /// ensures stops { IfErr result (Refuses U.into_iter_gives U.IntoIter.next_gives (λ i. i)
+    ///     iter) }
+    /// ```
+    pub fn from_indices<U: IntoIterator<Item = Index>>(
+        alloc: Global,
+        iter: U,
+    ) -> Result<BitSet, BuildError> {
+        build::from_indices(BitSet::new(alloc), iter)
+    }
+
+    /// A set of the items that an iterator gives by reference, as `from_indices` makes it.
+    ///
+    /// # Contract
+    ///
+    /// ```text
+    /// requires { IsFiniteIterable U.into_iter_gives U.IntoIter.can_next U.IntoIter.remaining
+    ///     iter }
+    /// ensures all { IfOk result (λ set. TakesAll U.into_iter_gives U.IntoIter.next_gives
+    ///     (λ i. i.now) iter (λ _. false) (has set)) }
+    /// ensures len_max { IfOk result (λ set. (end : ℕ) → MembersEndBy (has set) end
+    ///     → slice_len set 0 ≤ end) }
+    /// ensures upper_len_max { IfOk result (λ set. (l end : ℕ) → l < LAYERS - 1
+    ///     → MembersEndBy (has set) (64 ^ l * end) → slice_len set l ≤ end) }
+    /// ensures stops { IfErr result (Refuses U.into_iter_gives U.IntoIter.next_gives (λ i. i.now)
+    ///     iter) }
+    /// ```
+    pub fn from_index_refs<'a, U: IntoIterator<Item = &'a Index>>(
+        alloc: Global,
+        iter: U,
+    ) -> Result<BitSet, BuildError> {
+        build::from_index_refs(BitSet::new(alloc), iter)
+    }
+
+    /// Adds the indices of a slice, each of which is to be below `MAX_EID`.
+    ///
+    /// It stops at the first that is not, and if an allocation fails: then the set has its old members and the indices
+    /// before that one. The error has its place. An allocation can fail only for an index whose word lies past
+    /// `layer0_as_slice`, and no slice grows longer than the members need.
+    ///
+    /// # Contract
+    ///
+    /// ```text
+    /// ensures added { OnOk result (AddsList (has self.old) (has self.new) indices.now) }
+    /// ensures in_range { OnOk result (InRangeBefore MAX_EID indices.now (length indices.now)) }
+    /// ensures added_before { IfErr result (λ error. AddsList (has self.old) (has self.new)
+    ///     (take (place_of error) indices.now)) }
+    /// ensures place { IfErr result (λ error. place_of error < length indices.now) }
+    /// ensures in_range_before { IfErr result (λ error. InRangeBefore MAX_EID indices.now
+    ///     (place_of error)) }
+    /// ensures why { IfErr result (IsWhy MAX_EID indices.now) }
+    /// ensures lacks_room { IfErr result (LacksRoom (λ i. slice_len self.new 0 ≤ i / 64)
+    ///     indices.now) }
+    /// ensures len_min { slice_len self.old 0 ≤ slice_len self.new 0 }
+    /// ensures len_max { (end : ℕ) → slice_len self.old 0 ≤ end → MembersEndBy (has self.new) end
+    ///     → slice_len self.new 0 ≤ end }
+    /// ensures upper_len_max { (l end : ℕ) → l < LAYERS - 1 → slice_len self.old l ≤ end
+    ///     → MembersEndBy (has self.new) (64 ^ l * end) → slice_len self.new l ≤ end }
+    /// ```
+    pub fn extend_from_slice(&mut self, indices: &[Index]) -> Result<(), BuildError> {
+        build::extend_from_slice(self, indices)
+    }
+
+    /// A set of the indices of a slice, each of which is to be below `MAX_EID`.
+    ///
+    /// It stops at the first that is not, and if an allocation fails; the error has its place. An allocation can fail
+    /// only for an index whose word lies past those of all indices before it.
+    ///
+    /// # Contract
+    ///
+    /// ```text
+    /// ensures members { IfOk result (λ set. (i : ℕ)
+    ///     → (has set i ≡ true) ↔ Contains indices.now i) }
+    /// ensures in_range { IfOk result (λ _. InRangeBefore MAX_EID indices.now
+    ///     (length indices.now)) }
+    /// ensures len_max { IfOk result (λ set. (end : ℕ) → MembersEndBy (has set) end
+    ///     → slice_len set 0 ≤ end) }
+    /// ensures upper_len_max { IfOk result (λ set. (l end : ℕ) → l < LAYERS - 1
+    ///     → MembersEndBy (has set) (64 ^ l * end) → slice_len set l ≤ end) }
+    /// ensures place { IfErr result (λ error. place_of error < length indices.now) }
+    /// ensures in_range_before { IfErr result (λ error. InRangeBefore MAX_EID indices.now
+    ///     (place_of error)) }
+    /// ensures why { IfErr result (IsWhy MAX_EID indices.now) }
+    /// ensures apart { IfErr result (LiesApartIn (λ i j. i / 64 < j / 64) indices.now) }
+    /// ```
+    pub fn from_slice(alloc: Global, indices: &[Index]) -> Result<BitSet, BuildError> {
+        build::from_slice(BitSet::new(alloc), indices)
+    }
+
+    /// The set whose words of layer 0 are these, at most as many as that layer may have: index `64 * p + b` is a member
+    /// where bit `b` of word `p` stands. With `layer0_as_slice` it is how a set is saved and read again. It makes one
+    /// request for memory, for these words and those over them; the error is want of it. The original has no such call.
+    ///
+    /// # Contract
+    ///
+    /// ```text
+    /// requires { length words.now ≤ 64 ^ (LAYERS - 1) }
+    /// ensures members { IfOk result (λ set. (i : ℕ) → has set i ≡ stands_in words.now i) }
+    /// ensures words { IfOk result (λ set. (p : ℕ)
+    ///     → word_of set 0 p ≡ slice_index_or words.now p 0) }
+    /// ensures length { IfOk result (λ set. slice_len set 0 ≡ length words.now) }
+    /// ensures upper_len_max { IfOk result (λ set. (l end : ℕ) → l < LAYERS - 1
+    ///     → length words.now ≤ 64 ^ l * end → slice_len set l ≤ end) }
+    /// ```
+    pub fn from_words(alloc: Global, words: &[usize]) -> Result<BitSet, AllocError> {
+        let layers = Layers::of_words(alloc, words)?;
+        Ok(BitSet { layers })
+    }
+
+    /// An empty vector with room for `len` words, at most as many as layer 0 may have, and for those that lie over
+    /// them: what `from_vec` makes a set of without another request for memory. The error is want of memory. The
+    /// original has no such call.
+    ///
+    /// # Contract
+    ///
+    /// ```text
+    /// requires { len ≤ 64 ^ (LAYERS - 1) }
+    /// ensures empty { IfOk result (λ words. words.items ≡ []) }
+    /// ensures room { IfOk result (λ words. room_for len ≤ vec_capacity words) }
+    /// ```
+    pub fn vec_with_room(alloc: Global, len: usize) -> Result<Vec<usize>, AllocError> {
+        Layers::vec_with_room(alloc, len)
+    }
+
+    /// The set whose words of layer 0 are those of a vector, at most as many as that layer may have, as `from_words`
+    /// makes it of a slice. The set keeps the vector, and puts the words over them behind them: that takes one request
+    /// for memory at most, and none if `vec_with_room` made the vector for so many words or more. The error is want of
+    /// memory; the vector is gone then. The original has no such call.
+    ///
+    /// # Contract
+    ///
+    /// ```text
+    /// requires { length words.items ≤ 64 ^ (LAYERS - 1) }
+    /// ensures members { IfOk result (λ set. (i : ℕ) → has set i ≡ stands_in words.items i) }
+    /// ensures words { IfOk result (λ set. (p : ℕ)
+    ///     → word_of set 0 p ≡ slice_index_or words.items p 0) }
+    /// ensures length { IfOk result (λ set. slice_len set 0 ≡ length words.items) }
+    /// ensures upper_len_max { IfOk result (λ set. (l end : ℕ) → l < LAYERS - 1
+    ///     → length words.items ≤ 64 ^ l * end → slice_len set l ≤ end) }
+    /// ensures succeeds { room_for (length words.items) ≤ vec_capacity words → IsOk result }
+    /// ```
+    pub fn from_vec(words: Vec<usize>) -> Result<BitSet, AllocError> {
+        let layers = Layers::of_vec(words)?;
+        Ok(BitSet { layers })
+    }
+
+    /// The set whose layers have these words, and whose top layer has the word `top`: a copy of a set of which the
+    /// slices are at hand. It makes one request for memory, for these words; the error is want of it. The original has
+    /// no such call.
+    ///
+    /// Layer 0 has at most as many words as it may have, each layer above it as many as the words below need, and the
+    /// summaries are exact.
+    ///
+    /// # Contract
+    ///
+    /// ```text
+    /// requires short { length layer0.now ≤ 64 ^ (LAYERS - 1) }
+    /// requires fitted { IsFitted LAYERS (piled layer0.now layer1.now layer2.now layer3.now top) }
+    /// requires summed { SummariesExactEverywhere LAYERS
+    ///     (word_at (piled layer0.now layer1.now layer2.now layer3.now top)) }
+    /// ensures members { IfOk result (λ set. (i : ℕ) → has set i ≡ stands_in layer0.now i) }
+    /// ensures words { IfOk result (λ set. (l p : ℕ) → l < LAYERS
+    ///     → word_of set l p ≡ word_at (piled layer0.now layer1.now layer2.now layer3.now top) l
+    ///     p) }
+    /// ensures lengths { IfOk result (λ set. (l : ℕ) → l < LAYERS - 1
+    ///     → slice_len set l ≡ length (get_or
+    ///     (piled layer0.now layer1.now layer2.now layer3.now top) l [])) }
+    /// ```
+    pub fn from_layers(
+        alloc: Global,
+        layer0: &[usize],
+        layer1: &[usize],
+        layer2: &[usize],
+        layer3: &[usize],
+        top: usize,
+    ) -> Result<BitSet, AllocError> {
+        let layers = Layers::of_layers(alloc, layer0, layer1, layer2, layer3, top)?;
+        Ok(BitSet { layers })
+    }
+}

@@ -1,0 +1,49 @@
+// Derived from crates/hibitset/src/growth.rt by rust/derive.py, and never edited by hand.
+
+//! How much room a set makes where it takes memory.
+
+use crate::support::rattle_std::prelude::*;
+
+// An assignment makes room for one in so many words more than there was room for. All that the other set has is known
+// by then, and room that is not needed is written all the same.
+const SPARE_FRACTION: usize = 8;
+
+/// How much capacity to allocate. A type parameter, so that `ensure_word` is compiled once for each policy.
+pub(crate) trait Growth {
+    /// How many words of layer 0 to make room for, where there is room for `room` and `len` are to count.
+    ///
+    /// # Contract
+    ///
+    /// ```text
+    /// requires room { room ≤ 64 ^ (LAYERS - 1) }
+    /// requires some { 0 < len }
+    /// requires len { len ≤ 64 ^ (LAYERS - 1) }
+    /// ensures { result ≤ 2 * max room len }
+    /// ```
+    fn room(room: usize, len: usize) -> usize;
+}
+
+/// Adds, which come one by one. They make room for a power of two of words, so that they seldom take memory and random
+/// ones end with the words of their range; but for no more than they need where that is more than twice what there was,
+/// so that one index far up takes the words up to it alone.
+pub(crate) struct Adds;
+
+impl Growth for Adds {
+    #[inline]
+    fn room(room: usize, len: usize) -> usize {
+        if len > 2 * room {
+            return len;
+        }
+        len.next_power_of_two()
+    }
+}
+
+/// An assignment.
+pub(crate) struct Assignment;
+
+impl Growth for Assignment {
+    #[inline]
+    fn room(room: usize, _len: usize) -> usize {
+        room + room / SPARE_FRACTION
+    }
+}

@@ -1,0 +1,245 @@
+// Derived from crates/hibitset_atomic/src/atomic.rt by rust/derive.py, and never edited by hand.
+
+//! The set that can be shared, held alone.
+
+use crate::support::rattle_std::prelude::*;
+
+use crate::derived::hibitset_atomic::layers::{ATOMIC_LAYERS, Layers};
+use crate::derived::hibitset_base::bits::with_bit;
+use crate::derived::hibitset_base::like::{BitSetLike, DrainableBitSet};
+use crate::derived::hibitset_base::util::{BITS, Index};
+use crate::support::rattle_std::alloc::{AllocError, Global};
+use crate::support::rattle_std::fmt::{self, Debug, Formatter};
+
+/// Members of an atomic set lie below this bound. It keeps four layers, whatever the number of layers of a `BitSet` is.
+pub const ATOMIC_MAX_EID: usize = 1 << (BITS * ATOMIC_LAYERS);
+
+/// A set of indices below `ATOMIC_MAX_EID`, kept as words in four layers, that can be shared between threads.
+///
+/// A bit of a layer above the lowest is set exactly over a nonzero word, at all times. The fifth layer, which every set
+/// has, is not kept: its one word is 1 where there is a member, and else 0.
+pub struct AtomicBitSet {
+    pub(crate) layers: Layers,
+}
+
+impl AtomicBitSet {
+    /// The empty set.
+    ///
+    /// # Contract
+    ///
+    /// ```text
+    /// ensures empty { IfOk result (λ set. (i : ℕ) → has set i ≡ false) }
+    /// ensures bare { IfOk result (λ set. (i : ℕ) → NeedsAllocation set i) }
+    /// ```
+    pub fn new(alloc: Global) -> Result<AtomicBitSet, AllocError> {
+        let layers = Layers::new(alloc)?;
+        Ok(AtomicBitSet { layers })
+    }
+
+    /// The words alone.
+    ///
+    /// # Contract
+    ///
+    /// ```text
+    /// ensures same { result ≡ self.layers }
+    /// ensures summed { SummariesExactEverywhere ATOMIC_LAYERS (layer_word result) }
+    /// ```
+    pub(crate) fn into_layers(self) -> Layers {
+        self.layers
+    }
+
+    /// The set of these words, whose summaries are exact.
+    ///
+    /// # Contract
+    ///
+    /// ```text
+    /// requires { SummariesExactEverywhere ATOMIC_LAYERS (layer_word layers) }
+    /// ensures { result.layers ≡ layers }
+    /// ```
+    pub(crate) fn from_layers(layers: Layers) -> AtomicBitSet {
+        AtomicBitSet { layers }
+    }
+
+    /// What the set takes memory from.
+    #[inline]
+    pub(crate) fn allocator(&self) -> Global {
+        *self.layers.layer1.allocator()
+    }
+
+    /// The empty set, with the room for all blocks.
+    ///
+    /// # Contract
+    ///
+    /// ```text
+    /// ensures zero { IfOk result (λ set. (l p : ℕ) → word_of set l p ≡ 0) }
+    /// ensures room { IfOk result (λ set. HasRoom set.layers.layer0) }
+    /// ```
+    pub(crate) fn with_room(alloc: Global) -> Result<AtomicBitSet, AllocError> {
+        let mut layers = Layers::new(alloc)?;
+        layers.make_room()?;
+        Ok(AtomicBitSet { layers })
+    }
+
+    /// Puts a word into layer 0, where there is room for all blocks, and sets the summaries over it right.
+    ///
+    /// # Contract
+    ///
+    /// ```text
+    /// requires place { place < 64 ^ (ATOMIC_LAYERS - 1) }
+    /// requires room { HasRoom self.old.layers.layer0 }
+    /// ensures here { word_of self.new 0 place ≡ word }
+    /// ensures others { (p : ℕ) → p ≢ place → word_of self.new 0 p ≡ word_of self.old 0 p }
+    /// ensures room { HasRoom self.new.layers.layer0 }
+    /// ```
+    #[inline]
+    pub(crate) fn store_word(&mut self, place: usize, word: usize) {
+        if self.layers.make(place).is_ok() {
+            let before = self.layers.layer0(place);
+            self.layers.store_word(place, before, word);
+        }
+    }
+
+    // Puts an index in or takes it out, where its block is made, and returns whether it was there.
+    #[inline]
+    fn set_bit(&mut self, id: Index, stands: bool) -> bool {
+        let place = id as usize / 64;
+        let before = self.layers.layer0(place);
+        let word = with_bit(before, id as usize % 64, stands);
+        if word == before {
+            return stands;
+        }
+        self.layers.store_word(place, before, word);
+        !stands
+    }
+
+    /// Adds an index below `ATOMIC_MAX_EID`, and returns whether it was there. If an allocation fails, the members
+    /// stay.
+    ///
+    /// It does not allocate where some member `j` has the same `j / 4096`, nor where the block of those 4,096 indices
+    /// was made before: once made it stays. It makes no other block. A set that `settle` made has room for all blocks,
+    /// and needs memory for none.
+    ///
+    /// # Contract
+    ///
+    /// ```text
+    /// requires { id < ATOMIC_MAX_EID }
+    /// ensures was { IfOk result (λ was. was ≡ has self.old id) }
+    /// ensures added { OnOk result ((i : ℕ) → has self.new i ≡ (has self.old i || i == id)) }
+    /// ensures err { OnErr result ((i : ℕ) → has self.new i ≡ has self.old i) }
+    /// ensures near { SharesBlockWithMember self.old id → IsOk result }
+    /// ensures lacking { OnErr result (NeedsAllocation self.old id) }
+    /// ensures keeps { (i : ℕ) → NeedsAllocation self.new i → NeedsAllocation self.old i }
+    /// ensures most { (i : ℕ) → i / 4096 ≢ id / 4096 → NeedsAllocation self.old i
+    ///     → NeedsAllocation self.new i }
+    /// ensures stays { OnErr result ((i : ℕ) → NeedsAllocation self.old i
+    ///     → NeedsAllocation self.new i) }
+    /// ensures succeeds { AllBlocksReserved self.old → IsOk result × AllBlocksReserved self.new }
+    /// ```
+    #[inline]
+    pub fn add(&mut self, id: Index) -> Result<bool, AllocError> {
+        self.layers.make(id as usize / 64)?;
+        Ok(self.set_bit(id, true))
+    }
+
+    /// Takes an index out, and returns whether it was there. Blocks that were made stay, and none is made.
+    ///
+    /// # Contract
+    ///
+    /// ```text
+    /// ensures was { result ≡ has self.old id }
+    /// ensures removed { (i : ℕ) → has self.new i ≡ (has self.old i && not (i == id)) }
+    /// ensures keeps { (i : ℕ) → NeedsAllocation self.new i → NeedsAllocation self.old i }
+    /// ensures most { (i : ℕ) → NeedsAllocation self.old i → NeedsAllocation self.new i }
+    /// ensures room { AllBlocksReserved self.old → AllBlocksReserved self.new }
+    /// ```
+    #[inline]
+    pub fn remove(&mut self, id: Index) -> bool {
+        if !self.contains(id) {
+            return false;
+        }
+        self.set_bit(id, false)
+    }
+
+    /// Returns whether an index is there.
+    ///
+    /// # Contract
+    ///
+    /// ```text
+    /// ensures { result ≡ has self.now id }
+    /// ```
+    #[inline]
+    pub fn contains(&self, id: Index) -> bool {
+        let index = id as usize;
+        self.layers.layer0(index / 64) >> (index % 64) & 1 == 1
+    }
+
+    /// Takes all members out, and keeps the memory: blocks that were made stay, and none is made.
+    ///
+    /// # Contract
+    ///
+    /// ```text
+    /// ensures empty { (i : ℕ) → has self.new i ≡ false }
+    /// ensures keeps { (i : ℕ) → NeedsAllocation self.new i → NeedsAllocation self.old i }
+    /// ensures most { (i : ℕ) → NeedsAllocation self.old i → NeedsAllocation self.new i }
+    /// ensures room { AllBlocksReserved self.old → AllBlocksReserved self.new }
+    /// ```
+    pub fn clear(&mut self) {
+        self.layers.clear();
+    }
+}
+
+impl BitSetLike for AtomicBitSet {
+    #[inline]
+    fn is_empty(&self) -> bool {
+        self.layer4() == 0
+    }
+
+    #[inline]
+    fn has_cheap_words(&self) -> bool {
+        true
+    }
+
+    #[inline]
+    fn layer4(&self) -> usize {
+        (self.layers.layer3 != 0) as usize
+    }
+
+    #[inline]
+    fn layer3(&self, i: usize) -> usize {
+        self.layers.layer3(i)
+    }
+
+    #[inline]
+    fn layer2(&self, i: usize) -> usize {
+        self.layers.layer2(i)
+    }
+
+    #[inline]
+    fn layer1(&self, i: usize) -> usize {
+        self.layers.layer1(i)
+    }
+
+    #[inline]
+    fn layer0(&self, i: usize) -> usize {
+        self.layers.layer0(i)
+    }
+
+    #[inline]
+    fn contains(&self, i: Index) -> bool {
+        AtomicBitSet::contains(self, i)
+    }
+}
+
+impl DrainableBitSet for AtomicBitSet {
+    #[inline]
+    fn remove(&mut self, i: Index) -> bool {
+        AtomicBitSet::remove(self, i)
+    }
+}
+
+/// It prints the members, in ascending order: `{5, 70000}`.
+impl Debug for AtomicBitSet {
+    fn fmt(&self, f: &mut Formatter) -> fmt::Result {
+        f.debug_set().entries(self.iter()).finish()
+    }
+}

@@ -1,0 +1,166 @@
+// Derived from crates/hibitset_atomic/src/blocks.rt by rust/derive.py, and never edited by hand.
+
+//! Words of layer 0 in blocks that are made one by one.
+
+use crate::support::rattle_std::prelude::*;
+
+use crate::support::rattle_std::alloc::{AllocError, Global};
+
+/// How many blocks there can be.
+const BLOCK_COUNT: usize = 4_096;
+
+/// 262,144 words in blocks of 64, each of which is made when it is first needed. The words of blocks that are not made
+/// are 0.
+///
+/// One vector has all blocks, so a block is a request for memory only where the vector has to grow. Its first block has
+/// no bits: there the places of blocks that are not made lie, and reading needs no test.
+pub(crate) struct Blocks {
+    pub(crate) places: Vec<u16>,
+    pub(crate) words: Vec<usize>,
+}
+
+// So many zero words.
+pub(crate) fn zeros(alloc: Global, count: usize) -> Result<Vec<usize>, AllocError> {
+    vec![in alloc; 0usize; count]
+}
+
+// So many places of blocks that are not made.
+fn no_places(alloc: Global, count: usize) -> Result<Vec<u16>, AllocError> {
+    vec![in alloc; 0u16; count]
+}
+
+// Makes 64 words 0.
+fn zero_block(words: &mut Vec<usize>, start: usize) {
+    for i in start..start + 64 {
+        words[i] = 0;
+    }
+}
+
+impl Blocks {
+    /// No block is made.
+    ///
+    /// # Contract
+    ///
+    /// ```text
+    /// ensures zero { IfOk result (λ blocks. (p : ℕ) → block_word blocks p ≡ 0) }
+    /// ensures unmade { IfOk result (λ blocks. (k : ℕ) → IsUnmade blocks k) }
+    /// ```
+    pub(crate) fn new(alloc: Global) -> Result<Blocks, AllocError> {
+        let places = no_places(alloc, BLOCK_COUNT)?;
+        let words = zeros(alloc, 64)?;
+        Ok(Blocks { places, words })
+    }
+
+    /// Makes the room for all blocks, and none of them.
+    ///
+    /// # Contract
+    ///
+    /// ```text
+    /// ensures same { (p : ℕ) → block_word self.new p ≡ block_word self.old p }
+    /// ensures room { OnOk result (HasRoom self.new) }
+    /// ```
+    pub(crate) fn make_room(&mut self) -> Result<(), AllocError> {
+        self.words.reserve(64 * BLOCK_COUNT)
+    }
+
+    /// The word at a position.
+    ///
+    /// # Contract
+    ///
+    /// ```text
+    /// ensures { result ≡ block_word self.now position }
+    /// ```
+    #[inline]
+    pub(crate) fn word(&self, position: usize) -> usize {
+        match self.places.get(position / 64) {
+            Some(place) => self.words[*place as usize * 64 + position % 64],
+            None => 0,
+        }
+    }
+
+    // Makes a block that is not there. It is apart from `make`, so that a call of `add` that needs no block tests one
+    // place alone.
+    #[inline(never)]
+    fn make_new(&mut self, block: usize) -> Result<(), AllocError> {
+        let len = self.words.len();
+        self.words.resize(len + 64, 0)?;
+        self.places[block] = (len / 64) as u16;
+        Ok(())
+    }
+
+    /// Makes the block of a position, where it is not there, and changes no word.
+    ///
+    /// # Contract
+    ///
+    /// ```text
+    /// requires { position < 64 ^ (ATOMIC_LAYERS - 1) }
+    /// ensures same { (p : ℕ) → block_word self.new p ≡ block_word self.old p }
+    /// ensures made { OnOk result (IsMade self.new position) }
+    /// ensures there { IsMade self.old position → IsOk result }
+    /// ensures err { OnErr result (IsUnmade self.old (position / 64)
+    ///     × (self.new.places.items ≡ self.old.places.items)) }
+    /// ensures keeps { (k : ℕ) → IsUnmade self.new k → IsUnmade self.old k }
+    /// ensures others { (k : ℕ) → k ≢ position / 64 → IsUnmade self.old k → IsUnmade self.new k }
+    /// ensures succeeds { HasRoom self.old → IsOk result × HasRoom self.new }
+    /// ```
+    #[inline]
+    pub(crate) fn make(&mut self, position: usize) -> Result<(), AllocError> {
+        if self.places[position / 64] != 0 {
+            return Ok(());
+        }
+        self.make_new(position / 64)
+    }
+
+    /// Puts a word into a block that is made.
+    ///
+    /// # Contract
+    ///
+    /// ```text
+    /// requires { IsMade self.old position }
+    /// ensures here { block_word self.new position ≡ word }
+    /// ensures others { (p : ℕ) → p ≢ position → block_word self.new p ≡ block_word self.old p }
+    /// ensures made { self.new.places.items ≡ self.old.places.items }
+    /// ensures room { vec_capacity self.new.words ≡ vec_capacity self.old.words }
+    /// ```
+    #[inline]
+    pub(crate) fn store_word(&mut self, position: usize, word: usize) {
+        let place = self.places[position / 64];
+        self.words[place as usize * 64 + position % 64] = word;
+    }
+
+    /// Sets a bit of a word, and tells the word as it was. If an allocation fails, no word changes.
+    ///
+    /// # Contract
+    ///
+    /// ```text
+    /// requires position { position < 64 ^ (ATOMIC_LAYERS - 1) }
+    /// requires bit { bit < 64 }
+    /// ensures before { IfOk result (λ word. word ≡ block_word self.old position) }
+    /// ensures after { OnOk result ((p : ℕ)
+    ///     → block_word self.new p ≡ cond (p == position)
+    ///     (bit_or (block_word self.old p) (2 ^ bit)) (block_word self.old p)) }
+    /// ensures err { OnErr result ((p : ℕ) → block_word self.new p ≡ block_word self.old p) }
+    /// ```
+    pub(crate) fn fetch_or(&mut self, position: usize, bit: u32) -> Result<usize, AllocError> {
+        self.make(position)?;
+        let before = self.word(position);
+        self.store_word(position, before | (1 << bit));
+        Ok(before)
+    }
+
+    /// Makes the words of a block 0.
+    ///
+    /// # Contract
+    ///
+    /// ```text
+    /// requires { block < 4096 }
+    /// ensures inside { (p : ℕ) → p / 64 ≡ block → block_word self.new p ≡ 0 }
+    /// ensures outside { (p : ℕ) → p / 64 ≢ block → block_word self.new p ≡ block_word self.old p }
+    /// ensures made { self.new.places.items ≡ self.old.places.items }
+    /// ensures room { vec_capacity self.new.words ≡ vec_capacity self.old.words }
+    /// ```
+    pub(crate) fn clear_block(&mut self, block: usize) {
+        let place = self.places[block];
+        zero_block(&mut self.words, place as usize * 64);
+    }
+}

@@ -1,0 +1,63 @@
+// Derived from crates/hibitset_atomic/src/laws.rt by rust/derive.py, and never edited by hand.
+
+//! Laws that users rely on.
+
+use crate::support::rattle_std::prelude::*;
+
+use crate::derived::hibitset_atomic::atomic::{ATOMIC_MAX_EID, AtomicBitSet};
+use crate::derived::hibitset_base::util::LAYERS;
+
+/// The laws of all atomic sets held alone. The call does nothing, and its contract says them.
+///
+/// No number past the range is a member. Summaries are exact, so that no part that a split gives is empty. The words of
+/// an intersection lie within those of each operand, so by the clause `bound` of `iter` a walk over `BitSetAnd` of two
+/// atomic sets, or of references to them, reads at most four words of each for every member of the smaller one, and the
+/// top. The same holds beside a set of any other type, on either side of it. The words of the four layers that are kept
+/// are exact alone. Past its positions each layer has zero words: layer 0 has 262,144 positions, and each layer above
+/// it a 64th of those below.
+///
+/// # Contract
+///
+/// ```text
+/// ensures within { (set : AtomicBitSet) (i : ℕ) → has set i ≡ true → i < ATOMIC_MAX_EID }
+/// ensures exact { (set : AtomicBitSet)
+///     → SummariesExact LAYERS (topped_word set) × AreWords (topped_word set) }
+/// ensures intersection { (a b : AtomicBitSet)
+///     → CoversWords LAYERS (has a) (topped_word a) (intersection_word a b)
+///     × CoversWords LAYERS (has b) (topped_word b) (intersection_word a b) }
+/// ensures kept { (set : AtomicBitSet)
+///     → SummariesExact ATOMIC_LAYERS (word_of set) × AreWords (word_of set) }
+/// ensures past { (set : AtomicBitSet) (l p : ℕ) → 64 ^ (ATOMIC_LAYERS - 1 - l) ≤ p
+///     → topped_word set l p ≡ 0 }
+/// ensures beside { (set : AtomicBitSet) (word : ℕ → ℕ → ℕ)
+///     → CoversWords LAYERS (has set) (topped_word set)
+///     (λ l p. bit_and (topped_word set l p) (word l p))
+///     × CoversWords LAYERS (has set) (topped_word set)
+///     (λ l p. bit_and (word l p) (topped_word set l p)) }
+/// ```
+pub fn atomic_laws() {}
+
+/// The laws of every world, whatever has happened to it. The call does nothing, and its contract says them.
+///
+/// Each walk is honest: its items ascend, each was old or written when it was read, and once the walk has ended it has
+/// every index that was old or whose call had ended before the walk began. It reads next the word under the first bit
+/// that it has left, in the lowest layer; each word after its first is not 0; and it has read at most 3k + 1 words
+/// where it has ended, and 3k + 3 where it has not, k the number of its items. No number from `ATOMIC_MAX_EID` on is
+/// old or written. A summary bit is never set over a zero word, and at rest summaries are exact. Each index that is
+/// written and was not old was reported new once, and no other ever, so the old set are the members that no call
+/// reported new.
+///
+/// # Contract
+///
+/// ```text
+/// ensures honest { (world : World) → WalksAreHonest world }
+/// ensures lowest { (world : World) → LowestIsRead world }
+/// ensures few_reads { (world : World) → FewAreRead world }
+/// ensures none_empty { (world : World) → NoneIsEmpty world }
+/// ensures within { (world : World) → NoneIsBeyond world }
+/// ensures none_hollow { (world : World) → NoneIsHollow world }
+/// ensures exact_at_rest { (world : World) → RestIsExact world }
+/// ensures new_once { (world : World) → NewOnce world }
+/// ensures old_told { (world : World) → OldIsTold world }
+/// ```
+pub fn world_laws() {}

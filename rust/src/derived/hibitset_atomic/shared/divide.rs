@@ -1,0 +1,83 @@
+// Derived from crates/hibitset_atomic/src/shared/divide.rt by rust/derive.py, and never edited by hand.
+
+//! A seat that is divided among so many. Any number of shares is cut off by halves and joins.
+
+use crate::support::rattle_std::prelude::*;
+
+use crate::derived::hibitset_atomic::shared::{Seat, SharedBitSet};
+use crate::support::rattle_std::alloc::Global;
+
+// The share of one of so many seats: the weight by their number, rounded up.
+fn share_of_one(weight: u32, seats: usize) -> u32 {
+    weight.div_ceil(seats as u32)
+}
+
+impl SharedBitSet {
+    // Two seats of one: the second has so many of its shares, and the first has the others, with the reports.
+    //
+    // Each is a half, or a part of a half that is joined to the other half. So there are at most 15 joins, with a load
+    // each.
+    fn cut_off(&self, seat: Seat, shares: u32) -> (Seat, Seat) {
+        let (first, second) = self.divide(seat);
+        let second = second.unwrap();
+        let half = second.weight();
+        if shares == half {
+            (first, second)
+        } else if shares < half {
+            let (rest, cut) = self.cut_off(second, shares);
+            (self.join(first, rest), cut)
+        } else {
+            let (kept, more) = self.cut_off(first, shares - half);
+            (kept, self.join(more, second))
+        }
+    }
+
+    // Puts the seats of one seat into a vector that has room for them.
+    fn give_seats(&self, seat: Seat, n: usize, seats: &mut Vec<Seat>) {
+        let mut rest = seat;
+        'seats: for given in 0..n - 1 {
+            let weight = rest.weight();
+            let share = share_of_one(weight, n - given);
+            let (next, others) = self.cut_off(rest, weight - share);
+            seats.push(next).unwrap();
+            rest = others;
+        }
+        seats.push(rest).unwrap();
+    }
+
+    /// Makes n seats of one, for as many threads: each has the weight of the one by their number, rounded down or up,
+    /// and together they have all of it.
+    ///
+    /// The first has the reports, and the others have none; all know what the seat knew. Joined again they are a seat
+    /// of the same weight, whole where that was. Of the loads, each has those of the seat and 30 more at most; the
+    /// exchanges stay with the first. It waits for nobody.
+    ///
+    /// It is refused for memory alone, for the vector, which it takes first: then the seat comes back unchanged.
+    ///
+    /// # Contract
+    ///
+    /// ```text
+    /// requires came { BelongsTo self.now seat }
+    /// requires some { 0 < n }
+    /// requires few { n ≤ weight_of seat }
+    /// ensures value_returned { IfErr result (λ s. s ≡ seat) }
+    /// ensures number { IfOk result (λ seats. length seats.items ≡ n) }
+    /// ensures came { IfOk result (λ seats. All (BelongsTo self.now) seats.items) }
+    /// ensures even { IfOk result (λ seats. All (IsEvenShare (weight_of seat) n) seats.items) }
+    /// ensures shares { IfOk result (λ seats. sum_by weight_of seats.items ≡ weight_of seat) }
+    /// ensures reports { IfOk result (λ seats. map reports_of seats.items
+    ///     ≡ reports_of seat ∷ replicate (n - 1) []) }
+    /// ensures known { IfOk result (λ seats. All (KnowsAllOf seat) seats.items) }
+    /// ensures loads { IfOk result (λ seats. All (λ s. loads_by s ≤ loads_by seat + 30)
+    ///     seats.items) }
+    /// ensures exchanges { IfOk result (λ seats. map exchanges_by seats.items
+    ///     ≡ exchanges_by seat ∷ replicate (n - 1) 0) }
+    /// ```
+    pub fn divide_among(&self, alloc: Global, seat: Seat, n: usize) -> Result<Vec<Seat>, Seat> {
+        let Ok(mut seats) = Vec::with_capacity(alloc, n) else {
+            return Err(seat);
+        };
+        self.give_seats(seat, n, &mut seats);
+        Ok(seats)
+    }
+}

@@ -1,0 +1,20 @@
+// Derived from crates/hibitset_atomic/src/shared/layout.rt by rust/derive.py, and never edited by hand.
+
+//! The numbers of a shared set: its shares, and where its layers lie in the row of all its words.
+
+use crate::support::rattle_std::prelude::*;
+
+/// The shares of a set. A seat that has them all is whole.
+pub const SHARES: u32 = 65_536;
+
+/// The place in the row where layer 1 begins, after the words of layer 0.
+pub(crate) const LAYER1_START: usize = 262_144;
+
+/// The place in the row where layer 2 begins.
+pub(crate) const LAYER2_START: usize = 266_240;
+
+/// The place in the row where the one word of layer 3 lies.
+pub(crate) const LAYER3_START: usize = 266_304;
+
+/// The words of the row: those of the four layers.
+pub(crate) const ROW_WORDS: usize = 266_305;

@@ -1,0 +1,227 @@
+// Derived from crates/hibitset_base/src/build.rt by rust/derive.py, and never edited by hand.
+
+//! Sets made of the items of an iterator, or extended by them: one text for every set that keeps its words.
+
+use crate::support::rattle_std::prelude::*;
+
+use crate::derived::hibitset_base::like::BitSetLike;
+use crate::derived::hibitset_base::util::Index;
+use crate::support::rattle_std::alloc::AllocError;
+use crate::support::rattle_std::error::Error;
+use crate::support::rattle_std::fmt;
+
+/// Why an item of an iterator was not added.
+///
+/// Places count the items from 0, and stay at `usize::MAX` once there.
+#[derive(Clone, Copy, Debug, PartialEq, Eq)]
+pub enum BuildError {
+    /// The item at `place` is `index`, which the range of the set does not have.
+    OutOfRange { place: usize, index: Index },
+    /// There was no memory for the item at `place`.
+    Memory { place: usize },
+}
+
+impl fmt::Display for BuildError {
+    fn fmt(&self, f: &mut fmt::Formatter) -> fmt::Result {
+        match self {
+            BuildError::OutOfRange { place, index } => {
+                write!(f, "index {index} at place {place} is out of range")
+            }
+            BuildError::Memory { place } => write!(f, "no memory for the index at place {place}"),
+        }
+    }
+}
+
+impl Error for BuildError {}
+
+/// A set that indices below a bound are added to, one by one.
+#[doc(hidden)]
+pub trait FallibleInsert: BitSetLike {
+    /// The bound below which an index can be added.
+    const RANGE: usize;
+
+    /// Adds an index below the bound. If an allocation fails, the members stay.
+    ///
+    /// # Contract
+    ///
+    /// ```text
+    /// requires { index < RANGE }
+    /// ensures added { OnOk result ((i : ℕ)
+    ///     → Self.holds self.new i ≡ (Self.holds self.old i || i == index)) }
+    /// ensures err { OnErr result ((i : ℕ) → Self.holds self.new i ≡ Self.holds self.old i) }
+    /// ensures lacking { OnErr result (needs_allocation self.old index) }
+    /// ensures keeps { (j : ℕ) → needs_allocation self.new j → needs_allocation self.old j }
+    /// ensures most { OnOk result ((j : ℕ) → needs_allocation self.old j
+    ///     → need_separate_room index j → needs_allocation self.new j) }
+    /// ensures stays { OnErr result ((j : ℕ) → needs_allocation self.old j
+    ///     → needs_allocation self.new j) }
+    /// ```
+    fn add_index(&mut self, index: Index) -> Result<bool, AllocError>;
+}
+
+// Adds the item at `place`, if it is in range and there is memory for it.
+#[inline]
+fn add_item<T: FallibleInsert>(set: &mut T, place: usize, index: Index) -> Result<(), BuildError> {
+    if index as usize >= T::RANGE {
+        return Err(BuildError::OutOfRange { place, index });
+    }
+    match set.add_index(index) {
+        Ok(_) => Ok(()),
+        Err(_) => Err(BuildError::Memory { place }),
+    }
+}
+
+/// Adds the items of an iterator, up to the first that is refused.
+///
+/// # Contract
+///
+/// ```text
+/// requires { IsFiniteIterable U.into_iter_gives U.IntoIter.can_next U.IntoIter.remaining iter }
+/// ensures all { OnOk result (TakesAllBelow T.RANGE U.into_iter_gives U.IntoIter.next_gives
+///     (λ i. i) iter (T.holds set.old) (T.holds set.new)) }
+/// ensures stops { IfErr result (StopsAtRefusedBelow T.RANGE U.into_iter_gives
+///     U.IntoIter.next_gives (λ i. i) iter (T.holds set.old) (T.holds set.new)
+///     (T.needs_allocation set.new)) }
+/// ensures keeps { (j : ℕ) → T.needs_allocation set.new j → T.needs_allocation set.old j }
+/// ensures most { (j : ℕ) → T.needs_allocation set.old j
+///     → LiesApart T.need_separate_room (T.holds set.new) j → T.needs_allocation set.new j }
+/// ```
+#[doc(hidden)]
+pub fn extend_indices<T: FallibleInsert, U: IntoIterator<Item = Index>>(
+    set: &mut T,
+    iter: U,
+) -> Result<(), BuildError> {
+    let mut place = 0usize;
+    for index in iter {
+        add_item(set, place, index)?;
+        place = place.saturating_add(1);
+    }
+    Ok(())
+}
+
+/// Adds the items that an iterator gives by reference, as `extend_indices` does.
+///
+/// # Contract
+///
+/// ```text
+/// requires { IsFiniteIterable U.into_iter_gives U.IntoIter.can_next U.IntoIter.remaining iter }
+/// ensures all { OnOk result (TakesAllBelow T.RANGE U.into_iter_gives U.IntoIter.next_gives
+///     (λ i. i.now) iter (T.holds set.old) (T.holds set.new)) }
+/// ensures stops { IfErr result (StopsAtRefusedBelow T.RANGE U.into_iter_gives
+///     U.IntoIter.next_gives (λ i. i.now) iter (T.holds set.old) (T.holds set.new)
+///     (T.needs_allocation set.new)) }
+/// ensures keeps { (j : ℕ) → T.needs_allocation set.new j → T.needs_allocation set.old j }
+/// ensures most { (j : ℕ) → T.needs_allocation set.old j
+///     → LiesApart T.need_separate_room (T.holds set.new) j → T.needs_allocation set.new j }
+/// ```
+#[doc(hidden)]
+pub fn extend_index_refs<'a, T: FallibleInsert, U: IntoIterator<Item = &'a Index>>(
+    set: &mut T,
+    iter: U,
+) -> Result<(), BuildError> {
+    let mut place = 0usize;
+    for index in iter {
+        add_item(set, place, *index)?;
+        place = place.saturating_add(1);
+    }
+    Ok(())
+}
+
+/// A set without members, extended by the items of an iterator.
+///
+/// # Contract
+///
+/// ```text
+/// requires finite { IsFiniteIterable U.into_iter_gives U.IntoIter.can_next U.IntoIter.remaining
+///     iter }
+/// requires empty { (i : ℕ) → T.holds set i ≡ false }
+/// requires bare { (j : ℕ) → T.needs_allocation set j }
+/// ensures all { IfOk result (λ made. TakesAllBelow T.RANGE U.into_iter_gives U.IntoIter.next_gives
+///     (λ i. i) iter (λ _. false) (T.holds made)) }
+/// ensures most { IfOk result (λ made. (j : ℕ) → LiesApart T.need_separate_room (T.holds made) j
+///     → T.needs_allocation made j) }
+/// ensures stops { IfErr result (RefusesBelow T.RANGE U.into_iter_gives U.IntoIter.next_gives
+///     (λ i. i) iter T.need_separate_room) }
+/// ```
+#[doc(hidden)]
+pub fn from_indices<T: FallibleInsert, U: IntoIterator<Item = Index>>(
+    mut set: T,
+    iter: U,
+) -> Result<T, BuildError> {
+    extend_indices(&mut set, iter)?;
+    Ok(set)
+}
+
+/// A set without members, extended by the items that an iterator gives by reference.
+///
+/// # Contract
+///
+/// ```text
+/// requires finite { IsFiniteIterable U.into_iter_gives U.IntoIter.can_next U.IntoIter.remaining
+///     iter }
+/// requires empty { (i : ℕ) → T.holds set i ≡ false }
+/// requires bare { (j : ℕ) → T.needs_allocation set j }
+/// ensures all { IfOk result (λ made. TakesAllBelow T.RANGE U.into_iter_gives U.IntoIter.next_gives
+///     (λ i. i.now) iter (λ _. false) (T.holds made)) }
+/// ensures most { IfOk result (λ made. (j : ℕ) → LiesApart T.need_separate_room (T.holds made) j
+///     → T.needs_allocation made j) }
+/// ensures stops { IfErr result (RefusesBelow T.RANGE U.into_iter_gives U.IntoIter.next_gives
+///     (λ i. i.now) iter T.need_separate_room) }
+/// ```
+#[doc(hidden)]
+pub fn from_index_refs<'a, T: FallibleInsert, U: IntoIterator<Item = &'a Index>>(
+    mut set: T,
+    iter: U,
+) -> Result<T, BuildError> {
+    extend_index_refs(&mut set, iter)?;
+    Ok(set)
+}
+
+/// Adds the indices of a slice, up to the first that is refused.
+///
+/// # Contract
+///
+/// ```text
+/// ensures added { OnOk result (AddsList (T.holds set.old) (T.holds set.new) indices.now) }
+/// ensures in_range { OnOk result (InRangeBefore T.RANGE indices.now (length indices.now)) }
+/// ensures added_before { IfErr result (λ error. AddsList (T.holds set.old) (T.holds set.new)
+///     (take (place_of error) indices.now)) }
+/// ensures place { IfErr result (λ error. place_of error < length indices.now) }
+/// ensures in_range_before { IfErr result (λ error. InRangeBefore T.RANGE indices.now
+///     (place_of error)) }
+/// ensures why { IfErr result (IsWhy T.RANGE indices.now) }
+/// ensures lacks_room { IfErr result (LacksRoom (T.needs_allocation set.new) indices.now) }
+/// ensures keeps { (j : ℕ) → T.needs_allocation set.new j → T.needs_allocation set.old j }
+/// ensures most { (j : ℕ) → T.needs_allocation set.old j
+///     → LiesApart T.need_separate_room (T.holds set.new) j → T.needs_allocation set.new j }
+/// ```
+#[doc(hidden)]
+pub fn extend_from_slice<T: FallibleInsert>(
+    set: &mut T,
+    indices: &[Index],
+) -> Result<(), BuildError> {
+    extend_index_refs(set, indices)
+}
+
+/// A set without members, extended by the indices of a slice.
+///
+/// # Contract
+///
+/// ```text
+/// requires empty { (i : ℕ) → T.holds set i ≡ false }
+/// requires bare { (j : ℕ) → T.needs_allocation set j }
+/// ensures members { IfOk result (λ made. (i : ℕ)
+///     → (T.holds made i ≡ true) ↔ Contains indices.now i) }
+/// ensures in_range { IfOk result (λ _. InRangeBefore T.RANGE indices.now (length indices.now)) }
+/// ensures most { IfOk result (λ made. (j : ℕ) → LiesApart T.need_separate_room (T.holds made) j
+///     → T.needs_allocation made j) }
+/// ensures place { IfErr result (λ error. place_of error < length indices.now) }
+/// ensures in_range_before { IfErr result (λ error. InRangeBefore T.RANGE indices.now
+///     (place_of error)) }
+/// ensures why { IfErr result (IsWhy T.RANGE indices.now) }
+/// ensures apart { IfErr result (LiesApartIn T.need_separate_room indices.now) }
+/// ```
+#[doc(hidden)]
+pub fn from_slice<T: FallibleInsert>(set: T, indices: &[Index]) -> Result<T, BuildError> {
+    from_index_refs(set, indices)
+}

@@ -1,0 +1,123 @@
+// Derived from crates/hibitset_base/src/ops/bit_set_or.rt by rust/derive.py, and never edited by hand.
+
+//! Operators over a union.
+
+use crate::support::rattle_std::prelude::*;
+
+use crate::derived::hibitset_base::iter::BitIter;
+use crate::derived::hibitset_base::like::BitSetLike;
+use crate::derived::hibitset_base::util::Index;
+use crate::derived::hibitset_base::virt::{BitSetAnd, BitSetNot, BitSetOr, BitSetXor};
+use crate::support::rattle_std::ops::{BitAnd, BitOr, BitXor, Not, Sub};
+
+impl<A: BitSetLike, B: BitSetLike> Not for BitSetOr<A, B> {
+    type Output = BitSetNot<Self>;
+
+    #[inline]
+    fn not(self) -> BitSetNot<Self> {
+        BitSetNot(self)
+    }
+}
+
+impl<A: BitSetLike, B: BitSetLike, T: BitSetLike> BitAnd<T> for BitSetOr<A, B> {
+    type Output = BitSetAnd<Self, T>;
+
+    #[inline]
+    fn bitand(self, rhs: T) -> BitSetAnd<Self, T> {
+        BitSetAnd(self, rhs)
+    }
+}
+
+impl<A: BitSetLike, B: BitSetLike, T: BitSetLike> BitOr<T> for BitSetOr<A, B> {
+    type Output = BitSetOr<Self, T>;
+
+    #[inline]
+    fn bitor(self, rhs: T) -> BitSetOr<Self, T> {
+        BitSetOr(self, rhs)
+    }
+}
+
+impl<A: BitSetLike, B: BitSetLike, T: BitSetLike> BitXor<T> for BitSetOr<A, B> {
+    type Output = BitSetXor<Self, T>;
+
+    #[inline]
+    fn bitxor(self, rhs: T) -> BitSetXor<Self, T> {
+        BitSetXor(self, rhs)
+    }
+}
+
+impl<A: BitSetLike, B: BitSetLike, T: BitSetLike> Sub<T> for BitSetOr<A, B> {
+    type Output = BitSetAnd<Self, BitSetNot<T>>;
+
+    #[inline]
+    fn sub(self, rhs: T) -> BitSetAnd<Self, BitSetNot<T>> {
+        BitSetAnd(self, BitSetNot(rhs))
+    }
+}
+
+impl<A: BitSetLike, B: BitSetLike> IntoIterator for BitSetOr<A, B> {
+    type Item = Index;
+
+    type IntoIter = BitIter<Self>;
+
+    #[inline]
+    fn into_iter(self) -> BitIter<Self> {
+        self.iter()
+    }
+}
+
+impl<'a, A: BitSetLike, B: BitSetLike> Not for &'a BitSetOr<A, B> {
+    type Output = BitSetNot<Self>;
+
+    #[inline]
+    fn not(self) -> BitSetNot<Self> {
+        BitSetNot(self)
+    }
+}
+
+impl<'a, A: BitSetLike, B: BitSetLike, T: BitSetLike> BitAnd<T> for &'a BitSetOr<A, B> {
+    type Output = BitSetAnd<Self, T>;
+
+    #[inline]
+    fn bitand(self, rhs: T) -> BitSetAnd<Self, T> {
+        BitSetAnd(self, rhs)
+    }
+}
+
+impl<'a, A: BitSetLike, B: BitSetLike, T: BitSetLike> BitOr<T> for &'a BitSetOr<A, B> {
+    type Output = BitSetOr<Self, T>;
+
+    #[inline]
+    fn bitor(self, rhs: T) -> BitSetOr<Self, T> {
+        BitSetOr(self, rhs)
+    }
+}
+
+impl<'a, A: BitSetLike, B: BitSetLike, T: BitSetLike> BitXor<T> for &'a BitSetOr<A, B> {
+    type Output = BitSetXor<Self, T>;
+
+    #[inline]
+    fn bitxor(self, rhs: T) -> BitSetXor<Self, T> {
+        BitSetXor(self, rhs)
+    }
+}
+
+impl<'a, A: BitSetLike, B: BitSetLike, T: BitSetLike> Sub<T> for &'a BitSetOr<A, B> {
+    type Output = BitSetAnd<Self, BitSetNot<T>>;
+
+    #[inline]
+    fn sub(self, rhs: T) -> BitSetAnd<Self, BitSetNot<T>> {
+        BitSetAnd(self, BitSetNot(rhs))
+    }
+}
+
+impl<'a, A: BitSetLike, B: BitSetLike> IntoIterator for &'a BitSetOr<A, B> {
+    type Item = Index;
+
+    type IntoIter = BitIter<Self>;
+
+    #[inline]
+    fn into_iter(self) -> BitIter<Self> {
+        self.iter()
+    }
+}

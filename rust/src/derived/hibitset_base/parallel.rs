@@ -1,0 +1,112 @@
+// Derived from crates/hibitset_base/src/parallel.rt by rust/derive.py, and never edited by hand.
+
+//! A walk as parts, which threads can go through side by side.
+
+use crate::support::rattle_std::prelude::*;
+
+use crate::derived::hibitset_base::bulk::fold::fold_walk;
+use crate::derived::hibitset_base::iter::{BitIter, descend};
+use crate::derived::hibitset_base::like::BitSetLike;
+use crate::derived::hibitset_base::read_count::Reads;
+use crate::derived::hibitset_base::util::{Index, LAYERS};
+use crate::support::rattle_std::fmt::Debug;
+
+mod cost;
+mod fill;
+mod par_iter;
+mod run;
+mod workers;
+
+pub use self::par_iter::BitParIter;
+
+/// A part of a walk over a set, which can be split, and the number of layers, from the top one on, that a split looks
+/// at; 0 acts as 1.
+#[derive(Debug)]
+pub struct BitProducer<'a, T: 'a + Send + Sync>(pub BitIter<&'a T>, pub u8);
+
+// Looks at one layer of a walk whose bits all lie there or in one layer below: cuts its bits in halves, of which the
+// answer has the second, or reads the word under its one bit.
+fn look_at<'a, T: BitSetLike>(walk: &mut BitIter<&'a T>, layer: usize) -> Option<BitIter<&'a T>> {
+    if walk.cursor.is_empty(layer) {
+        return None;
+    }
+    let Some(cursor) = walk.cursor.halve(layer) else {
+        descend(walk.set, &mut walk.cursor, &mut walk.reads, layer);
+        return None;
+    };
+    Some(BitIter {
+        set: walk.set,
+        cursor,
+        reads: Reads::none(),
+    })
+}
+
+// Looks at so many layers from the top one on, until one is cut in halves. The answer has the second half.
+fn divide<'a, T: BitSetLike>(walk: &mut BitIter<&'a T>, looks: usize) -> Option<BitIter<&'a T>> {
+    'looks: for look in 0..looks {
+        if let Some(other) = look_at(walk, LAYERS - 1 - look) {
+            return Some(other);
+        }
+    }
+    None
+}
+
+impl<'a, T: BitSetLike + Send + Sync> BitProducer<'a, T> {
+    /// Splits the work in two, the lower items and the higher ones. The number of layers to look at is at most 4.
+    ///
+    /// Where more than one mask has bits, it answers none and the producer unchanged. Else it looks at the layers from
+    /// the top one on: under one bit it goes down, and the first layer that has two bits or more is cut at its halving
+    /// bit. Both parts then have as many bits left to visit, or the first one more. So it may answer none and still
+    /// have gone down. How many items lie under each half is not said.
+    ///
+    /// # Contract
+    ///
+    /// ```text
+    /// requires { self.1 < LAYERS }
+    /// ensures items { part_items T.holds self.entry
+    ///     ≡ part_items T.holds result.0 ++ items_of_second T.holds result.1 }
+    /// ensures more_masks { ¬ PartHasOneMask LAYERS self.entry
+    ///     → (result.0 ≡ self.entry) × (result.1 ≡ None) }
+    /// ensures none { PartHasOneMask LAYERS self.entry → result.1 ≡ None
+    ///     → LieInOneRange (range_size LAYERS self.entry.1) (part_items T.holds self.entry) }
+    /// ensures apart { IfSome result.1 (λ other. ShareNoRange (range_size LAYERS self.entry.1)
+    ///     (part_items T.holds result.0) (part_items T.holds other)) }
+    /// ensures half { IfSome result.1 (DifferByAtMostOne result.0) }
+    /// ensures some { SummariesExact LAYERS (T.word (part_set self.entry))
+    ///     → AreWords (T.word (part_set self.entry)) → PartBitsAreFromSet T.word self.entry
+    ///     → IfSome result.1 (λ other. (0 < length (part_items T.holds result.0))
+    ///     × (0 < length (part_items T.holds other))) }
+    /// ensures same { SameSetAndLayers self.entry result.0
+    ///     × IfSome result.1 (SameSetAndLayers self.entry) }
+    /// ensures drawn { PartBitsAreFromSet T.word self.entry
+    ///     → PartBitsAreFromSet T.word result.0 × IfSome result.1 (PartBitsAreFromSet T.word) }
+    /// ensures one_mask { PartHasOneMask LAYERS self.entry
+    ///     → PartHasOneMask LAYERS result.0 × IfSome result.1 (PartHasOneMask LAYERS) }
+    /// ensures read { SplitReads T.word (max self.entry.1 1) self.entry result.0 result.1
+    ///     × IfSome result.1 (λ other. part_reads other ≡ 0) }
+    /// ```
+    pub(crate) fn split(self) -> (Self, Option<Self>) {
+        let BitProducer(mut walk, layers) = self;
+        if !walk.cursor.has_one_mask() {
+            return (BitProducer(walk, layers), None);
+        }
+        match divide(&mut walk, layers.max(1) as usize) {
+            None => (BitProducer(walk, layers), None),
+            Some(other) => (BitProducer(walk, layers), Some(BitProducer(other, layers))),
+        }
+    }
+}
+
+impl<'a, T: BitSetLike + Send + Sync> BitProducer<'a, T> {
+    /// The items folded in order.
+    ///
+    /// # Contract
+    ///
+    /// ```text
+    /// requires { F.IsAlwaysCallable step }
+    /// ensures { FoldsTo (λ a x b. F.post step a x b) init (part_items T.holds self.entry) result }
+    /// ```
+    pub(crate) fn fold_with<R, F: Fn(R, Index) -> R>(self, init: R, step: F) -> R {
+        fold_walk(self.0, init, &step)
+    }
+}

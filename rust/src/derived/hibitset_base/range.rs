@@ -1,0 +1,90 @@
+// Derived from crates/hibitset_base/src/range.rt by rust/derive.py, and never edited by hand.
+
+//! A range of indices as a set whose words are computed.
+
+use crate::support::rattle_std::prelude::*;
+
+use crate::derived::hibitset_base::like::BitSetLike;
+use crate::derived::hibitset_base::util::{Index, LAYERS, SHIFT1, SHIFT2, SHIFT3, SHIFT4};
+
+// A word whose lowest `count` bits are set.
+#[inline]
+pub(crate) fn low_ones(count: usize) -> usize {
+    if count == 64 {
+        usize::MAX
+    } else {
+        (1 << count) - 1
+    }
+}
+
+// The word `place` of a layer, with the bits of the positions from `from` on before `to`. Most words of a long range
+// have all bits, so that is asked first.
+#[inline]
+fn bits_between(from: usize, to: usize, place: usize) -> usize {
+    let first = place.saturating_mul(64);
+    if from <= first && to.saturating_sub(first) >= 64 {
+        return usize::MAX;
+    }
+    let before = low_ones(from.saturating_sub(first).min(64));
+    let upto = low_ones(to.saturating_sub(first).min(64));
+    upto.saturating_sub(before)
+}
+
+/// The indices from `start` on before `end`, as a set: `&set & range` has the members of a set within a range.
+///
+/// It keeps no words. If `end` is not above `start` it is empty. It has numbers from `MAX_EID` on too, if `end` lies
+/// above; walks and counts stop below. Above layer 0 it has the bits over its indices, and if it is empty at most one
+/// phantom bit in a layer.
+#[derive(Debug, Clone, Copy)]
+pub struct BitSetRange {
+    pub start: Index,
+    pub end: Index,
+}
+
+impl BitSetLike for BitSetRange {
+    #[inline]
+    fn layer4(&self) -> usize {
+        bits_between(
+            self.start as usize >> SHIFT4,
+            (self.end as usize).div_ceil(1 << SHIFT4),
+            0,
+        )
+    }
+
+    #[inline]
+    fn layer3(&self, i: usize) -> usize {
+        bits_between(
+            self.start as usize >> SHIFT3,
+            (self.end as usize).div_ceil(1 << SHIFT3),
+            i,
+        )
+    }
+
+    #[inline]
+    fn layer2(&self, i: usize) -> usize {
+        bits_between(
+            self.start as usize >> SHIFT2,
+            (self.end as usize).div_ceil(1 << SHIFT2),
+            i,
+        )
+    }
+
+    #[inline]
+    fn layer1(&self, i: usize) -> usize {
+        bits_between(
+            self.start as usize >> SHIFT1,
+            (self.end as usize).div_ceil(1 << SHIFT1),
+            i,
+        )
+    }
+
+    #[inline]
+    fn layer0(&self, i: usize) -> usize {
+        bits_between(self.start as usize, self.end as usize, i)
+    }
+
+    #[inline]
+    fn contains(&self, i: Index) -> bool {
+        self.start <= i && i < self.end
+    }
+}

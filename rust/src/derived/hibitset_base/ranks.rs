@@ -1,0 +1,127 @@
+// Derived from crates/hibitset_base/src/ranks.rt by rust/derive.py, and never edited by hand.
+
+//! How many members lie between two indices, and which one is at a position of the list of all.
+
+use crate::support::rattle_std::prelude::*;
+
+use crate::derived::hibitset_base::bulk::count::{count_left, count_subtree};
+use crate::derived::hibitset_base::bulk::{take_bit, take_child, take_next_block};
+use crate::derived::hibitset_base::cursor::Cursor;
+use crate::derived::hibitset_base::iter::{read, root_cursor};
+use crate::derived::hibitset_base::like::BitSetLike;
+use crate::derived::hibitset_base::range::low_ones;
+use crate::derived::hibitset_base::read_count::Reads;
+use crate::derived::hibitset_base::util::{Index, LAYERS};
+
+// The bits of a word before a bit.
+#[inline]
+pub(crate) fn head(word: usize, bit: u32) -> usize {
+    word & ((1usize << bit) - 1)
+}
+
+// The bits of a word from one bit on before another.
+#[inline]
+fn part(word: usize, from: u32, to: u32) -> usize {
+    let upto = low_ones(to as usize);
+    let before = low_ones(from as usize);
+    let ones = upto - before;
+    word & ones
+}
+
+// How many members lie under the bits of a word of a layer, where the first bit lies at `start`.
+#[inline]
+fn count_bits<T: BitSetLike>(set: &T, layer: usize, start: u32, word: usize) -> usize {
+    if layer == 0 {
+        return word.count_ones() as usize;
+    }
+    if layer == 1 {
+        return count_subtree(set, start, word);
+    }
+    let mut cursor = Cursor::of_word(layer, start, word);
+    count_left(set, &mut cursor, &mut Reads::none())
+}
+
+// How many members lie at the positions of a layer from one on before another, all in one word. It reads no word if
+// there is no such position.
+#[inline]
+pub(crate) fn count_part<T: BitSetLike>(set: &T, layer: usize, from: u32, to: u32) -> usize {
+    if to <= from {
+        return 0;
+    }
+    let position = from / 64;
+    let word = read(set, &mut Reads::none(), layer, position);
+    let start = 64 * position;
+    count_bits(set, layer, start, part(word, from % 64, to - start))
+}
+
+// How many members lie from `start` on before `end`. In each layer it counts what is left of the words at the two ends,
+// and leaves the words between them to the layer above.
+pub(crate) fn count_range<T: BitSetLike>(set: &T, start: Index, end: Index) -> usize {
+    let mut count = 0;
+    let mut from = start;
+    let mut to = end;
+    'layers: for layer in 0..LAYERS {
+        if to <= from {
+            return count;
+        }
+        if from / 64 == (to - 1) / 64 {
+            return count + count_part(set, layer, from, to);
+        }
+        let first = (from + 63) / 64;
+        let last = to / 64;
+        let lower = count_part(set, layer, from, 64 * first);
+        let upper = count_part(set, layer, 64 * last, to);
+        count += lower + upper;
+        from = first;
+        to = last;
+    }
+    count
+}
+
+// The index of the bit at a place of a word, where its bits are counted from the lowest up.
+#[inline]
+fn nth_bit(start: Index, word: usize, at: usize) -> Option<Index> {
+    let mut rest = word;
+    let mut left = at;
+    'bits: while rest != 0 {
+        let index = take_bit(start, &mut rest);
+        if left == 0 {
+            return Some(index);
+        }
+        left -= 1;
+    }
+    None
+}
+
+// The member at a place of those in the words of layer 0 under the bits of a word of layer 1, whose first bit is at
+// `start`.
+#[inline]
+pub(crate) fn nth_under<T: BitSetLike>(set: &T, start: u32, word: usize, at: usize) -> Option<Index> {
+    let mut rest = word;
+    let mut left = at;
+    'bits: while rest != 0 {
+        let (first, lower) = take_child(set, start, &mut rest);
+        let count = lower.count_ones() as usize;
+        if left < count {
+            return nth_bit(first, lower, left);
+        }
+        left -= count;
+    }
+    None
+}
+
+// The member at a place of the list of all. It counts by words of layer 1, and looks at single words under the last of
+// them alone.
+pub(crate) fn find_nth<T: BitSetLike>(set: &T, at: usize) -> Option<Index> {
+    let mut reads = Reads::none();
+    let mut cursor = root_cursor(set, &mut reads);
+    let mut left = at;
+    'parts: while let Some((start, word)) = take_next_block(set, &mut cursor, &mut reads) {
+        let count = count_subtree(set, start, word);
+        if left < count {
+            return nth_under(set, start, word, left);
+        }
+        left -= count;
+    }
+    None
+}

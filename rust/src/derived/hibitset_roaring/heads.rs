@@ -1,0 +1,103 @@
+// Derived from crates/hibitset_roaring/src/heads.rt by rust/derive.py, and never edited by hand.
+
+//! Which containers a set has, and how many members each.
+
+use crate::support::rattle_std::prelude::*;
+
+use crate::derived::hibitset_roaring::layout::CONTAINER_WORDS;
+use crate::derived::hibitset_roaring::slots::{CONTAINER_BLOCKS, blocks_over, slot_after, slot_from, word_of};
+use crate::support::rattle_std::alloc::{AllocError, Global};
+
+// From this many nonzero words on, all words of a container are counted.
+const MANY_WORDS: usize = 256;
+
+// From this many nonzero words of layer 1 on, the nonzero words under them are counted first.
+const MANY_BLOCKS: usize = 8;
+
+/// The keys of the containers of a set, and how many members each has.
+pub(crate) struct Heads {
+    pub(crate) keys: Vec<usize>,
+    pub(crate) counts: Vec<usize>,
+}
+
+// How many words of a container are not 0.
+fn count_slots(above: &[usize], key: usize) -> usize {
+    let mut slots = 0;
+    'summaries: for block in 0..CONTAINER_BLOCKS {
+        slots += word_of(above, CONTAINER_BLOCKS * key + block).count_ones() as usize;
+    }
+    slots
+}
+
+// How many bits are set in 1,024 words.
+fn count_whole(words: &[usize], base: usize) -> usize {
+    let mut ones = 0;
+    'words: for j in 0..CONTAINER_WORDS {
+        ones += words[base + j].count_ones() as usize;
+    }
+    ones
+}
+
+// How many bits are set in the words of a container, of which those that are 0 are skipped.
+fn count_some(words: &[usize], above: &[usize], key: usize, blocks: usize) -> usize {
+    let base = CONTAINER_WORDS * key;
+    let mut ones = 0;
+    let mut rest = 0;
+    let mut slot = slot_from(above, key, blocks, 0, &mut rest);
+    'slots: while slot < CONTAINER_WORDS {
+        ones += word_of(words, base + slot).count_ones() as usize;
+        slot = slot_after(above, key, blocks, slot, &mut rest);
+    }
+    ones
+}
+
+// Returns whether a container has many nonzero words, and all its words lie in `words`.
+fn has_many(words: &[usize], above: &[usize], key: usize, blocks: usize) -> bool {
+    CONTAINER_WORDS * key + CONTAINER_WORDS <= words.len()
+        && blocks.count_ones() as usize >= MANY_BLOCKS
+        && count_slots(above, key) >= MANY_WORDS
+}
+
+// How many members have these high bits.
+pub(crate) fn count_under(words: &[usize], above: &[usize], key: usize) -> usize {
+    let blocks = blocks_over(above, key);
+    if has_many(words, above, key, blocks) {
+        count_whole(words, CONTAINER_WORDS * key)
+    } else {
+        count_some(words, above, key, blocks)
+    }
+}
+
+impl Heads {
+    // Notes a container, if there are members for it.
+    fn note(&mut self, words: &[usize], above: &[usize], key: usize) -> Result<(), AllocError> {
+        let count = count_under(words, above, key);
+        if count == 0 {
+            return Ok(());
+        }
+        self.keys.push(key)?;
+        self.counts.push(count)?;
+        Ok(())
+    }
+
+    /// The containers of the set with these words.
+    ///
+    /// # Contract
+    ///
+    /// ```text
+    /// requires short { length words.now ≤ 16777216 }
+    /// requires above { AreSummaries words.now above.now }
+    /// ensures { IfOk result (λ heads. AreHeads words.now heads.keys.items heads.counts.items
+    ///     ((length words.now + 1023) / 1024)) }
+    /// ```
+    pub(crate) fn of(alloc: Global, words: &[usize], above: &[usize]) -> Result<Heads, AllocError> {
+        let mut heads = Heads {
+            keys: Vec::new(alloc),
+            counts: Vec::new(alloc),
+        };
+        'keys: for key in 0..(words.len() + (CONTAINER_WORDS - 1)) / CONTAINER_WORDS {
+            heads.note(words, above, key)?;
+        }
+        Ok(heads)
+    }
+}

@@ -1,0 +1,39 @@
+// Derived from crates/hibitset_roaring/src/laws.rt by rust/derive.py, and never edited by hand.
+
+//! What holds of reading and writing together.
+
+use crate::support::rattle_std::prelude::*;
+
+use crate::derived::hibitset_roaring::error::ReadError;
+use crate::derived::hibitset_roaring::reader::read;
+use crate::derived::hibitset_roaring::run_writer::write_run_optimized;
+use crate::derived::hibitset_roaring::writer::write;
+use crate::derived::hibitset::BitSet;
+use crate::support::rattle_std::alloc::Global;
+
+/// A set, written and read again: it has the same members, and fails only if an allocation does.
+///
+/// # Contract
+///
+/// ```text
+/// ensures members { IfOk result (λ copy. (i : ℕ) → has copy i ≡ has set.now i) }
+/// ensures reason { IfErr result (λ error. error ≡ errors.Memory) }
+/// ```
+pub fn round_trip(alloc: Global, set: &BitSet) -> Result<BitSet, ReadError> {
+    let bytes = write(alloc, set)?;
+    read(alloc, &bytes)
+}
+
+/// A set, written with runs where these are shorter and read again: it has the same members, and fails only if an
+/// allocation does.
+///
+/// # Contract
+///
+/// ```text
+/// ensures members { IfOk result (λ copy. (i : ℕ) → has copy i ≡ has set.now i) }
+/// ensures reason { IfErr result (λ error. error ≡ errors.Memory) }
+/// ```
+pub fn round_trip_optimized(alloc: Global, set: &BitSet) -> Result<BitSet, ReadError> {
+    let bytes = write_run_optimized(alloc, set)?;
+    read(alloc, &bytes)
+}

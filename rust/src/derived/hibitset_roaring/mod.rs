@@ -1,0 +1,32 @@
+// Derived from crates/hibitset_roaring/src/lib.rt by rust/derive.py, and never edited by hand.
+
+//! Sets in the portable Roaring format, which many libraries and programs read and write.
+
+use crate::support::rattle_std::prelude::*;
+
+mod array;
+mod container;
+mod error;
+mod header;
+mod heads;
+mod input;
+pub mod laws;
+mod layout;
+mod like;
+mod number;
+mod output;
+mod reader;
+mod run_writer;
+mod runs;
+mod slots;
+mod words;
+mod writer;
+
+pub use error::{Fault, Malformed, ReadError, ReadFromError};
+pub use header::KEYS;
+pub use input::read_from;
+pub use like::write_like;
+pub use output::write_into;
+pub use reader::{read, read_below};
+pub use run_writer::{run_optimized_len, write_run_optimized, write_run_optimized_to};
+pub use writer::{len_of_words, serialized_len, write, write_to, write_words};

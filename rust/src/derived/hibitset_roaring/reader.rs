@@ -1,0 +1,73 @@
+// Derived from crates/hibitset_roaring/src/reader.rt by rust/derive.py, and never edited by hand.
+
+//! A set made of a stream.
+
+use crate::support::rattle_std::prelude::*;
+
+use crate::derived::hibitset_roaring::container::read_container;
+use crate::derived::hibitset_roaring::error::ReadError;
+use crate::derived::hibitset_roaring::header::{Header, KEYS};
+use crate::derived::hibitset_roaring::layout::CONTAINER_WORDS;
+use crate::derived::hibitset::BitSet;
+use crate::support::rattle_std::alloc::Global;
+
+// Puts the words of all containers, and those between them, into an empty vector.
+fn read_containers(bytes: &[u8], header: &Header, words: &mut Vec<usize>) -> Result<(), ReadError> {
+    let mut at = header.first;
+    'containers: for k in 0..header.count {
+        let end = header.end(bytes, k, at);
+        read_container(bytes, header, k, at, words)?;
+        at = end;
+    }
+    Ok(())
+}
+
+/// The set whose members a stream in the portable Roaring format has, if each key is below `end`: a key is the high 16
+/// bits of members. The stream is all of the bytes; it may have runs, and leave offsets out where the format does.
+///
+/// An error names a fault of the bytes and its position, or says that an allocation failed.
+///
+/// The set takes at most 8,192 bytes for each key below `end`, and a sixty-third more, in one request for memory: if
+/// `end` is `KEYS`, 18 bytes can ask for 136 MB.
+///
+/// # Contract
+///
+/// ```text
+/// requires { end ≤ KEYS }
+/// ensures stream { OnOk result (IsStream bytes.now) }
+/// ensures below { OnOk result (HasKeysBelow bytes.now end) }
+/// ensures members { IfOk result (λ set. (i : ℕ) → has set i ≡ holds bytes.now i) }
+/// ensures length { IfOk result (λ set. slice_len set 0 ≤ CONTAINER_WORDS * end) }
+/// ensures least { IfOk result (λ set. (bound : ℕ) → HasKeysBelow bytes.now bound
+///     → slice_len set 0 ≤ CONTAINER_WORDS * bound) }
+/// ensures reason { IfErr result (λ error. IsReason bytes.now end error) }
+/// ensures accepts { IsStream bytes.now → HasKeysBelow bytes.now end
+///     → IfErr result (λ error. error ≡ errors.Memory) }
+/// ```
+pub fn read_below(alloc: Global, bytes: &[u8], end: usize) -> Result<BitSet, ReadError> {
+    let header = Header::read(bytes)?;
+    let keys = header.check_keys(bytes, end)?;
+    header.check_layout(bytes)?;
+    let mut words = BitSet::vec_with_room(alloc, CONTAINER_WORDS * keys)?;
+    read_containers(bytes, &header, &mut words)?;
+    Ok(BitSet::from_vec(words)?)
+}
+
+/// The set whose members a stream has, as `read_below` reads it, if they are below `MAX_EID`. Bytes of a stranger are
+/// better read with a bound.
+///
+/// # Contract
+///
+/// ```text
+/// ensures stream { OnOk result (IsStream bytes.now) }
+/// ensures below { OnOk result (HasKeysBelow bytes.now KEYS) }
+/// ensures members { IfOk result (λ set. (i : ℕ) → has set i ≡ holds bytes.now i) }
+/// ensures least { IfOk result (λ set. (bound : ℕ) → HasKeysBelow bytes.now bound
+///     → slice_len set 0 ≤ CONTAINER_WORDS * bound) }
+/// ensures reason { IfErr result (λ error. IsReason bytes.now KEYS error) }
+/// ensures accepts { IsStream bytes.now → HasKeysBelow bytes.now KEYS
+///     → IfErr result (λ error. error ≡ errors.Memory) }
+/// ```
+pub fn read(alloc: Global, bytes: &[u8]) -> Result<BitSet, ReadError> {
+    read_below(alloc, bytes, KEYS)
+}

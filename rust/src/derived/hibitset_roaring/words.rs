@@ -1,0 +1,65 @@
+// Derived from crates/hibitset_roaring/src/words.rt by rust/derive.py, and never edited by hand.
+
+//! The words of layer 0 of a set, into which members are put.
+
+use crate::support::rattle_std::prelude::*;
+
+use crate::derived::hibitset_base::bits::with_bit;
+use crate::support::rattle_std::alloc::AllocError;
+
+// Puts zero words behind others, up to a length.
+pub(crate) fn lengthen(words: &mut Vec<usize>, len: usize) -> Result<(), AllocError> {
+    words.resize(len, 0)
+}
+
+// Sets the bit of a number.
+#[inline]
+pub(crate) fn set_bit(words: &mut [usize], number: usize) {
+    let slot = number / 64;
+    words[slot] = with_bit(words[slot], number % 64, true);
+}
+
+// A word whose lowest bits are set, as many as `count`.
+#[inline]
+pub(crate) fn low_bits(count: usize) -> usize {
+    if count == 64 {
+        usize::MAX
+    } else {
+        (1 << count) - 1
+    }
+}
+
+// The bits of the word at a slot that stand for the numbers of a range.
+#[inline]
+fn bits_within(slot: usize, start: usize, end: usize) -> usize {
+    let first = 64 * slot;
+    let before = low_bits(start.saturating_sub(first).min(64));
+    low_bits(end.saturating_sub(first).min(64)) & !before
+}
+
+// Sets the bits of the numbers from one on before another, word by word.
+fn set_some(words: &mut [usize], start: usize, end: usize) {
+    'slots: for slot in start / 64..(end + 63) / 64 {
+        words[slot] |= bits_within(slot, start, end);
+    }
+}
+
+// Sets all bits of the words from one on before another.
+fn fill(words: &mut [usize], from: usize, to: usize) {
+    'slots: for slot in from..to {
+        words[slot] = usize::MAX;
+    }
+}
+
+// Sets the bits of the numbers from one on before another: those of whole words first, and then those at the ends.
+pub(crate) fn set_range(words: &mut [usize], start: usize, end: usize) {
+    let from = (start + 63) / 64;
+    let to = end / 64;
+    if to <= from {
+        set_some(words, start, end);
+        return;
+    }
+    fill(words, from, to);
+    set_some(words, start, 64 * from);
+    set_some(words, 64 * to, end);
+}

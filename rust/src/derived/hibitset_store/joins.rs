@@ -1,0 +1,128 @@
+// Derived from crates/hibitset_store/src/joins.rt by rust/derive.py, and never edited by hand.
+
+//! Walks over what a column has, and over what two columns have in common.
+
+use crate::support::rattle_std::prelude::*;
+
+use crate::derived::hibitset_store::columns::Column;
+use crate::derived::hibitset_store::walks::{Iter, Join, JoinMasked};
+use crate::derived::hibitset::BitSetLike;
+use crate::derived::hibitset::laws::laws;
+
+/// Goes over the indices that both columns have, ascending, with both values. It does not allocate, and reads at most
+/// four words of each mask for every key of the smaller column, and the top.
+///
+/// # Contract
+///
+/// ```text
+/// ensures pairs { pairs_left result ≡ join_of (value_of a.now) (value_of b.now) }
+/// ensures begun { reads_of result ≡ 1 }
+/// ensures bound { reads_in_all result
+///     ≤ (LAYERS - 1) * min (length (keys_of (value_of a.now))) (length (keys_of (value_of b.now)))
+///     + 1 }
+/// ensures runs { EveryRun (JoinSteps {V = V} {W = W})
+///     (λ p. ItemsMapTo p seen (pairs_left p.from)) }
+/// ensures fits { length (pairs_left result) ≤ MAX_EID }
+/// ```
+pub fn join<'a, V, W>(a: &'a Column<V>, b: &'a Column<W>) -> Join<'a, V, W> {
+    laws();
+    Join {
+        walk: (a.mask() & b.mask()).iter(),
+        first: a,
+        second: b,
+    }
+}
+
+/// Goes over the indices that both columns have and the set holds too, as `join` does. The bound is that of `join`, on
+/// the words of each column's mask.
+///
+/// # Contract
+///
+/// ```text
+/// ensures pairs { masked_left M.holds result
+///     ≡ joined_within (value_of a.now) (value_of b.now) (M.holds m) }
+/// ensures begun { masked_reads_of result ≡ 1 }
+/// ensures bound { masked_reads_in_all M.word result
+///     ≤ (LAYERS - 1) * min (length (keys_of (value_of a.now))) (length (keys_of (value_of b.now)))
+///     + 1 }
+/// ensures runs { EveryRun (MaskedSteps {V = V} {W = W} {g = M.BitSetLike} M.holds M.word)
+///     (λ p. ItemsMapTo p seen (masked_left M.holds p.from)) }
+/// ensures fits { length (masked_left M.holds result) ≤ MAX_EID }
+/// ```
+pub fn join_masked<'a, V, W, M: BitSetLike>(
+    a: &'a Column<V>,
+    b: &'a Column<W>,
+    m: M,
+) -> JoinMasked<'a, V, W, M> {
+    laws();
+    JoinMasked {
+        walk: (a.mask() & b.mask() & m).iter(),
+        first: a,
+        second: b,
+    }
+}
+
+impl<V> Column<V> {
+    /// Goes over the keys, ascending, each with its value. It does not allocate, and reads at most four words of the
+    /// mask for every key, and the top.
+    ///
+    /// # Contract
+    ///
+    /// ```text
+    /// ensures entries { entries_left result ≡ entries_of (value_of self.now) }
+    /// ensures begun { iter_reads_of result ≡ 1 }
+    /// ensures bound { iter_reads_in_all result
+    ///     ≤ (LAYERS - 1) * length (keys_of (value_of self.now)) + 1 }
+    /// ensures runs { EveryRun (IterSteps {V = V})
+    ///     (λ p. ItemsMapTo p entry_seen (entries_left p.from)) }
+    /// ensures fits { length (entries_left result) ≤ MAX_EID }
+    /// ```
+    pub fn iter(&self) -> Iter<'_, V> {
+        laws();
+        Iter {
+            walk: self.mask().iter(),
+            column: self,
+        }
+    }
+
+    /// As the function `join`, of this column and another.
+    ///
+    /// # Contract
+    ///
+    /// ```text
+    /// ensures pairs { pairs_left result ≡ join_of (value_of self.now) (value_of other.now) }
+    /// ensures begun { reads_of result ≡ 1 }
+    /// ensures bound { reads_in_all result
+    ///     ≤ (LAYERS - 1) * min (length (keys_of (value_of self.now)))
+    ///     (length (keys_of (value_of other.now))) + 1 }
+    /// ensures runs { EveryRun (JoinSteps {V = V} {W = W})
+    ///     (λ p. ItemsMapTo p seen (pairs_left p.from)) }
+    /// ensures fits { length (pairs_left result) ≤ MAX_EID }
+    /// ```
+    pub fn join<'a, W>(&'a self, other: &'a Column<W>) -> Join<'a, V, W> {
+        join(self, other)
+    }
+
+    /// As the function `join_masked`, of this column and another.
+    ///
+    /// # Contract
+    ///
+    /// ```text
+    /// ensures pairs { masked_left M.holds result
+    ///     ≡ joined_within (value_of self.now) (value_of other.now) (M.holds m) }
+    /// ensures begun { masked_reads_of result ≡ 1 }
+    /// ensures bound { masked_reads_in_all M.word result
+    ///     ≤ (LAYERS - 1) * min (length (keys_of (value_of self.now)))
+    ///     (length (keys_of (value_of other.now))) + 1 }
+    /// ensures runs { EveryRun (MaskedSteps {V = V} {W = W} {g = M.BitSetLike} M.holds M.word)
+    ///     (λ p. ItemsMapTo p seen (masked_left M.holds p.from)) }
+    /// ensures fits { length (masked_left M.holds result) ≤ MAX_EID }
+    /// ```
+    pub fn join_masked<'a, W, M: BitSetLike>(
+        &'a self,
+        other: &'a Column<W>,
+        m: M,
+    ) -> JoinMasked<'a, V, W, M> {
+        join_masked(self, other, m)
+    }
+}

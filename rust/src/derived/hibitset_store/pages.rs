@@ -1,0 +1,235 @@
+// Derived from crates/hibitset_store/src/pages.rt by rust/derive.py, and never edited by hand.
+
+//! Values in pages, each made whole when one of its indices first gets a value.
+
+use crate::support::rattle_std::prelude::*;
+
+use crate::derived::hibitset::{BitSet, Index};
+use crate::support::rattle_std::alloc::{AllocError, Global};
+use crate::support::rattle_std::marker::PhantomData;
+use crate::support::rattle_std::mem;
+
+/// How many indices a page has slots for.
+pub const PAGE: usize = 64;
+
+/// Where the slots of a page begin that is not made: past all slots, and such that the place of its last slot is a `u32`
+/// too.
+pub const NO_PAGE: u32 = u32::MAX - 63;
+
+/// How many pages a table has at most that is laid out in order: those of 2^21 indices. With a table eight times as
+/// long, `insert` from empty took twice its time.
+const MAX_PAGES_IN_ORDER: usize = 32_768;
+
+/// How many times as many slots there are at most as those of the pages that are made.
+pub const MAX_SLOTS_PER_MADE_SLOT: usize = 4;
+
+// The values, in pages, with a slot for each index of a page that is made. Each index below `in_order` has the slot
+// of its own number, whether its page is made or not; the other pages lie behind, in the order in which they were made.
+pub(crate) struct Pages<V> {
+    starts: Vec<u32>,
+    slots: Vec<Option<V>>,
+    in_order: usize,
+}
+
+impl<V> Pages<V> {
+    // No value, and no page.
+    pub(crate) fn new(alloc: Global) -> Pages<V> {
+        Pages {
+            starts: Vec::new(alloc),
+            slots: Vec::new(alloc),
+            in_order: 0,
+        }
+    }
+
+    // Where the slots of a page begin by the table: past all slots, where it is not made.
+    #[inline]
+    fn page_start(&self, page: usize) -> u32 {
+        self.starts.get(page).copied().unwrap_or(NO_PAGE)
+    }
+
+    // The slot of an index: past all slots, where it has none.
+    #[inline]
+    pub(crate) fn slot(&self, id: Index) -> usize {
+        let id = id as usize;
+        if id < self.in_order {
+            return id;
+        }
+        self.page_start(id / PAGE) as usize + id % PAGE
+    }
+
+    // The value of an index.
+    #[inline]
+    pub(crate) fn get(&self, id: Index) -> Option<&V> {
+        self.slots.get(self.slot(id))?.as_ref()
+    }
+
+    // The slot of an index that has a value. It does not ask whether the page stands in the table.
+    #[inline]
+    pub(crate) fn slot_of_key(&self, id: Index) -> usize {
+        let id = id as usize;
+        if id < self.in_order {
+            return id;
+        }
+        self.starts[id / PAGE] as usize + id % PAGE
+    }
+
+    // The value of an index that has one. It does not ask whether the page is made, nor whether the slot lies in the
+    // list and has a value.
+    #[inline]
+    pub(crate) fn value(&self, id: Index) -> &V {
+        unwrap_present(&self.slots[self.slot_of_key(id)])
+    }
+
+    // The value of an index, to be changed. A `match`, not `as_mut`: the prover then knows that the borrowed slot has a
+    // value.
+    #[inline]
+    pub(crate) fn get_mut(&mut self, id: Index) -> Option<&mut V> {
+        let slot = self.slot(id);
+        match self.slots.get_mut(slot)? {
+            Some(value) => Some(value),
+            None => None,
+        }
+    }
+
+    // Puts a value into a slot, or takes it out, and returns what was there.
+    #[inline]
+    pub(crate) fn swap_value(&mut self, slot: usize, value: Option<V>) -> Option<V> {
+        mem::replace(&mut self.slots[slot], value)
+    }
+
+    // The slot of an index, whose page is made if it has to be. It changes no value. Refused, it leaves each page as
+    // it was.
+    #[inline]
+    pub(crate) fn make_slot(&mut self, id: Index, keys: &BitSet) -> Result<usize, AllocError> {
+        let page = id as usize / PAGE;
+        if self.page_start(page) == NO_PAGE {
+            self.make_page(page, keys)?;
+        }
+        Ok(self.slot(id))
+    }
+
+    // Makes a page, and the table as long as it needs. Refused, it leaves each page as it was. It is not inlined, so
+    // that its loops take no registers from those that insert.
+    #[inline(never)]
+    fn make_page(&mut self, page: usize, keys: &BitSet) -> Result<(), AllocError> {
+        self.lengthen(page)?;
+        self.add_page(page, keys)
+    }
+
+    // Makes the table go as far as a page, and makes no page. Refused, it changes nothing.
+    fn lengthen(&mut self, page: usize) -> Result<(), AllocError> {
+        if self.starts.len() <= page {
+            self.starts.resize(page + 1, NO_PAGE)?;
+        }
+        Ok(())
+    }
+
+    // Makes a page. Refused, it leaves each page as it was.
+    fn add_page(&mut self, page: usize, keys: &BitSet) -> Result<(), AllocError> {
+        if self.is_worth_order() {
+            self.put_in_order(keys)?;
+        }
+        if page * PAGE < self.in_order {
+            self.starts[page] = (page * PAGE) as u32;
+            return Ok(());
+        }
+        self.append_page(page)
+    }
+
+    // Makes a page behind the part that lies in order. Its slots come after all others; where they have the numbers of
+    // its indices and all others lie in order, it does too. Refused, it changes nothing.
+    fn append_page(&mut self, page: usize) -> Result<(), AllocError> {
+        let start = self.slots.len();
+        add_slots(&mut self.slots, PAGE)?;
+        self.starts[page] = start as u32;
+        if start == page * PAGE && start == self.in_order {
+            self.in_order += PAGE;
+        }
+        Ok(())
+    }
+
+    // Returns whether the pages are to be laid out in order: when there is no slot for another one, where so much of
+    // the table lies behind that there will not be too many slots, and it is not too long.
+    fn is_worth_order(&self) -> bool {
+        let len = self.slots.len();
+        let pages = self.starts.len();
+        len + PAGE > self.slots.capacity()
+            && self.in_order < len
+            && pages <= MAX_PAGES_IN_ORDER
+            && pages * PAGE <= MAX_SLOTS_PER_MADE_SLOT * (len - self.in_order)
+    }
+
+    // Lays the slots of all pages of the table out in order, with as much room as when the list of slots doubles.
+    // Refused, it changes nothing.
+    fn put_in_order(&mut self, keys: &BitSet) -> Result<(), AllocError> {
+        let end = self.starts.len() * PAGE;
+        let room = end.max(2 * self.slots.len());
+        let mut slots = Vec::with_capacity(*self.slots.allocator(), room)?;
+        add_slots(&mut slots, end)?;
+        self.move_values(keys, &mut slots);
+        self.slots = slots;
+        self.in_order = end;
+        Ok(())
+    }
+
+    // Moves the values of all keys to empty slots, where each gets the slot of its index's own number.
+    fn move_values(&mut self, keys: &BitSet, slots: &mut Vec<Option<V>>) {
+        'keys: for id in keys {
+            let slot = self.slot_of_key(id);
+            slots[id as usize] = self.swap_value(slot, None);
+        }
+    }
+
+    // Takes all values out. It keeps the memory of the pages.
+    pub(crate) fn clear(&mut self) {
+        self.starts.clear();
+        self.slots.clear();
+        self.in_order = 0;
+    }
+}
+
+// The value of a slot that has one. An empty slot would be answered by an item of an array that has none, which no
+// program reads, so the compiler makes no test of the slot. Of `unreachable!` it would make a trap, and a test before
+// it.
+#[inline]
+fn unwrap_present<V>(slot: &Option<V>) -> &V {
+    let none: [&V; 0] = [];
+    match slot {
+        Some(value) => value,
+        None => none[0],
+    }
+}
+
+// So many slots without a value. They are poured into the list of all slots, which is faster than a loop that pushes
+// each and asks how many there are.
+struct EmptySlots<V> {
+    left: usize,
+    of: PhantomData<V>,
+}
+
+impl<V> Iterator for EmptySlots<V> {
+    type Item = Option<V>;
+
+    #[inline]
+    fn next(&mut self) -> Option<Option<V>> {
+        if self.left == 0 {
+            return None;
+        }
+        self.left -= 1;
+        Some(None)
+    }
+}
+
+// Adds so many slots without a value at the end. Refused, it adds none.
+fn add_slots<V>(slots: &mut Vec<Option<V>>, count: usize) -> Result<(), AllocError> {
+    let before = slots.len();
+    slots.reserve(count)?;
+    let poured = slots.extend(EmptySlots {
+        left: count,
+        of: PhantomData,
+    });
+    if poured.is_err() {
+        slots.truncate(before);
+    }
+    poured
+}

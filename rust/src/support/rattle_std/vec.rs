@@ -1,0 +1,187 @@
+//! A vector whose calls return an error if an allocation fails.
+
+use super::alloc::{AllocError, AllocFailed, Global};
+use super::clone::TryClone;
+use ::alloc::vec::{IntoIter, Vec as Inner};
+use core::fmt::{self, Debug, Formatter};
+use core::ops::{Deref, DerefMut};
+use core::slice;
+
+#[derive(PartialEq, Eq)]
+pub struct Vec<T>(Inner<T>);
+
+impl<T> Vec<T> {
+    #[inline]
+    pub const fn new(_alloc: Global) -> Vec<T> {
+        Vec(Inner::new())
+    }
+
+    #[inline]
+    pub fn with_capacity(alloc: Global, capacity: usize) -> Result<Vec<T>, AllocError> {
+        let mut list = Vec::new(alloc);
+        list.reserve_exact(capacity)?;
+        Ok(list)
+    }
+
+    /// Rust's vector of the same items, which is not copied.
+    #[inline]
+    pub fn into_rust(self) -> Inner<T> {
+        self.0
+    }
+
+    #[inline]
+    pub fn from_rust(list: Inner<T>) -> Vec<T> {
+        Vec(list)
+    }
+
+    #[inline]
+    pub fn allocator(&self) -> &Global {
+        &Global
+    }
+
+    #[inline]
+    pub fn capacity(&self) -> usize {
+        self.0.capacity()
+    }
+
+    #[inline]
+    pub fn as_slice(&self) -> &[T] {
+        &self.0
+    }
+
+    #[inline]
+    pub fn as_mut_slice(&mut self) -> &mut [T] {
+        &mut self.0
+    }
+
+    #[inline]
+    pub fn reserve(&mut self, more: usize) -> Result<(), AllocError> {
+        self.0.try_reserve(more).map_err(|_| AllocError)
+    }
+
+    #[inline]
+    pub fn reserve_exact(&mut self, more: usize) -> Result<(), AllocError> {
+        self.0.try_reserve_exact(more).map_err(|_| AllocError)
+    }
+
+    #[inline]
+    pub fn push(&mut self, value: T) -> Result<(), AllocFailed<T>> {
+        if self.0.len() == self.0.capacity() && self.0.try_reserve(1).is_err() {
+            return Err(AllocFailed { value });
+        }
+        self.0.push(value);
+        Ok(())
+    }
+
+    /// Puts a value behind the others, for which there is room.
+    #[inline]
+    pub fn push_reserved(&mut self, value: T) {
+        self.0.push(value);
+    }
+
+    #[inline]
+    pub fn pop(&mut self) -> Option<T> {
+        self.0.pop()
+    }
+
+    #[inline]
+    pub fn truncate(&mut self, len: usize) {
+        self.0.truncate(len);
+    }
+
+    #[inline]
+    pub fn clear(&mut self) {
+        self.0.clear();
+    }
+
+    #[inline]
+    pub fn extend<I: IntoIterator<Item = T>>(&mut self, iter: I) -> Result<(), AllocError> {
+        for value in iter {
+            self.push(value)?;
+        }
+        Ok(())
+    }
+
+    #[inline]
+    pub fn append(&mut self, other: &mut Vec<T>) -> Result<(), AllocError> {
+        self.reserve(other.0.len())?;
+        self.0.append(&mut other.0);
+        Ok(())
+    }
+}
+
+impl<T: Clone> Vec<T> {
+    #[inline]
+    pub fn extend_from_slice(&mut self, values: &[T]) -> Result<(), AllocError> {
+        self.reserve(values.len())?;
+        self.0.extend_from_slice(values);
+        Ok(())
+    }
+
+    #[inline]
+    pub fn resize(&mut self, len: usize, value: T) -> Result<(), AllocError> {
+        self.reserve(len.saturating_sub(self.0.len()))?;
+        self.0.resize(len, value);
+        Ok(())
+    }
+}
+
+impl<T: Clone> TryClone for Vec<T> {
+    fn try_clone(&self) -> Result<Vec<T>, AllocError> {
+        let mut list = Vec::with_capacity(Global, self.0.len())?;
+        list.extend_from_slice(&self.0)?;
+        Ok(list)
+    }
+}
+
+impl<T> Deref for Vec<T> {
+    type Target = [T];
+
+    #[inline]
+    fn deref(&self) -> &[T] {
+        &self.0
+    }
+}
+
+impl<T> DerefMut for Vec<T> {
+    #[inline]
+    fn deref_mut(&mut self) -> &mut [T] {
+        &mut self.0
+    }
+}
+
+impl<T> IntoIterator for Vec<T> {
+    type Item = T;
+    type IntoIter = IntoIter<T>;
+
+    #[inline]
+    fn into_iter(self) -> IntoIter<T> {
+        self.0.into_iter()
+    }
+}
+
+impl<'a, T> IntoIterator for &'a Vec<T> {
+    type Item = &'a T;
+    type IntoIter = slice::Iter<'a, T>;
+
+    #[inline]
+    fn into_iter(self) -> slice::Iter<'a, T> {
+        self.0.iter()
+    }
+}
+
+impl<'a, T> IntoIterator for &'a mut Vec<T> {
+    type Item = &'a mut T;
+    type IntoIter = slice::IterMut<'a, T>;
+
+    #[inline]
+    fn into_iter(self) -> slice::IterMut<'a, T> {
+        self.0.iter_mut()
+    }
+}
+
+impl<T: Debug> Debug for Vec<T> {
+    fn fmt(&self, f: &mut Formatter<'_>) -> fmt::Result {
+        self.0.fmt(f)
+    }
+}

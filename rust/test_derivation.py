@@ -1,0 +1,139 @@
+"""Tests of the rules, each on a few lines, and of check.py on the same lines."""
+
+import re
+import tempfile
+import unittest
+from pathlib import Path
+
+import check
+import derive
+from derivation.rules import RULES, Rules
+from derivation.tokens import Unknown
+
+CRATES = derive.LIBRARIES + derive.TESTS
+
+
+def derived(text, name="hibitset/set.rt"):
+    return Rules(name, text, CRATES).derived()[0]
+
+
+class Erasing(unittest.TestCase):
+    def test_clauses_and_the_body_behind_them(self):
+        source = "pub fn f(a: u32) -> u32\n    requires { a < 5 }\n    ensures same { result ≡ a }\n{\n    a\n}\n"
+        self.assertEqual(derived(source), "pub fn f(a: u32) -> u32 {\n    a\n}\n")
+
+    def test_a_clause_with_a_star_before_a_semicolon(self):
+        self.assertEqual(derived("fn f(&self)\n    ensures* { ⊤ }\n;\n"), "fn f(&self);\n")
+
+    def test_ghosts_with_the_comment_above(self):
+        source = "ghost use A.{b, c};\n\nstruct S {\n    a: u8,\n    // Says why.\n    ghost fits: { a < 5 },\n}\n"
+        self.assertEqual(derived(source), "struct S {\n    a: u8,\n}\n")
+        self.assertEqual(derived("trait T {\n    pub ghost kept = { λ p. p } by { q };\n}\n"), "trait T {\n}\n")
+
+    def test_attributes_of_proofs(self):
+        self.assertEqual(derived("#![tactic(auto)]\n\n#[inline]\n#[cycle(x)]\nfn f() {}\n"), "#[inline]\nfn f() {}\n")
+
+    def test_drops(self):
+        self.assertEqual(derived("#[derive(Drop)]\nstruct S;\n"), "struct S;\n")
+        self.assertEqual(derived("#[derive(Debug, Drop)]\nstruct S;\n"), "#[derive(Debug)]\nstruct S;\n")
+        self.assertEqual(derived("#[derive(Drop, Debug)]\nstruct S;\n"), "#[derive(Debug)]\nstruct S;\n")
+        self.assertEqual(derived("fn f<R: Send + Drop, S: Drop>() {}\n"), "fn f<R: Send, S>() {}\n")
+        self.assertEqual(derived("fn f<R: Drop + Send>() {}\n"), "fn f<R: Send>() {}\n")
+        impl = "impl Drop for S {\n    fn drop(self)\n        ensures { ⊤ }\n    {\n        let S { a: _, b } = self;\n        drop(b);\n    }\n}\n"
+        self.assertEqual(derived("struct S;\n\n" + impl), "struct S;\n")
+
+    def test_a_drop_that_does_something_is_refused(self):
+        with self.assertRaisesRegex(Unknown, r"crates/hibitset/src/set.rt:1: an impl of Drop"):
+            derived("impl Drop for S { fn drop(self) { let S { a } = self; a.free(); } }")
+
+    def test_the_writer_of_fmt(self):
+        source = "fn fmt<W: fmt::Write>(&self, f: &mut Formatter<W>) -> fmt::Result { Ok(()) }\n"
+        self.assertEqual(derived(source), "fn fmt(&self, f: &mut Formatter) -> fmt::Result { Ok(()) }\n")
+
+    def test_what_no_rule_knows(self):
+        for source in ("let a = b ∧ c;", "ghost 5;", "prove!(a);", "fn fmt<W>(&self) {}", "fn f() where Drop {}"):
+            with self.subTest(source), self.assertRaisesRegex(Unknown, r"crates/hibitset/src/set.rt:1: "):
+                derived(source)
+
+
+class Naming(unittest.TestCase):
+    def test_paths(self):
+        source = "use crate::a::crate_of;\nuse hibitset_base::{iter, like};\nuse std::mem;\nuse super::rayon;\n"
+        wanted = (
+            "use crate::derived::hibitset::a::crate_of;\nuse crate::derived::hibitset_base::{iter, like};\n"
+            "use crate::support::rattle_std::mem;\nuse super::rayon;\n"
+        )
+        self.assertEqual(derived(source), wanted)
+
+    def test_names(self):
+        source = "#[derive(Clone)]\nimpl Clone for S { fn clone(&self) { a.to_vec(g)?; b.collect(g); c.collect() } }\n"
+        wanted = source.replace("impl Clone", "impl TryClone").replace("fn clone", "fn try_clone")
+        self.assertEqual(derived(source), wanted.replace("to_vec", "try_to_vec").replace("collect(g)", "collect_in(g)"))
+
+    def test_visibility(self):
+        self.assertEqual(derived("pub fn new() {}\n", "hibitset_base/iter.rt"), "pub(crate) fn of_parts() {}\n")
+        self.assertEqual(derived("pub fn new() {}\n", "hibitset_base/like.rt"), "pub fn new() {}\n")
+        self.assertEqual(derived("mod layers;\n", "hibitset_atomic/lib.rt"), "pub(crate) mod layers;\n")
+        source = "pub struct BitParIter<T> {\n    set: T,\n    min_len: usize,\n    ghost a: { b },\n}\n"
+        wanted = "pub struct BitParIter<T> {\n    pub(crate) set: T,\n    pub(crate) min_len: usize,\n}\n"
+        self.assertEqual(derived(source, "hibitset_base/parallel/par_iter.rt"), wanted)
+
+    def test_members(self):
+        source = "impl<T: S> Iterator for BitIter<T> {\n    fn next() {}\n}\n"
+        wanted = "impl<T: S> Iterator for BitIter<T> {\n    fn next() {}\n\n    crate::beside::iterator_members! { BitIter }\n}\n"
+        self.assertEqual(derived(source, "hibitset_base/iter.rt"), wanted)
+
+    def test_the_runtime(self):
+        source = "#[test]\nfn t(rt: HostRuntime) -> R {\n    f(rt)\n}\n"
+        wanted = "#[test]\nfn t() -> R {\n    let rt = crate::support::rattle_std::rt::host();\n    f(rt)\n}\n"
+        self.assertEqual(derived(source), wanted)
+
+
+class Contracts(unittest.TestCase):
+    def test_a_documented_function(self):
+        source = "/// Adds.\n#[inline]\npub fn f(a: [u8; 4])\n    ensures one { x\n        ≡ y }\n{\n}\n"
+        wanted = (
+            "/// Adds.\n///\n/// # Contract\n///\n/// ```text\n/// ensures one { x\n///     ≡ y }\n/// ```\n"
+            "#[inline]\npub fn f(a: [u8; 4]) {\n}\n"
+        )
+        self.assertEqual(derived(source), wanted)
+
+    def test_no_documentation_and_the_clauses_of_a_closure(self):
+        self.assertEqual(derived("// Says.\nfn f()\n    ensures { a }\n{}\n"), "// Says.\nfn f() {}\n")
+        source = "/// Says.\nfn f() {\n    g(|| -> u8\n        ensures { b }\n    { 5 })\n}\n"
+        self.assertNotIn("Contract", derived(source))
+
+
+class Checking(unittest.TestCase):
+    SOURCE = "//! A file.\n\n/// Adds.\npub fn f(a: u8) -> bool\n    ensures { a ≡ b }\n{\n    // Says.\n    a & &b\n}\n"
+
+    def compare(self, change=lambda text: text):
+        with tempfile.TemporaryDirectory() as folder:
+            source, made = Path(folder, "set.rt"), Path(folder, "set.rs")
+            source.write_text(self.SOURCE, encoding="utf-8")
+            text = derive.with_head("hibitset/src/set.rt", derived(self.SOURCE))
+            made.write_text(change(text), encoding="utf-8")
+            return check.compare("hibitset/set", source, made)
+
+    def test_what_is_derived_passes(self):
+        self.assertEqual(self.compare()["contract"], 1)
+
+    def test_what_is_refused(self):
+        changes = [("& &b", "&& b"), ("// Says.", "// Said."), ("≡ b", "≡ a"), ("Derived from", "Made of"), ("a: u8", "a: u16")]
+        changes += [("/// # Contract", "/// # Promise"), ("pub fn", "#[inline]\npub fn"), ("use crate", "use super")]
+        for old, new in changes:
+            with self.subTest(old), self.assertRaises(check.Difference):
+                self.compare(lambda text: text.replace(old, new, 1))
+
+
+class Page(unittest.TestCase):
+    def test_the_table_has_each_rule(self):
+        page = (derive.RUST / "DERIVATION.md").read_text(encoding="utf-8")
+        self.assertEqual(re.findall(r"^\| \*\*(.+?)\*\* \|", page, re.M), list(RULES))
+
+    def test_both_know_the_same_crates(self):
+        self.assertEqual((list(derive.LIBRARIES), list(derive.TESTS)), (check.LIBRARIES, check.TESTS))
+
+
+if __name__ == "__main__":
+    unittest.main()
