@@ -15,9 +15,7 @@ use Rattle.hibitset.specs.Extension.{MembersEndBy}
 use Rattle.hibitset.specs.Merge.{AreWords, NoWordsFrom}
 use Rattle.hibitset_c.specs.Seen.{has, word_of, has_is_lawful}
 use Rattle.hibitset_c.specs.declared.seen.Seen.{Seen}
-
-bit_of_none : (b : ℕ) → (bit_at 0 b == 1) ≡ false
-bit_of_none b = grind (arith, nat_tests)
+use Rattle.hibitset_c.proofs.NoMemberLemmas.{bit_of_none}
 
 -- from the bound of all indices on a set that C lends has no member
 past : (set : Seen) (i : ℕ) → MAX_EID ≤ i → has set i ≡ false
