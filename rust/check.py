@@ -209,7 +209,8 @@ class Wanted:
         self.in_derive = self.fields = range(0)
         self.walk_end, self.handle = -1, None
         self.read_on()
-        self.comments = [(text, self.places[place]) for text, place in comments]
+        own = f"](crate::derived::{self.crate}::"
+        self.comments = [(text.replace("](crate::", own), self.places[place]) for text, place in comments]
 
     def read_on(self):
         at = 0

@@ -2,13 +2,6 @@
 #include "testing.h"
 #include <pthread.h>
 
-/* The library returns a status as a uint32_t, and takes a set as 88 bytes. */
-typedef char status_has_4_bytes[sizeof(hibitset_status) == 4 ? 1 : -1];
-typedef char set_has_88_bytes[sizeof(hibitset_t) == 88 ? 1 : -1];
-typedef char top_is_at_64[offsetof(hibitset_t, top_) == 64 ? 1 : -1];
-typedef char set_is_at_72[offsetof(hibitset_t, set_) == 72 ? 1 : -1];
-typedef char made_is_at_80[offsetof(hibitset_t, made_) == 80 ? 1 : -1];
-
 /* ---- One set beside its model, a byte for each index below RANGE ---- */
 
 enum { RANGE = 300000 };
@@ -292,36 +285,149 @@ static void random_changes(void) {
 
 /* ---- Ends of the range, and sets without members ---- */
 
-static void empty_sets(void) {
-    hibitset_t set = hibitset_new(), other = hibitset_new();
-    uint32_t index = 7, buffer[4];
-    size_t added = 7, len = 7;
+/* The ways to have an empty set: hibitset_new, HIBITSET_INIT, bytes that are 0. */
+enum { EMPTY_SETS = 3 };
+
+static hibitset_t empty_set(int way) {
+    static const hibitset_t init = HIBITSET_INIT, zero;
+    return way == 0 ? hibitset_new() : way == 1 ? init : zero;
+}
+
+/* Looks at an empty set, beside another one, by each call. */
+static void look_at_empty(const hibitset_t *set, const hibitset_t *other) {
+    uint32_t index = 7, buffer[4], *next = buffer;
+    uint8_t stream[8];
+    size_t len = 7;
+    CHECK(hibitset_len(set) == 0 && hibitset_is_empty(set) && !hibitset_contains(set, 0) && hibitset_capacity(set) == 0);
+    CHECK(!hibitset_first(set, &index) && !hibitset_last(set, &index) && !hibitset_contains(set, HIBITSET_MAX_EID - 1));
+    CHECK(hibitset_next_many(set, 0, buffer, 4) == 0 && hibitset_iterate(set, visit_in_order, &next) && next == buffer);
+    CHECK(hibitset_rank(set, 9) == 0 && !hibitset_select(set, 0, &index) && hibitset_len_range(set, 0, 9) == 0);
+    CHECK(!hibitset_last_before(set, 9, &index) && hibitset_prev_many(set, 9, buffer, 4) == 0 && index == 7);
+    CHECK(hibitset_prev_many(set, 9, NULL, 0) == 0);
+    CHECK(hibitset_next_many(set, 0, NULL, 0) == 0 && hibitset_not_next_many(set, 0, NULL, 0) == 0);
+    CHECK(hibitset_first_gap(set, 5, &index) && index == 5);
+    CHECK(hibitset_not_next_many(set, 5, buffer, 4) == 4 && buffer[0] == 5 && buffer[3] == 8);
+    (void)hibitset_words(set, &len);
+    CHECK(len == 0 && hibitset_roaring_len(set) == 8);
+    CHECK(hibitset_roaring_write(set, stream, 8, &len) == HIBITSET_OK && len == 8);
+    CHECK(hibitset_equals(set, other) && hibitset_is_disjoint(set, other) && hibitset_is_subset(set, other));
+    CHECK(hibitset_and_len(set, other) == 0 && hibitset_or_len(set, other) == 0);
+    CHECK(hibitset_xor_len(set, other) == 0 && hibitset_andnot_len(set, other) == 0);
+    CHECK(hibitset_and_next_many(set, other, 0, buffer, 4) == 0 && hibitset_or_next_many(set, other, 0, buffer, 4) == 0);
+    CHECK(hibitset_xor_next_many(set, other, 0, buffer, 4) == 0 && hibitset_andnot_next_many(set, other, 0, buffer, 4) == 0);
+}
+
+/* Calls on an empty set that change nothing, and allocate nothing. */
+static void leave_empty(hibitset_t *set, const hibitset_t *other) {
+    uint32_t index = 7;
+    size_t added = 7;
     long before = allocations;
-    CHECK(hibitset_len(&set) == 0 && hibitset_is_empty(&set) && !hibitset_contains(&set, 0) && hibitset_capacity(&set) == 0);
-    CHECK(!hibitset_first(&set, &index) && !hibitset_last(&set, &index) && index == 7);
-    CHECK(hibitset_next_many(&set, 0, buffer, 4) == 0 && !hibitset_remove(&set, 5));
-    CHECK(hibitset_rank(&set, 9) == 0 && !hibitset_select(&set, 0, &index) && hibitset_len_range(&set, 0, 9) == 0);
-    CHECK(!hibitset_last_before(&set, 9, &index) && hibitset_prev_many(&set, 9, buffer, 4) == 0);
-    CHECK(!hibitset_pop_first(&set, &index) && !hibitset_pop_last(&set, &index) && index == 7);
-    CHECK(hibitset_flip_range(&set, 10, 10) == HIBITSET_OK && hibitset_flip_range(&set, 10, 5) == HIBITSET_OK);
-    hibitset_remove_range(&set, 0, 100);
-    hibitset_clear(&set);
-    CHECK(hibitset_or_assign(&set, &other) == HIBITSET_OK && hibitset_xor_assign(&set, &other) == HIBITSET_OK);
-    hibitset_and_assign(&set, &other);
-    hibitset_andnot_assign(&set, &other);
-    CHECK(hibitset_add_range(&set, 10, 10) == HIBITSET_OK && hibitset_add_range(&set, 10, 5) == HIBITSET_OK);
-    CHECK(hibitset_add_many(&set, NULL, 0, &added) == HIBITSET_OK && added == 0);
-    CHECK(hibitset_prev_many(&set, 9, NULL, 0) == 0);
-    CHECK(hibitset_next_many(&set, 0, NULL, 0) == 0 && hibitset_not_next_many(&set, 0, NULL, 0) == 0);
-    CHECK(hibitset_equals(&set, &other) && hibitset_is_disjoint(&set, &set) && hibitset_words(&set, &len) && len == 0);
+    CHECK(!hibitset_remove(set, 5) && !hibitset_pop_first(set, &index) && !hibitset_pop_last(set, &index) && index == 7);
+    CHECK(hibitset_flip_range(set, 10, 10) == HIBITSET_OK && hibitset_flip_range(set, 10, 5) == HIBITSET_OK);
+    hibitset_remove_range(set, 0, 100);
+    hibitset_clear(set);
+    CHECK(hibitset_or_assign(set, other) == HIBITSET_OK && hibitset_xor_assign(set, other) == HIBITSET_OK);
+    hibitset_and_assign(set, other);
+    hibitset_andnot_assign(set, other);
+    CHECK(hibitset_add_range(set, 10, 10) == HIBITSET_OK && hibitset_add_range(set, 10, 5) == HIBITSET_OK);
+    CHECK(hibitset_add_many(set, NULL, 0, &added) == HIBITSET_OK && added == 0);
     CHECK(allocations == before);
-    CHECK(hibitset_assign_words(&set, NULL, 0) == HIBITSET_OK && hibitset_is_empty(&set));
-    CHECK(hibitset_assign(&set, &other) == HIBITSET_OK && hibitset_is_empty(&set));
+}
+
+/* An empty set beside one with a member. */
+static void empty_beside_member(const hibitset_t *empty) {
+    hibitset_t set = hibitset_new();
+    CHECK(hibitset_add(&set, 70000) == HIBITSET_OK);
+    CHECK(hibitset_is_subset(empty, &set) && !hibitset_is_subset(&set, empty) && !hibitset_equals(&set, empty));
+    CHECK(hibitset_or_len(&set, empty) == 1 && hibitset_andnot_len(empty, &set) == 0 && hibitset_and_len(&set, empty) == 0);
+    CHECK(hibitset_or_assign(&set, empty) == HIBITSET_OK && hibitset_xor_assign(&set, empty) == HIBITSET_OK);
+    hibitset_andnot_assign(&set, empty);
+    CHECK(hibitset_len(&set) == 1);
+    hibitset_and_assign(&set, empty);
+    CHECK(hibitset_is_empty(&set) && hibitset_add(&set, 3) == HIBITSET_OK && hibitset_assign(&set, empty) == HIBITSET_OK);
+    CHECK(hibitset_is_empty(&set));
     hibitset_free(&set);
-    hibitset_free(&set);
-    CHECK(hibitset_is_empty(&set) && hibitset_add(&set, 3) == HIBITSET_OK && hibitset_len(&set) == 1);
-    hibitset_free(&set);
+}
+
+static void check_empty(hibitset_t *set, const hibitset_t *other) {
+    look_at_empty(set, other);
+    look_at_empty(other, set);
+    look_at_empty(set, set);
+    leave_empty(set, other);
+    look_at_empty(set, other);
+    empty_beside_member(set);
+    hibitset_free(set);
+    look_at_empty(set, other);
+    CHECK(hibitset_assign_words(set, NULL, 0) == HIBITSET_OK && hibitset_is_empty(set));
+    CHECK(hibitset_assign(set, other) == HIBITSET_OK && hibitset_is_empty(set));
+    hibitset_free(set);
+    hibitset_free(set);
+    CHECK(hibitset_is_empty(set) && hibitset_add(set, 3) == HIBITSET_OK && hibitset_len(set) == 1);
+    hibitset_free(set);
+}
+
+/* The first call on an empty set of each kind. */
+static void first_calls(int way) {
+    static const uint32_t list[] = {3};
+    static const uint64_t word = 8;
+    hibitset_t sets[6], other = hibitset_new();
+    size_t added, i;
+    CHECK(hibitset_add(&other, 3) == HIBITSET_OK);
+    for (i = 0; i < 6; i++) sets[i] = empty_set(way);
+    CHECK(hibitset_add(&sets[0], 3) == HIBITSET_OK && hibitset_add_many(&sets[1], list, 1, &added) == HIBITSET_OK);
+    CHECK(hibitset_add_range(&sets[2], 3, 4) == HIBITSET_OK && hibitset_flip_range(&sets[3], 3, 4) == HIBITSET_OK);
+    CHECK(hibitset_or_assign(&sets[4], &other) == HIBITSET_OK && hibitset_assign_words(&sets[5], &word, 1) == HIBITSET_OK);
+    for (i = 0; i < 6; i++) {
+        CHECK(hibitset_equals(&sets[i], &other) && hibitset_len(&sets[i]) == 1);
+        hibitset_free(&sets[i]);
+    }
     hibitset_free(&other);
+}
+
+static void empty_sets(void) {
+    static hibitset_t stays, stays_too = HIBITSET_INIT;
+    hibitset_t *block = calloc(1, sizeof *block);
+    int way, other_way;
+    CHECK(block != NULL);
+    for (way = 0; way < EMPTY_SETS; way++) {
+        first_calls(way);
+        for (other_way = 0; other_way < EMPTY_SETS; other_way++) {
+            hibitset_t set = empty_set(way), other = empty_set(other_way);
+            check_empty(&set, &other);
+        }
+    }
+    check_empty(&stays, block);
+    check_empty(&stays_too, &stays);
+    check_empty(block, &stays);
+    free(block);
+}
+
+/* ---- Texts and the version ---- */
+
+static void texts(void) {
+    int number, other;
+    for (number = HIBITSET_OK; number <= HIBITSET_MALFORMED; number++) {
+        CHECK(strcmp(hibitset_status_text((hibitset_status)number), "no status of hibitset") != 0);
+        for (other = HIBITSET_OK; other < number; other++) {
+            CHECK(strcmp(hibitset_status_text((hibitset_status)number), hibitset_status_text((hibitset_status)other)) != 0);
+        }
+    }
+    for (number = HIBITSET_FAULT_TOO_SHORT; number <= HIBITSET_FAULT_RUN_PAST_END; number++) {
+        CHECK(strcmp(hibitset_fault_text((hibitset_fault)number), "no fault of hibitset") != 0);
+        for (other = HIBITSET_FAULT_TOO_SHORT; other < number; other++) {
+            CHECK(strcmp(hibitset_fault_text((hibitset_fault)number), hibitset_fault_text((hibitset_fault)other)) != 0);
+        }
+    }
+    CHECK(strcmp(hibitset_status_text((hibitset_status)99), "no status of hibitset") == 0);
+    CHECK(strcmp(hibitset_fault_text((hibitset_fault)0), "no fault of hibitset") == 0);
+    CHECK(strcmp(hibitset_status_text(HIBITSET_NO_MEMORY), "an allocation failed") == 0);
+    CHECK(strcmp(hibitset_fault_text(HIBITSET_FAULT_BAD_COOKIE), "the first number begins no stream") == 0);
+}
+
+static void version(void) {
+    char text[32];
+    sprintf(text, "%d.%d.%d", HIBITSET_VERSION_MAJOR, HIBITSET_VERSION_MINOR, HIBITSET_VERSION_PATCH);
+    CHECK(strcmp(text, HIBITSET_VERSION) == 0 && strcmp(hibitset_version(), HIBITSET_VERSION) == 0 && hibitset_abi_0 == 0);
 }
 
 /* NULL is a buffer of length 0, also where there are members. */
@@ -523,6 +629,8 @@ static void many_readers(void) {
 int main(void) {
     random_changes();
     empty_sets();
+    texts();
+    version();
     null_buffers();
     out_of_range();
     one_set_twice();
