@@ -33,7 +33,7 @@ empty_crate() { # NAME: a crate that stands for one that is not here; nothing of
 
 sources() { # names the folder that crates come from, and sets features to those that can be tried
     local name missing=
-    features=(--features parallel,serde)
+    features=(--features "parallel,serde")
     for name in $optional; do
         ls -d "$registry/$name"-[0-9]* >/dev/null 2>&1 || missing="$missing $name"
     done
