@@ -209,7 +209,8 @@ class Wanted:
         self.in_derive = self.fields = range(0)
         self.walk_end, self.handle = -1, None
         self.read_on()
-        self.comments = [(text, self.places[place]) for text, place in comments]
+        own = f"](crate::derived::{self.crate}::"
+        self.comments = [(text.replace("](crate::", own), self.places[place]) for text, place in comments]
 
     def read_on(self):
         at = 0
@@ -263,11 +264,11 @@ class Wanted:
             return self.counted("visibility", CRATE_ONLY)
         if word == "new" and before == "fn" and self.words[at - 2] == "pub" and self.name in PARTS:
             return self.counted("name", ["of_parts"])
-        if word == "mod" and before != "pub" and after[0] in SEEN_MODULES.get(self.name, ()):
+        if word == "mod" and before not in ("pub", ")") and after[0] in SEEN_MODULES.get(self.name, ()):
             return self.counted("visibility", CRATE_ONLY + ["mod"])
         if word == "fn" and before != "pub" and after[0] == SEEN_FUNCTIONS.get(self.name):
             return self.counted("visibility", CRATE_ONLY + ["fn"])
-        if at in self.fields and before in ("{", ","):
+        if at in self.fields and before in ("{", ",") and word != "pub":
             return self.counted("visibility", CRATE_ONLY + [word])
         if at == self.walk_end:
             members = ["crate", "::", "beside", "::", "iterator_members", "!", "{", WALKS[self.name], "}", "}"]

@@ -65,6 +65,10 @@ class Naming(unittest.TestCase):
         )
         self.assertEqual(derived(source), wanted)
 
+    def test_links(self):
+        source = "/// As [`iter`](crate::like::iter).\nfn a() {}\n"
+        self.assertEqual(derived(source), source.replace("(crate::", "(crate::derived::hibitset::"))
+
     def test_names(self):
         source = "#[derive(Clone)]\nimpl Clone for S { fn clone(&self) { a.to_vec(g)?; b.collect(g); c.collect() } }\n"
         wanted = source.replace("impl Clone", "impl TryClone").replace("fn clone", "fn try_clone")
@@ -73,8 +77,9 @@ class Naming(unittest.TestCase):
     def test_visibility(self):
         self.assertEqual(derived("pub fn new() {}\n", "hibitset_base/iter.rt"), "pub(crate) fn of_parts() {}\n")
         self.assertEqual(derived("pub fn new() {}\n", "hibitset_base/like.rt"), "pub fn new() {}\n")
-        self.assertEqual(derived("mod layers;\n", "hibitset_atomic/lib.rt"), "pub(crate) mod layers;\n")
-        source = "pub struct BitParIter<T> {\n    set: T,\n    min_len: usize,\n    ghost a: { b },\n}\n"
+        for source in ("mod layers;\n", "pub(crate) mod layers;\n"):
+            self.assertEqual(derived(source, "hibitset_atomic/lib.rt"), "pub(crate) mod layers;\n")
+        source = "pub struct BitParIter<T> {\n    set: T,\n    pub(crate) min_len: usize,\n    ghost a: { b },\n}\n"
         wanted = "pub struct BitParIter<T> {\n    pub(crate) set: T,\n    pub(crate) min_len: usize,\n}\n"
         self.assertEqual(derived(source, "hibitset_base/parallel/par_iter.rt"), wanted)
 

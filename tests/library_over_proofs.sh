@@ -4,22 +4,25 @@
 set -eu
 kit=$(dirname "$(rt doc)")
 name=$(basename "$PWD")
-below="hibitset_roaring hibitset_store hibitset hibitset_atomic hibitset_base"
-# The crates that this one names, as crates.txt lists them.
-named=" $(sed -n "s/^$name staticlib: //p" ../../crates.txt) "
 
+listed() { # CRATE: the crates that crates.txt lists for it
+    sed -n "s/^$1\( [^:]*\)*: //p" ../../crates.txt
+}
+
+named=" $(listed "$name") "
+needed=$named
 set --
-for low in $below; do
+# Each before those that it may need.
+for low in hibitset_roaring hibitset_store hibitset hibitset_atomic hibitset_base; do
+    case $needed in *" $low "*) ;; *) continue ;; esac
+    needed="$needed$(listed "$low") "
     folder=$PWD/../$low/out/rlib
-    case $named in *" $low "*) passed="--extern $low=$folder/$low.rlib" ;; *) passed= ;; esac
     # A library with a stamp is one that a check keeps, and that `rt lib` takes.
     if [ ! -d "$folder/$low.rlib" ] || [ -e "$folder/stamp" ]; then
-        [ -n "$passed" ] || continue
         exec rt lib
     fi
-    # The words are two or none.
-    # shellcheck disable=SC2086
-    set -- "$@" $passed -L "dependency=$folder"
+    case $named in *" $low "*) set -- "$@" --extern "$low=$folder/$low.rlib" ;; esac
+    set -- "$@" -L "dependency=$folder"
 done
 mkdir -p out
 exec "$kit/bin/rattle" build --crate-name "$name" src/lib.rt --crate-type staticlib --jobs "$(nproc)" \

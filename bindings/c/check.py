@@ -36,10 +36,11 @@ TYPES = {
     "&[u32]": [("const uint32_t *", ""), ("size_t", "len")],
     "&mut [u32]": [("uint32_t *", ""), ("size_t", "len")],
     "&[usize]": [("const uint64_t *", ""), ("size_t", "len")],
+    "&mut [usize]": [("uint64_t *", ""), ("size_t", "len")],
     "&[u8]": [("const uint8_t *", ""), ("size_t", "len")],
     "&mut [u8]": [("uint8_t *", ""), ("size_t", "len")],
 }
-RESULTS = {"": "void", "bool": "bool", "usize": "size_t", "u32": "hibitset_status"}
+RESULTS = {"": "void", "bool": "bool", "usize": "size_t", "u32": "hibitset_status", "u64": "uint64_t"}
 
 # The structs of the crate that are seen as a struct of the header.
 LAYOUTS = [(["Set", "Seen"], "hibitset"), (["AtomicSet"], "hibitset_atomic"), (["HeldSeat"], "hibitset_seat")]
@@ -61,7 +62,9 @@ def exports():
             said = []
             for parameter in filter(None, (part.strip() for part in re.split(r",\s*(?![^<]*>)", parameters))):
                 word, kind = (part.strip() for part in parameter.split(":", 1))
-                said += [(c_type, second or word) for c_type, second in TYPES.get(f"{word}: {kind}") or TYPES[kind]]
+                kinds = TYPES.get(f"{word}: {kind}") or TYPES[kind]
+                # The length of a second slice has that slice's name.
+                said += [(c_type, f"{word}_{second}" if (c_type, second) in said else second or word) for c_type, second in kinds]
             found[name] = (RESULTS[result], said)
     return found
 

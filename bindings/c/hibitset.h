@@ -212,6 +212,11 @@ void hibitset_clear(hibitset_t *set);
 /* Returns whether an index is a member; false for one out of range. */
 bool hibitset_contains(const hibitset_t *set, uint32_t index);
 
+/* Writes for each of `len` indices whether it is a member, 1 or 0, into `found`, until `found_len` bytes are written, and
+ * returns how many. What lies behind them in `found` stays. */
+size_t hibitset_contains_many(const hibitset_t *set, const uint32_t *indices, size_t len, uint8_t *found,
+                              size_t found_len);
+
 /* Returns the number of members. */
 size_t hibitset_len(const hibitset_t *set);
 
@@ -298,6 +303,9 @@ static inline const uint64_t *hibitset_words(const hibitset_t *set, size_t *len)
     return set->layers_[0].words;
 }
 
+/* Fills `buffer` with the words of the set from position `start` on, 0 for each that is past hibitset_words. */
+void hibitset_copy_words(const hibitset_t *set, size_t start, uint64_t *buffer, size_t len);
+
 /* ---- Streams in the portable Roaring format, which other libraries and programs read and write too ---- */
 
 /* The high 16 bits of an index in a set, its key, are less than this. */
@@ -343,6 +351,24 @@ static inline void hibitset_and_assign(hibitset_t *set, const hibitset_t *other)
 /* Removes the members that `other` has. The capacity stays. */
 static inline void hibitset_andnot_assign(hibitset_t *set, const hibitset_t *other);
 
+/* ---- Sets made of two ---- */
+
+/* Each of these makes `out` a set of members of `a` and `b`, which may be one set. `out` is neither of the two: the
+ * functions above change an operand. Its capacity ends with the word of its last member.
+ * HIBITSET_NO_MEMORY: `out` is unchanged. */
+
+/* The members that both have. */
+HIBITSET_MUST_USE hibitset_status hibitset_and(const hibitset_t *a, const hibitset_t *b, hibitset_t *out);
+
+/* The members that at least one of the two has. */
+HIBITSET_MUST_USE hibitset_status hibitset_or(const hibitset_t *a, const hibitset_t *b, hibitset_t *out);
+
+/* The members that one of the two has alone. */
+HIBITSET_MUST_USE hibitset_status hibitset_xor(const hibitset_t *a, const hibitset_t *b, hibitset_t *out);
+
+/* The members that `a` has and `b` lacks. */
+HIBITSET_MUST_USE hibitset_status hibitset_andnot(const hibitset_t *a, const hibitset_t *b, hibitset_t *out);
+
 /* ---- Two sets that are read ---- */
 
 /* Returns whether the two have no member in common. */
@@ -353,6 +379,9 @@ bool hibitset_is_subset(const hibitset_t *a, const hibitset_t *b);
 
 /* Returns whether the two have the same members. */
 bool hibitset_equals(const hibitset_t *a, const hibitset_t *b);
+
+/* Returns a hash of the members: sets with the same members have the same, whatever their capacity. */
+uint64_t hibitset_hash(const hibitset_t *set);
 
 /* Returns how many members both have. */
 size_t hibitset_and_len(const hibitset_t *a, const hibitset_t *b);

@@ -65,6 +65,18 @@ static void check_order(const hibitset_t *set, const uint32_t *list, size_t memb
     check_backwards(set, list, members, UINT32_MAX);
 }
 
+static void check_many(const hibitset_t *set, const unsigned char *model) {
+    uint32_t list[200];
+    uint8_t found[250];
+    size_t len = random_below(201), room = random_below(251), count = len < room ? len : room, i;
+    for (i = 0; i < len; i++) list[i] = random_below(RANGE);
+    if (len > 0) list[random_below((uint32_t)len)] = HIBITSET_MAX_EID + random_below(5);
+    memset(found, 0xa5, sizeof found);
+    CHECK(hibitset_contains_many(set, list, len, found, room) == count);
+    for (i = 0; i < count; i++) CHECK(found[i] == (list[i] < RANGE && model[list[i]]));
+    for (; i < sizeof found; i++) CHECK(found[i] == 0xa5);
+}
+
 static void check_members(const hibitset_t *set, const unsigned char *model) {
     static uint32_t list[RANGE];
     uint32_t index = 12345, *next = list, i;
@@ -88,6 +100,7 @@ static void check_members(const hibitset_t *set, const unsigned char *model) {
         index = random_below(RANGE);
         CHECK(hibitset_contains(set, index) == (bool)model[index]);
     }
+    check_many(set, model);
 }
 
 static void check_words(const hibitset_t *set, const unsigned char *model) {
@@ -95,6 +108,18 @@ static void check_words(const hibitset_t *set, const unsigned char *model) {
     const uint64_t *words = hibitset_words(set, &len);
     CHECK(hibitset_capacity(set) == 64 * len);
     for (i = 0; i < RANGE; i++) CHECK(model[i] == (i / 64 < len ? words[i / 64] >> i % 64 & 1 : 0));
+}
+
+static void check_copied_words(const hibitset_t *set) {
+    uint64_t buffer[60];
+    size_t len, start = random_below(RANGE / 64 + 100), count = random_below(51), i;
+    const uint64_t *words = hibitset_words(set, &len);
+    memset(buffer, 0xa5, sizeof buffer);
+    hibitset_copy_words(set, start, buffer, count);
+    for (i = 0; i < count; i++) CHECK(buffer[i] == (start + i < len ? words[start + i] : 0));
+    for (; i < 60; i++) CHECK(buffer[i] == 0xa5a5a5a5a5a5a5a5u);
+    hibitset_copy_words(set, SIZE_MAX - 3, buffer, 60);
+    for (i = 0; i < 60; i++) CHECK(buffer[i] == 0);
 }
 
 static void check_gaps(const hibitset_t *set, const unsigned char *model, uint32_t start) {
@@ -114,28 +139,53 @@ static void check_gaps(const hibitset_t *set, const unsigned char *model, uint32
 
 typedef size_t next_many(const hibitset_t *a, const hibitset_t *b, uint32_t start, uint32_t *buffer, size_t len);
 typedef size_t len_of_both(const hibitset_t *a, const hibitset_t *b);
+typedef hibitset_status make_of_both(const hibitset_t *a, const hibitset_t *b, hibitset_t *out);
 
 static unsigned in_both(unsigned a, unsigned b) { return a & b; }
 static unsigned in_either(unsigned a, unsigned b) { return a | b; }
 static unsigned in_one(unsigned a, unsigned b) { return a ^ b; }
 static unsigned in_first(unsigned a, unsigned b) { return a & !b; }
 
+/* The set that is made of two has the members of the model, and no word past the last of them. `out` had others before. */
+static void check_made(make_of_both *make, const hibitset_t *x, const hibitset_t *y, const unsigned char *model) {
+    static hibitset_t out;
+    static bool begun = false;
+    hibitset_t copy = hibitset_new();
+    uint32_t last;
+    uint64_t hash;
+    if (!begun) out = hibitset_new();
+    begun = true;
+    if (random_below(3) == 0) hibitset_free(&out);
+    CHECK(make(x, y, &out) == HIBITSET_OK);
+    check_words(&out, model);
+    CHECK(hibitset_capacity(&out) == (hibitset_last(&out, &last) ? last / 64 * 64 + 64 : 0));
+    hash = hibitset_hash(&out);
+    CHECK(hibitset_with_capacity(&copy, RANGE) == HIBITSET_OK && hibitset_or_assign(&copy, &out) == HIBITSET_OK);
+    CHECK(hibitset_hash(&copy) == hash && (hash == hibitset_hash(x)) == hibitset_equals(&out, x));
+    hibitset_free(&copy);
+    CHECK(hibitset_add(&out, 7) == (model[7] ? HIBITSET_PRESENT : HIBITSET_OK));
+    if (random_below(3) == 0) hibitset_free(&out);
+}
+
 static void check_pair(const hibitset_t *x, const hibitset_t *y, const unsigned char *a, const unsigned char *b, uint32_t start) {
     static const struct {
         unsigned (*test)(unsigned a, unsigned b);
         len_of_both *len;
         next_many *next;
+        make_of_both *make;
     } rows[] = {
-        {in_both, hibitset_and_len, hibitset_and_next_many},
-        {in_either, hibitset_or_len, hibitset_or_next_many},
-        {in_one, hibitset_xor_len, hibitset_xor_next_many},
-        {in_first, hibitset_andnot_len, hibitset_andnot_next_many},
+        {in_both, hibitset_and_len, hibitset_and_next_many, hibitset_and},
+        {in_either, hibitset_or_len, hibitset_or_next_many, hibitset_or},
+        {in_one, hibitset_xor_len, hibitset_xor_next_many, hibitset_xor},
+        {in_first, hibitset_andnot_len, hibitset_andnot_next_many, hibitset_andnot},
     };
     static uint32_t buffer[1000];
+    static unsigned char both[RANGE];
     size_t lens[4], row, i, count, len;
     for (row = 0; row < 4; row++) {
         lens[row] = 0;
-        for (i = 0; i < RANGE; i++) lens[row] += rows[row].test(a[i], b[i]);
+        for (i = 0; i < RANGE; i++) lens[row] += both[i] = rows[row].test(a[i], b[i]);
+        check_made(rows[row].make, x, y, both);
         CHECK(rows[row].len(x, y) == lens[row]);
         count = rows[row].next(x, y, start, buffer, 1000);
         for (i = start, len = 0; i < RANGE && len < count; i++) {
@@ -149,6 +199,7 @@ static void check_pair(const hibitset_t *x, const hibitset_t *y, const unsigned 
     CHECK(hibitset_is_disjoint(x, y) == (lens[0] == 0));
     CHECK(hibitset_is_subset(x, y) == (lens[3] == 0));
     CHECK(hibitset_equals(x, y) == (lens[2] == 0));
+    CHECK((hibitset_hash(x) == hibitset_hash(y)) == (lens[2] == 0));
     CHECK(hibitset_equals(x, x) && hibitset_is_subset(x, x) && hibitset_and_len(x, x) == hibitset_len(x));
 }
 
@@ -268,6 +319,7 @@ static void random_changes(void) {
         check_members(&x, a);
         if (round % 8 == 0) {
             check_words(&x, a);
+            check_copied_words(&x);
             check_gaps(&x, a, random_below(RANGE));
             check_pair(&x, &y, a, b, random_below(RANGE));
         }
@@ -296,7 +348,8 @@ static hibitset_t empty_set(int way) {
 /* Looks at an empty set, beside another one, by each call. */
 static void look_at_empty(const hibitset_t *set, const hibitset_t *other) {
     uint32_t index = 7, buffer[4], *next = buffer;
-    uint8_t stream[8];
+    uint64_t words[2] = {7, 7};
+    uint8_t stream[8], found = 7;
     size_t len = 7;
     CHECK(hibitset_len(set) == 0 && hibitset_is_empty(set) && !hibitset_contains(set, 0) && hibitset_capacity(set) == 0);
     CHECK(!hibitset_first(set, &index) && !hibitset_last(set, &index) && !hibitset_contains(set, HIBITSET_MAX_EID - 1));
@@ -305,6 +358,9 @@ static void look_at_empty(const hibitset_t *set, const hibitset_t *other) {
     CHECK(!hibitset_last_before(set, 9, &index) && hibitset_prev_many(set, 9, buffer, 4) == 0 && index == 7);
     CHECK(hibitset_prev_many(set, 9, NULL, 0) == 0);
     CHECK(hibitset_next_many(set, 0, NULL, 0) == 0 && hibitset_not_next_many(set, 0, NULL, 0) == 0);
+    CHECK(hibitset_contains_many(set, &index, 1, &found, 1) == 1 && found == 0);
+    hibitset_copy_words(set, 0, words, 1);
+    CHECK(words[0] == 0 && words[1] == 7 && hibitset_hash(set) == hibitset_hash(other));
     CHECK(hibitset_first_gap(set, 5, &index) && index == 5);
     CHECK(hibitset_not_next_many(set, 5, buffer, 4) == 4 && buffer[0] == 5 && buffer[3] == 8);
     (void)hibitset_words(set, &len);
@@ -349,6 +405,17 @@ static void empty_beside_member(const hibitset_t *empty) {
     hibitset_free(&set);
 }
 
+static void make_of_empty(const hibitset_t *set, const hibitset_t *other) {
+    static make_of_both *const makes[] = {hibitset_and, hibitset_or, hibitset_xor, hibitset_andnot};
+    hibitset_t out = hibitset_new();
+    size_t i;
+    for (i = 0; i < 4; i++) {
+        CHECK(hibitset_add(&out, 70000) == HIBITSET_OK && makes[i](set, other, &out) == HIBITSET_OK);
+        CHECK(hibitset_is_empty(&out) && hibitset_capacity(&out) == 0);
+    }
+    hibitset_free(&out);
+}
+
 static void check_empty(hibitset_t *set, const hibitset_t *other) {
     look_at_empty(set, other);
     look_at_empty(other, set);
@@ -356,10 +423,12 @@ static void check_empty(hibitset_t *set, const hibitset_t *other) {
     leave_empty(set, other);
     look_at_empty(set, other);
     empty_beside_member(set);
+    make_of_empty(set, other);
     hibitset_free(set);
     look_at_empty(set, other);
     CHECK(hibitset_assign_words(set, NULL, 0) == HIBITSET_OK && hibitset_is_empty(set));
     CHECK(hibitset_assign(set, other) == HIBITSET_OK && hibitset_is_empty(set));
+    CHECK(hibitset_or(other, other, set) == HIBITSET_OK && hibitset_is_empty(set));
     hibitset_free(set);
     hibitset_free(set);
     CHECK(hibitset_is_empty(set) && hibitset_add(set, 3) == HIBITSET_OK && hibitset_len(set) == 1);
@@ -433,10 +502,15 @@ static void version(void) {
 /* NULL is a buffer of length 0, also where there are members. */
 static void null_buffers(void) {
     hibitset_t set = hibitset_new();
+    uint32_t index = 7;
+    uint8_t found = 7;
     size_t added = 7;
     CHECK(hibitset_add_range(&set, 5, 5000) == HIBITSET_OK);
     CHECK(hibitset_next_many(&set, 0, NULL, 0) == 0 && hibitset_not_next_many(&set, 0, NULL, 0) == 0);
     CHECK(hibitset_prev_many(&set, HIBITSET_MAX_EID, NULL, 0) == 0);
+    CHECK(hibitset_contains_many(&set, NULL, 0, &found, 1) == 0 && hibitset_contains_many(&set, &index, 1, NULL, 0) == 0);
+    hibitset_copy_words(&set, 0, NULL, 0);
+    CHECK(found == 7);
     CHECK(hibitset_and_next_many(&set, &set, 0, NULL, 0) == 0 && hibitset_or_next_many(&set, &set, 0, NULL, 0) == 0);
     CHECK(hibitset_xor_next_many(&set, &set, 0, NULL, 0) == 0 && hibitset_andnot_next_many(&set, &set, 0, NULL, 0) == 0);
     CHECK(hibitset_add_many(&set, NULL, 0, &added) == HIBITSET_OK && added == 0 && hibitset_len(&set) == 4995);
@@ -478,8 +552,13 @@ static void out_of_range(void) {
 }
 
 static void one_set_twice(void) {
-    hibitset_t set = hibitset_new();
+    hibitset_t set = hibitset_new(), out = hibitset_new();
     CHECK(hibitset_add(&set, 3) == HIBITSET_OK && hibitset_assign(&set, &set) == HIBITSET_OK);
+    CHECK(hibitset_and(&set, &set, &out) == HIBITSET_OK && hibitset_equals(&out, &set));
+    CHECK(hibitset_xor(&set, &set, &out) == HIBITSET_OK && hibitset_is_empty(&out));
+    CHECK(hibitset_or(&set, &set, &out) == HIBITSET_OK && hibitset_equals(&out, &set));
+    CHECK(hibitset_andnot(&set, &set, &out) == HIBITSET_OK && hibitset_is_empty(&out));
+    hibitset_free(&out);
     CHECK(hibitset_or_assign(&set, &set) == HIBITSET_OK);
     hibitset_and_assign(&set, &set);
     CHECK(hibitset_len(&set) == 1 && !hibitset_is_disjoint(&set, &set) && hibitset_or_len(&set, &set) == 1);
@@ -535,6 +614,17 @@ static hibitset_status assign_words(hibitset_t *set, const hibitset_t *other) {
 static hibitset_status or_assign(hibitset_t *set, const hibitset_t *other) { return hibitset_or_assign(set, other); }
 static hibitset_status xor_assign(hibitset_t *set, const hibitset_t *other) { return hibitset_xor_assign(set, other); }
 
+static const hibitset_t *no_members(void) {
+    static hibitset_t none;
+    none = hibitset_new();
+    return &none;
+}
+
+static hibitset_status make_and(hibitset_t *set, const hibitset_t *other) { return hibitset_and(other, other, set); }
+static hibitset_status make_or(hibitset_t *set, const hibitset_t *other) { return hibitset_or(other, no_members(), set); }
+static hibitset_status make_xor(hibitset_t *set, const hibitset_t *other) { return hibitset_xor(other, no_members(), set); }
+static hibitset_status make_andnot(hibitset_t *set, const hibitset_t *other) { return hibitset_andnot(other, no_members(), set); }
+
 /* Makes a call on a set with or without members, the first `met` allocations of which succeed. Returns whether all did. */
 static bool meets(call *made, const hibitset_t *other, bool has_member, long met) {
     hibitset_t set = hibitset_new(), before = hibitset_new();
@@ -558,7 +648,8 @@ static bool meets(call *made, const hibitset_t *other, bool has_member, long met
 }
 
 static void failing_allocations(void) {
-    static call *const calls[] = {add_far, add_two, add_range, flip_range, with_capacity, assign, assign_words, or_assign, xor_assign};
+    static call *const calls[] = {add_far, add_two, add_range, flip_range, with_capacity, assign, assign_words,
+                                  or_assign, xor_assign, make_and, make_or, make_xor, make_andnot};
     hibitset_t other = hibitset_new();
     size_t i;
     int has_member;

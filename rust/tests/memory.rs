@@ -174,6 +174,8 @@ fn with_refused<T>(refused: i64, call: impl FnOnce() -> T) -> (T, bool) {
     (answer, REFUSED.replace(-1) < 0)
 }
 
+// Without std, `new` takes the memory.
+#[cfg(feature = "std")]
 #[test]
 fn a_refused_call_leaves_an_atomic_set() {
     for refused in 0.. {

@@ -73,8 +73,8 @@ PACKAGES = {
     "python3": "python3",
 }
 
-# What is not taken from .ci/packages: the Dockerfile names it.
-RUST = {"cargo": "cargo"}
+# What the Dockerfile installs beside .ci/packages: a machine may have it from elsewhere.
+RUST = {"cargo": "cargo", "rustc": "rustc"}
 
 
 def wrong_packages(text=text_of):

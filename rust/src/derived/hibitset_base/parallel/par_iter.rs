@@ -29,7 +29,7 @@ const MIN_LEN: usize = 4_096;
 /// set is where there is one processor. `for_each` and `fold` take threads from about 4,096 members on, whatever their
 /// closures do; where a closure does little, [`with_min_len`](BitParIter::with_min_len) asks for more. `count` and
 /// `collect` take them where there is more to do than threads take to start: from about 100,000 members on, or, where
-/// the set [has cheap words](BitSetLike::has_cheap_words), `count` from about 700,000 words with members
+/// the set [has cheap words](crate::derived::hibitset_base::like::BitSetLike::has_cheap_words), `count` from about 700,000 words with members
 /// on, and `collect` from about 60,000 to 170,000 of them on, by how many members each has; words with more than twelve
 /// members are listed nearly as fast as memory takes them, so they count for nothing. Nothing else depends on it. Each
 /// takes the handle that starts threads, and an allocator for the parts and what is collected, and is refused for
