@@ -28,7 +28,7 @@ LEXER = re.compile(
 SHUT = {"{": "}", "(": ")", "[": "]"}
 
 # What stands nowhere in a derived file.
-RATTLE_ONLY = {"ghost", "requires", "ensures", "final", "Drop", "HostRuntime,"}
+RATTLE_ONLY = {"ghost", "requires", "ensures", "final", "Drop"}
 
 HEAD = "use crate :: support :: rattle_std :: prelude :: * ;".split()
 ROOTS = {"std": "rattle_std", "rayon": "rayon", "atomic_table": "atomic_table"}

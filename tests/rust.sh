@@ -6,9 +6,10 @@ rust=$top/rust
 registry=${RUST_REGISTRY:-/usr/share/cargo/registry} # Debian's folder of crates
 optional="rayon serde serde_json bincode"            # what the features and their tests need
 scratch=$(mktemp -d)
+derived= # the process group of the derived tests
 # A lock file here is of this machine's crates, and a library has none.
-trap 'rm -rf "$scratch" "$rust/Cargo.lock"' EXIT
-export CARGO_TARGET_DIR=$rust/target CARGO_PROFILE_DEV_OPT_LEVEL=1 CARGO_PROFILE_DEV_DEBUG=0 CARGO_TERM_COLOR=never
+trap '[ -z "$derived" ] || kill -- -"$derived" 2>/dev/null || true; rm -rf "$scratch" "$rust/Cargo.lock"' EXIT
+export CARGO_TARGET_DIR=$rust/target CARGO_PROFILE_DEV_OPT_LEVEL=1 CARGO_PROFILE_DEV_DEBUG=0 CARGO_INCREMENTAL=0 CARGO_TERM_COLOR=never
 
 step() { # WORDS: says what comes next, and when
     echo "rust.sh: $SECONDS s: $*"
@@ -19,8 +20,10 @@ in_crate() { # WORD..: cargo in the crate, without the network
 }
 
 tested() { # COMMAND..: runs tests, and prints how many passed, or all that they printed
-    "$@" >"$scratch/tests.log" 2>&1 || { cat "$scratch/tests.log"; return 1; }
-    awk '/^test result: ok/ { passed += $4 } END { print "rust.sh: " passed " tests passed" }' "$scratch/tests.log"
+    local log
+    log=$(mktemp -p "$scratch")
+    "$@" >"$log" 2>&1 || { cat "$log"; return 1; }
+    awk '/^test result: ok/ { passed += $4 } END { print "rust.sh: " passed " tests passed" }' "$log"
 }
 
 empty_crate() { # NAME: a crate that stands for one that is not here; nothing of it is called
@@ -33,7 +36,7 @@ empty_crate() { # NAME: a crate that stands for one that is not here; nothing of
 
 sources() { # names the folder that crates come from, and sets features to those that can be tried
     local name missing=
-    features=(--features parallel,serde)
+    features=(--features "parallel,serde")
     for name in $optional; do
         ls -d "$registry/$name"-[0-9]* >/dev/null 2>&1 || missing="$missing $name"
     done
@@ -54,6 +57,15 @@ package() { # the files of the package are those that git has, and no others
     in_crate package --no-verify --allow-dirty
 }
 
+derived_tests() { # the derived tests, and the stored scripts by the derived program; beside the tests of the crate, so in a folder of their own
+    export CARGO_TARGET_DIR=$rust/target/checks
+    step "derived tests"
+    tested cargo test --manifest-path "$rust/checks/Cargo.toml" --offline --quiet
+    step "scripts by the derived program"
+    cargo build --manifest-path "$rust/checks/Cargo.toml" --offline --quiet
+    python3 "$top/tests/differential/replay.py" "$top/tests/differential/scripts" "$CARGO_TARGET_DIR/debug/checks"
+}
+
 step "derive and check"
 python3 "$rust/derive.py"
 python3 "$rust/check.py"
@@ -68,11 +80,10 @@ fi
 sources
 step "callees"
 python3 "$rust/callees.py"
-step "derived tests"
-tested cargo test --manifest-path "$rust/checks/Cargo.toml" --offline --quiet
-step "scripts by the derived program"
-cargo build --manifest-path "$rust/checks/Cargo.toml" --offline --quiet
-python3 "$top/tests/differential/replay.py" "$top/tests/differential/scripts" "$CARGO_TARGET_DIR/debug/checks"
+set -m
+(derived_tests) </dev/null >"$scratch/derived.log" 2>&1 &
+derived=$!
+set +m
 step "tests of the crate, with its features"
 tested in_crate test "${features[@]}"
 step "tests of the crate, without features"
@@ -86,4 +97,8 @@ else
 fi
 RUSTDOCFLAGS="-D warnings" in_crate doc --no-deps "${features[@]}"
 package
-step "passed"
+status=0
+wait "$derived" || status=$?
+derived=
+cat "$scratch/derived.log"
+exit "$status"
