@@ -81,8 +81,14 @@ def tests_in_turn(pool, program, wanted):
     def tried(name):
         return in_turn(program, name, wanted[name], is_alone and wanted[name] is not None and wanted[name].alone is not None)
 
+    failed = []
     for turns in pool.map(tried, sorted(wanted)):
-        print(turns.close(), flush=True)
+        try:
+            print(turns.close(), flush=True)
+        except Failed as why:
+            failed.append(str(why))
+    if failed:
+        raise Failed("\n".join(failed))
 
 
 def on_one_processor(program, wanted):

@@ -1,9 +1,10 @@
 """Allocations that fail: the lines above the tests, and what is refused of the runs."""
 import unittest
+from concurrent.futures import ThreadPoolExecutor
 
 from allocation import calls, lines, scripts
 from allocation.judge import Failed
-from allocation.programs import in_turn
+from allocation.programs import in_turn, tests_in_turn
 
 from .fixture import InRepository
 
@@ -127,6 +128,10 @@ class Runs(unittest.TestCase):
 
     def test_what_was_not_measured(self):
         self.refuses(Fake([16, 4096]), "unmeasured", "write above it: // allocates: 2, 4_112 bytes")
+        unmeasured = {name: lines.wanted("unmeasured", "low::f") for name in ("tests::sets::add", "tests::sets::put")}
+        with ThreadPoolExecutor(2) as pool, self.assertRaises(Failed) as failed:
+            tests_in_turn(pool, Fake([16]), unmeasured)
+        self.assertEqual(str(failed.exception).count("write above it"), 2)
 
 
 class Scripts(unittest.TestCase):
