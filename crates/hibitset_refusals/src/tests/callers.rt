@@ -209,7 +209,7 @@ fn of_range(alloc: Global) -> Result<BitSet, AllocError> {
     lists::set_of_range(alloc, 62, 1_000)
 }
 
-// allocates: 3, 296 bytes: uses::set_of_range
+// allocates: 1, 152 bytes: uses::set_of_range
 #[test]
 fn set_of_a_range(rt: HostRuntime) -> Result<(), Fail> {
     let set = retried!(&rt, of_range(rt.alloc()));
