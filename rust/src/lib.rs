@@ -61,7 +61,7 @@ compile_error!("the words of a set have 64 bits, as `usize` must have: its sourc
 mod support;
 mod beside;
 #[rustfmt::skip]
-#[allow(dead_code, missing_docs, unused_imports, unused_labels, unused_variables, mismatched_lifetime_syntaxes, unconditional_panic, clippy::all)]
+#[allow(unknown_lints, dead_code, missing_docs, unused_imports, unused_labels, unused_variables, mismatched_lifetime_syntaxes, unconditional_panic, clippy::all)]
 mod derived;
 mod face;
 
