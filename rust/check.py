@@ -263,11 +263,11 @@ class Wanted:
             return self.counted("visibility", CRATE_ONLY)
         if word == "new" and before == "fn" and self.words[at - 2] == "pub" and self.name in PARTS:
             return self.counted("name", ["of_parts"])
-        if word == "mod" and before != "pub" and after[0] in SEEN_MODULES.get(self.name, ()):
+        if word == "mod" and before not in ("pub", ")") and after[0] in SEEN_MODULES.get(self.name, ()):
             return self.counted("visibility", CRATE_ONLY + ["mod"])
         if word == "fn" and before != "pub" and after[0] == SEEN_FUNCTIONS.get(self.name):
             return self.counted("visibility", CRATE_ONLY + ["fn"])
-        if at in self.fields and before in ("{", ","):
+        if at in self.fields and before in ("{", ",") and word != "pub":
             return self.counted("visibility", CRATE_ONLY + [word])
         if at == self.walk_end:
             members = ["crate", "::", "beside", "::", "iterator_members", "!", "{", WALKS[self.name], "}", "}"]

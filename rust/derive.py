@@ -94,7 +94,7 @@ def main():
     try:
         files, counts = derived(TESTS if options.tests else LIBRARIES)
     except Unknown as error:
-        sys.exit(f"derive.py: {error}")
+        sys.exit(str(error))
     folder = TEST_FOLDER if options.tests else LIBRARY_FOLDER
     if options.write or options.tests:
         write(folder, files)

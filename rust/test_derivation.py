@@ -43,7 +43,7 @@ class Erasing(unittest.TestCase):
         self.assertEqual(derived("struct S;\n\n" + impl), "struct S;\n")
 
     def test_a_drop_that_does_something_is_refused(self):
-        with self.assertRaisesRegex(Unknown, r"hibitset/set.rt:1: an impl of Drop"):
+        with self.assertRaisesRegex(Unknown, r"crates/hibitset/src/set.rt:1: an impl of Drop"):
             derived("impl Drop for S { fn drop(self) { let S { a } = self; a.free(); } }")
 
     def test_the_writer_of_fmt(self):
@@ -52,7 +52,7 @@ class Erasing(unittest.TestCase):
 
     def test_what_no_rule_knows(self):
         for source in ("let a = b ∧ c;", "ghost 5;", "prove!(a);", "fn fmt<W>(&self) {}", "fn f() where Drop {}"):
-            with self.subTest(source), self.assertRaisesRegex(Unknown, r"hibitset/set.rt:1: "):
+            with self.subTest(source), self.assertRaisesRegex(Unknown, r"crates/hibitset/src/set.rt:1: "):
                 derived(source)
 
 
@@ -73,8 +73,9 @@ class Naming(unittest.TestCase):
     def test_visibility(self):
         self.assertEqual(derived("pub fn new() {}\n", "hibitset_base/iter.rt"), "pub(crate) fn of_parts() {}\n")
         self.assertEqual(derived("pub fn new() {}\n", "hibitset_base/like.rt"), "pub fn new() {}\n")
-        self.assertEqual(derived("mod layers;\n", "hibitset_atomic/lib.rt"), "pub(crate) mod layers;\n")
-        source = "pub struct BitParIter<T> {\n    set: T,\n    min_len: usize,\n    ghost a: { b },\n}\n"
+        for source in ("mod layers;\n", "pub(crate) mod layers;\n"):
+            self.assertEqual(derived(source, "hibitset_atomic/lib.rt"), "pub(crate) mod layers;\n")
+        source = "pub struct BitParIter<T> {\n    set: T,\n    pub(crate) min_len: usize,\n    ghost a: { b },\n}\n"
         wanted = "pub struct BitParIter<T> {\n    pub(crate) set: T,\n    pub(crate) min_len: usize,\n}\n"
         self.assertEqual(derived(source, "hibitset_base/parallel/par_iter.rt"), wanted)
 

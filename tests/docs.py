@@ -100,7 +100,7 @@ def dead_links(page):
             yield line_at(text, link.start()), f"links to {link[1]}, but no heading has the anchor #{anchor}"
     # What a guide prints to be a file of the user's is not looked for here.
     printed = re.findall(r"`([\w./-]+)`:\n\n```", text_of(page))
-    named = r"(?<![\w./-])((?:docs|bench|tests|crates|bindings)/[\w./*+-]*\.(?:md|py|sh|rt|antt|edit|patch|svg)|CONTRIBUTING\.md)(?!\w)"
+    named = r"(?<![\w./-])((?:docs|bench|tests|crates|bindings|rust)/[\w./*+-]*\.(?:md|py|sh|rt|antt|edit|patch|svg)|CONTRIBUTING\.md)(?!\w)"
     for name in re.finditer(named, text):
         if PLACEHOLDER.search(name[1]) or name[1] in printed:
             continue
@@ -583,13 +583,12 @@ def wrong_results():
 
 
 def derived(*words):
-    """What rust/derive.py says is stale or no rule knows: file, line and words."""
+    """What rust/derive.py says is stale or fits no rule: file, line and words."""
     ran = subprocess.run([sys.executable, TOP / "rust" / "derive.py", *words], capture_output=True, text=True)
-    for found in re.finditer(r"^(?:derive.py: )?([\w/.]+):(\d+): (.*)$", ran.stdout + ran.stderr, re.M):
-        path = TOP / found[1] if (TOP / found[1]).exists() else CRATES / found[1]
-        yield path, int(found[2]), found[3]
-    if ran.returncode and not ran.stdout:
-        yield TOP / "rust" / "derive.py", 1, ran.stderr.strip().splitlines()[-1]
+    faults = re.findall(r"^([\w/.]+):(\d+): (.*)$", ran.stdout + ran.stderr, re.M)
+    yield from ((TOP / path, int(line), words) for path, line, words in faults)
+    if ran.returncode and not faults:
+        yield TOP / "rust" / "derive.py", 1, f"ends with status {ran.returncode}"
 
 
 def faults():

@@ -10,12 +10,17 @@ scratch=$(mktemp -d)
 trap 'rm -rf "$scratch" "$rust/Cargo.lock"' EXIT
 export CARGO_TARGET_DIR=$rust/target CARGO_PROFILE_DEV_OPT_LEVEL=1 CARGO_PROFILE_DEV_DEBUG=0 CARGO_TERM_COLOR=never
 
-step() { # WORDS: says what comes next
-    echo "rust.sh: $*"
+step() { # WORDS: says what comes next, and when
+    echo "rust.sh: $SECONDS s: $*"
 }
 
 in_crate() { # WORD..: cargo in the crate, without the network
-    (cd "$rust" && cargo --config "$scratch/config.toml" "$1" --offline --quiet "${@:2}")
+    (cd "$rust" && cargo "$1" --config "$scratch/config.toml" --offline --quiet "${@:2}")
+}
+
+tested() { # COMMAND..: runs tests, and prints how many passed, or all that they printed
+    "$@" >"$scratch/tests.log" 2>&1 || { cat "$scratch/tests.log"; return 1; }
+    awk '/^test result: ok/ { passed += $4 } END { print "rust.sh: " passed " tests passed" }' "$scratch/tests.log"
 }
 
 empty_crate() { # NAME: a crate that stands for one that is not here; nothing of it is called
@@ -42,7 +47,7 @@ sources() { # names the folder that crates come from, and sets features to those
 }
 
 package() { # the files of the package are those that git has, and no others
-    (cd "$rust" && git ls-files src tests examples README.md DERIVATION.md SHARED_BY_REFERENCE.md LICENSE) >"$scratch/wanted"
+    (cd "$rust" && git ls-files src tests examples ':(glob)*.md' LICENSE) >"$scratch/wanted"
     printf '%s\n' .cargo_vcs_info.json Cargo.lock Cargo.toml Cargo.toml.orig >>"$scratch/wanted"
     in_crate package --list --allow-dirty >"$scratch/listed"
     diff <(sort "$scratch/wanted") <(sort "$scratch/listed") || { echo "rust.sh: the package has other files"; return 1; }
@@ -56,7 +61,6 @@ python3 "$rust/check_mutants.py"
 (cd "$rust" && python3 -m unittest -q test_derivation)
 python3 "$rust/derive.py" --tests
 python3 "$rust/check.py" --tests
-diff "$top/VERSION" <(sed -n 's/^version = "\(.*\)"$/\1/p' "$rust/Cargo.toml" | head -n 1) || { echo "rust.sh: Cargo.toml has another version"; exit 1; }
 if ! command -v cargo >/dev/null; then
     echo "rust.sh: no cargo: what rustc compiles is left out"
     exit
@@ -65,14 +69,14 @@ sources
 step "callees"
 python3 "$rust/callees.py"
 step "derived tests"
-(cd "$rust/checks" && cargo test --offline --quiet)
+tested cargo test --manifest-path "$rust/checks/Cargo.toml" --offline --quiet
 step "scripts by the derived program"
-(cd "$rust/checks" && cargo build --offline --quiet)
+cargo build --manifest-path "$rust/checks/Cargo.toml" --offline --quiet
 python3 "$top/tests/differential/replay.py" "$top/tests/differential/scripts" "$CARGO_TARGET_DIR/debug/checks"
 step "tests of the crate, with its features"
-in_crate test "${features[@]}"
+tested in_crate test "${features[@]}"
 step "tests of the crate, without features"
-in_crate test --lib --tests
+tested in_crate test --lib --tests
 in_crate check --no-default-features
 step "clippy, documentation, package"
 if cargo clippy --version >/dev/null 2>&1; then
@@ -82,3 +86,4 @@ else
 fi
 RUSTDOCFLAGS="-D warnings" in_crate doc --no-deps "${features[@]}"
 package
+step "passed"

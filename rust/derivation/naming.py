@@ -88,7 +88,7 @@ def opened_function(source, at):
 
 def opened_module(source, at):
     """A private module that the code beside reads becomes `pub(crate)`."""
-    if (source.name, source.text(source.next(at))) in OPEN_MODULES and source.text(source.last(at)) != "pub":
+    if (source.name, source.text(source.next(at))) in OPEN_MODULES and source.text(source.last(at)) not in ("pub", ")"):
         source.put(at, "pub(crate) mod", "visibility")
 
 
@@ -100,7 +100,7 @@ def opened_struct(source, at):
     opening = source.until(name, "{")
     field = source.next(opening)
     while field < source.close(opening):
-        if source.text(field) != "ghost":
+        if source.text(field) not in ("ghost", "pub"):
             source.put(field, f"pub(crate) {source.text(field)}", "visibility")
         field = source.next(source.until(field, ",", "{"))
         if source.text(source.last(field)) == "{":

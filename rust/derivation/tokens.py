@@ -57,7 +57,7 @@ class Source:
 
     def fail(self, at, why):
         token = self.tokens[min(at, len(self.tokens) - 1)]
-        raise Unknown(f"{self.name}:{token.line}: {why} at {token.text!r}")
+        raise Unknown(f"crates/{self.name.replace('/', '/src/', 1)}:{token.line}: {why} at {token.text!r}")
 
     def text(self, at):
         return self.tokens[at].text if 0 <= at < len(self.tokens) else ""

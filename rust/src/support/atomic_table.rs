@@ -30,6 +30,8 @@ impl<S, V> Seat<S, V> {
 /// The words.
 pub struct Shared<S, V, K, P> {
     words: Vec<AtomicU64>,
+    // Its types are of contracts alone: a function's result, so that they decide nothing of `Send` and `Sync`.
+    #[allow(clippy::type_complexity)]
     of: PhantomData<fn() -> (S, V, K, P)>,
 }
 
