@@ -1,19 +1,20 @@
 #!/usr/bin/env bash
 # test.sh [--anew] [PART [WORD..]]: passes all tests of this repository, or one part of them.
-#   docs [--write]              pages, files, edits, patches and derived files agree; --write makes tables and derived files anew
+#   docs [--write]              pages, files, mutants and derived files agree, and the scripts pass their tests; --write makes anew what is generated
 #   proofs [CRATE..]            rt ci: proofs from nothing, must-fail edits, tests, programs
-#   mutants contract [CRATE..]  the prover refuses the mutants of tests/mutants/contract
+#   mutants contract [CRATE [FUNCTION]]  the prover refuses the mutants of tests/mutants/contract
 #   mutants tests [--gate|PATCH]  tests kill the mutants of tests/mutants/tests; --gate: those that the gate tries
 #   allocation                  each allocation of each call fails in turn, in what proofs has built
 #   differential [PROGRAM]      the program gives the stored answers; without PROGRAM it is proved and built first
-#   bindings                    C and C++ programs over the library pass their tests
+#   bindings                    C and C++ programs over the library pass their tests, also where it is installed
+#   bench                       each row of the benchmark runs once, at the smallest size
 #   rust                        the Cargo crate of rust/: its derivation, its tests, derived tests, scripts, lints, package
 #   guide [--make FOLDER]       the repository that docs/GUIDE.md prints passes; --make makes it alone
-# Without PART: docs, proofs beside mutants tests --gate, allocation, differential, bindings, rust. It stops at the first part that fails.
+# Without PART: docs, proofs beside mutants tests --gate, allocation, differential, bindings, bench, rust. It stops at the first part that fails.
 # --anew: rt ci proves and tries all, whatever it has kept on this machine.
 set -euo pipefail
 top=$(cd "$(dirname "$0")" && pwd)
-parts=7
+parts=8
 beside=
 lowest=
 anew=
@@ -21,6 +22,16 @@ anew=
 usage() {
     sed -n '2,/^set /{/^#/s/^# \{0,1\}//p}' "$top/test.sh" >&2
     exit 64
+}
+
+say_toolchain() { # says so where the toolchain is none that .ci/kit names
+    local found name
+    found=$(rt version 2>/dev/null) || found="none: rt is not in PATH"
+    ! grep -qxF -- "$found" "$top/.ci/kit" || return 0
+    name="name and logic differ"
+    ! grep -q -- " ${found#* }\$" "$top/.ci/kit" || name="the name differs, the logic does not"
+    echo "test.sh: the toolchain is $found; .ci/kit has these, and $name:"
+    sed 's/^/test.sh:   /' "$top/.ci/kit"
 }
 
 prove_lowest() { # hibitset_base, for which all other crates wait: rt gives a proof several processors only where RT_JOBS is not set
@@ -40,6 +51,11 @@ prove_lowest() { # hibitset_base, for which all other crates wait: rt gives a pr
     lowest=
 }
 
+docs() { # [--write]: the unit tests of the scripts, and what they check
+    (cd "$top/tests" && python3 -m unittest discover --quiet --start-directory unit --top-level-directory .) || return
+    "$top/tests/docs.py" "$@"
+}
+
 proofs() { # [CRATE..]: rt ci
     if [ $# -gt 0 ]; then
         (cd "$top" && rt ci $anew "$@")
@@ -52,13 +68,14 @@ proofs() { # [CRATE..]: rt ci
 
 run() { # PART [WORD..]: one part, by the script that does it
     case "$1 ${2:-}" in
-        "docs "*) "$top/tests/docs.py" "${@:2}" ;;
+        "docs "*) docs "${@:2}" ;;
         "proofs "*) proofs "${@:2}" ;;
-        "mutants contract") "$top/tests/mutants/run_contract.sh" "${@:3}" ;;
+        "mutants contract") "$top/tests/mutants/run_contract.py" "${@:3}" ;;
         "mutants tests") "$top/tests/mutants/run_tests.sh" "${@:3}" ;;
         "allocation "*) "$top/tests/allocation_failures.py" ;;
         "differential "*) sh "$top/tests/differential/replay.sh" "${@:2}" ;;
         "bindings "*) "$top/tests/bindings.sh" "${@:2}" ;;
+        "bench "*) "$top/tests/bench_rows.sh" "${@:2}" ;;
         "rust "*) "$top/tests/rust.sh" ;;
         "guide "*) "$top/tests/guide.py" "${@:2}" ;;
         *) usage ;;
@@ -96,6 +113,7 @@ fi
 scratch=$(mktemp -d)
 trap 'for group in $beside $lowest; do kill -- -"$group" 2>/dev/null || true; done; rm -rf "$scratch"' EXIT
 trap 'exit 130' INT TERM HUP
+[ "${1:-}" = docs ] || say_toolchain
 if [ $# -gt 0 ]; then
     parts=1
     part 1 "$@"
@@ -106,5 +124,6 @@ both
 part 4 allocation
 part 5 differential "$top/crates/hibitset_run/out/hibitset_run"
 part 6 bindings --proved
-part 7 rust
+part 7 bench --proved
+part 8 rust
 echo "test.sh: all passed after $((SECONDS / 60)) min"

@@ -156,6 +156,14 @@ sources() {
 driver() {
     sources "$1" "$2"
     # shellcheck disable=SC2086
-    rustc $flags --edition 2021 --crate-name bench -A unexpected_cfgs -A unused_mut -A unused_variables -A unused_imports -L "$work" ${with_peers:-} --extern "hibitset=$work/libhibitset.rlib" \
-        -l static=hibitset_bench -L "native=$work" -l static=libc_c -L "native=$kit/c" -o "$work/bench" "$here/driver/main.rs"
+    program "$work" "$here/driver/main.rs" ${with_peers:-} --extern "hibitset=$work/libhibitset.rlib"
+}
+
+# program FOLDER MAIN WORD..: compiles the driver with the root MAIN into FOLDER/bench, over FOLDER/libhibitset_bench.a; rustc gets these words.
+program() {
+    work=$1 main=$2
+    shift 2
+    # shellcheck disable=SC2086
+    rustc $flags --edition 2021 --crate-name bench -A unexpected_cfgs -A unused_mut -A unused_variables -A unused_imports -A dead_code -L "$work" "$@" \
+        -l static=hibitset_bench -L "native=$work" -l static=libc_c -L "native=$kit/c" -o "$work/bench" "$main"
 }

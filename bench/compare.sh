@@ -39,6 +39,5 @@ text=
 [ -z "${PLACE:-}" ] || text="-C link-arg=-Wl,-Ttext=$(printf '0x%x' $((0x100000 + 64 * PLACE)))"
 # The flags are words.
 # shellcheck disable=SC2086
-rustc $flags $text --edition 2021 --crate-name bench --cfg beside -A unexpected_cfgs -A unused_mut -A dead_code -A unused_imports -L "$work" \
-    -l static=hibitset_bench -l static=before_bench -L "native=$work" -l static=libc_c -L "native=$kit/c" -o "$work/bench" "$work/main.rs"
+program "$work" "$work/main.rs" $text --cfg beside -l static=before_bench
 MALLOC_MMAP_THRESHOLD_=1000000000 MALLOC_TRIM_THRESHOLD_=10000000000 "$work/bench" "$@"

@@ -111,6 +111,8 @@ def main():
     before, now = LIST.read_text(encoding="utf-8").splitlines(), text.splitlines()
     for name in sorted(set(before) ^ set(now)):
         print(f"callees.py: {'is no longer called' if name in before else 'is not in callees.txt'}: {name}")
+    if before != now:
+        print("callees.py: read what is new, as it means in Rust; --write makes the list anew")
     print(f"callees.py: {len(now) - 1} callees")
     sys.exit(before != now)
 

@@ -28,7 +28,7 @@ LEXER = re.compile(
 SHUT = {"{": "}", "(": ")", "[": "]"}
 
 # What stands nowhere in a derived file.
-RATTLE_ONLY = {"ghost", "requires", "ensures", "final", "Drop", "HostRuntime,"}
+RATTLE_ONLY = {"ghost", "requires", "ensures", "final", "Drop"}
 
 HEAD = "use crate :: support :: rattle_std :: prelude :: * ;".split()
 ROOTS = {"std": "rattle_std", "rayon": "rayon", "atomic_table": "atomic_table"}
@@ -209,7 +209,8 @@ class Wanted:
         self.in_derive = self.fields = range(0)
         self.walk_end, self.handle = -1, None
         self.read_on()
-        self.comments = [(text, self.places[place]) for text, place in comments]
+        own = f"](crate::derived::{self.crate}::"
+        self.comments = [(text.replace("](crate::", own), self.places[place]) for text, place in comments]
 
     def read_on(self):
         at = 0

@@ -65,6 +65,10 @@ class Naming(unittest.TestCase):
         )
         self.assertEqual(derived(source), wanted)
 
+    def test_links(self):
+        source = "/// As [`iter`](crate::like::iter).\nfn a() {}\n"
+        self.assertEqual(derived(source), source.replace("(crate::", "(crate::derived::hibitset::"))
+
     def test_names(self):
         source = "#[derive(Clone)]\nimpl Clone for S { fn clone(&self) { a.to_vec(g)?; b.collect(g); c.collect() } }\n"
         wanted = source.replace("impl Clone", "impl TryClone").replace("fn clone", "fn try_clone")

@@ -8,7 +8,7 @@ optional="rayon serde serde_json bincode"            # what the features and the
 scratch=$(mktemp -d)
 # A lock file here is of this machine's crates, and a library has none.
 trap 'rm -rf "$scratch" "$rust/Cargo.lock"' EXIT
-export CARGO_TARGET_DIR=$rust/target CARGO_PROFILE_DEV_OPT_LEVEL=1 CARGO_PROFILE_DEV_DEBUG=0 CARGO_TERM_COLOR=never
+export CARGO_TARGET_DIR=$rust/target CARGO_PROFILE_DEV_OPT_LEVEL=1 CARGO_PROFILE_DEV_DEBUG=0 CARGO_INCREMENTAL=0 CARGO_TERM_COLOR=never
 
 step() { # WORDS: says what comes next, and when
     echo "rust.sh: $SECONDS s: $*"
@@ -33,7 +33,7 @@ empty_crate() { # NAME: a crate that stands for one that is not here; nothing of
 
 sources() { # names the folder that crates come from, and sets features to those that can be tried
     local name missing=
-    features=(--features parallel,serde)
+    features=(--features "parallel,serde")
     for name in $optional; do
         ls -d "$registry/$name"-[0-9]* >/dev/null 2>&1 || missing="$missing $name"
     done

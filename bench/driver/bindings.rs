@@ -6,9 +6,9 @@ mod harness;
 use std::collections::HashSet;
 use std::time::Duration;
 
-use harness::{counts, Answer, Bench, Both, Numbers, Row};
+use harness::{counts, Answer, Bench, Both, Numbers, Row, SMALLER};
 
-const MILLION: usize = 1_000_000;
+const MILLION: usize = 1_000_000 >> SMALLER;
 const END: u32 = 1 << 24;
 
 macro_rules! both {
@@ -56,7 +56,7 @@ fn main() {
     let mut numbers = Numbers(1);
     let random = numbers.many(MILLION, END.into());
     single_indices(&mut bench, &random);
-    for (name, one_in, end) in [("half of 2^21", 2, 1 << 21), ("1 %", 100, END), ("0.01 %", 10_000, END)] {
+    for (name, one_in, end) in [("half of 2^21", 2, 1 << 21 >> SMALLER), ("1 %", 100, END >> SMALLER), ("0.01 %", 10_000, END >> SMALLER)] {
         whole_sets(&mut bench, name, &numbers.one_in(one_in, end), &numbers.one_in(one_in, end));
     }
     bench.print();

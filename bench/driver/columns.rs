@@ -1,10 +1,10 @@
 //! Columns of values by index, and joins of two, beside the original's set with a flat vector and std's map.
 use std::collections::{HashMap, HashSet};
 
-use crate::harness::{timed, Bench, Both, Numbers, Row};
+use crate::harness::{timed, Bench, Both, Numbers, Row, SMALLER};
 use crate::{on_copy, original, ours};
 
-const KEYS: usize = 100_000;
+const KEYS: usize = 100_000 >> SMALLER;
 
 macro_rules! both {
     ($ours:ident, $original:ident, $($list:expr),*) => {
@@ -117,14 +117,14 @@ pub fn rows(bench: &mut Bench) {
         calls(bench, range);
     }
     let pairs = &Pair::all()[..];
-    bench.part("joins of two columns of 100,000 keys (ns per key of both)");
+    bench.part("joins of two columns of 100,000 keys (ns per key of either column)");
     for pair in pairs {
         let (a, b, keys) = (pair.first(), pair.second(), pair.in_order());
         let (first, second) = (map_of(a), map_of(b));
         bench.run(Row::new(format!("column join, {}", pair.name), 2 * KEYS, 1.0, both!(column_join, column_join, a, b))
             .peer("HashMap", || timed(|| sum_of_join(&keys, &first, &second))));
     }
-    bench.part("the same, beside a walk over one mask with look-ups in the other vector (ns per key of both)");
+    bench.part("the same, beside a walk over one mask with look-ups in the other vector (ns per key of either column)");
     for pair in pairs {
         let (a, b) = (pair.first(), pair.second());
         bench.run(Row::new(format!("column join or look-ups, {}", pair.name), 2 * KEYS, 0.5, both!(column_join, column_join_by_one_mask, a, b)));

@@ -11,8 +11,11 @@ use std::time::Duration;
 
 use crate::callgrind::counted;
 
-/// How many turns are counted, beyond the first: an even number, since each second turn of some kernels undoes the first.
+/// How many turns are counted or tried, beyond the first: an even number, since each second turn of some kernels undoes the first.
 const TURNS: usize = 2;
+
+/// By how many bits sizes are cut where each row is only tried.
+pub const SMALLER: u32 = if cfg!(smallest) { 8 } else { 0 };
 
 /// Whether instructions are counted, and nothing is timed.
 pub fn counts() -> bool {
@@ -150,6 +153,9 @@ fn turn(kernel: &Kernel, turns: usize) -> (f64, u64) {
 /// So many turns that they take as long as wanted, and twice as long as all that is not measured: the noise of making the
 /// sets then counts for little.
 fn turns_for(kernel: &Kernel, wanted: Duration) -> usize {
+    if cfg!(smallest) {
+        return TURNS;
+    }
     let one = timed(|| kernel(black_box(1))).0.min(timed(|| kernel(black_box(1))).0);
     let wanted = wanted.max(2 * one);
     let mut turns = 3;

@@ -47,7 +47,7 @@ static uint64_t next_number(void) {
 
 static uint64_t read_ours(work_t *work) {
     hibitset_t set = hibitset_new();
-    uint32_t fault;
+    hibitset_fault fault;
     size_t at;
     need(!hibitset_failed(hibitset_roaring_read(&set, work->stream, work->stream_len, &fault, &at)), "a stream was not read");
     uint32_t last = 0;

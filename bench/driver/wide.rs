@@ -1,10 +1,10 @@
 //! Sets with indices up to 2^30, where the original has no answer: beside the flat set and CRoaring alone.
 use std::time::Duration;
 
-use crate::harness::{timed, Answer, Bench, Kernel, Numbers, Row};
+use crate::harness::{timed, Answer, Bench, Kernel, Numbers, Row, SMALLER};
 use crate::ours;
 
-const END: usize = 1 << 30;
+const END: usize = 1 << 30 >> SMALLER;
 
 /// A list of indices, ascending, with a name, and its members in the peers.
 struct Wide {
@@ -105,7 +105,7 @@ pub fn rows(bench: &mut Bench) {
     bench.part("indices below 2^30, which the original does not have (ns per member)");
     let mut numbers = Numbers(3);
     let mut spread = |name| {
-        let mut ids = numbers.many(1_000_000, END as u64);
+        let mut ids = numbers.many(1_000_000 >> SMALLER, END as u64);
         ids.sort();
         ids.dedup();
         Wide::new(name, ids)
@@ -114,8 +114,8 @@ pub fn rows(bench: &mut Bench) {
     rows_of(bench, &one, &other);
     drop((one, other));
     let clusters = |name, shift: u32| {
-        Wide::new(name, (0..100).flat_map(|cluster| (0..10_000).map(move |i| cluster * 10_700_000 + shift + i)).collect())
+        Wide::new(name, (0..100).flat_map(|cluster| (0..10_000 >> SMALLER).map(move |i| cluster * (10_700_000 >> SMALLER) + shift + i)).collect())
     };
-    let (one, other) = (clusters("100 clusters of 10,000 below 2^30", 0), clusters("the same, 5,000 further", 5_000));
+    let (one, other) = (clusters("100 clusters of 10,000 below 2^30", 0), clusters("the same, 5,000 further", 5_000 >> SMALLER));
     rows_of(bench, &one, &other);
 }

@@ -1,3 +1,4 @@
+/* SPDX-License-Identifier: Apache-2.0 */
 /*
  * hibitset.h: hierarchical bit sets of uint32_t indices below 2^30, and sets that threads add to, for C99 and C++.
  *
@@ -11,18 +12,24 @@
  * The library is compiled from Rattle, where each function is proved to be safe, to return, and to do what its contract
  * says. No proof covers C, so these are the caller's:
  *
- * - A hibitset_t comes from hibitset_new, and only the functions below change it. It may be moved as bytes, and is then
- *   used in its new place alone. It is copied by hibitset_assign only.
+ * - A hibitset_t comes from hibitset_new or HIBITSET_INIT, or is all zero bytes, as static memory and that of calloc
+ *   are. Only the functions below change it. It may be moved as bytes, and is then used in its new place alone. It is
+ *   copied by hibitset_assign only.
  * - A function that takes a set as `hibitset_t *` has it alone. Any number of functions may take one as
  *   `const hibitset_t *` at once, on any threads, while no function changes it. A set may go from one thread to another,
  *   as any other memory.
- * - The same holds of a hibitset_atomic_t, which hibitset_atomic_new returns, and of a hibitset_seat_t, which
- *   hibitset_seat_new returns: each is moved and never copied. Every function has it alone, those that only look too.
- *   Seats of one shared set are in calls at once, on any threads, as long as each seat is in one.
+ * - The same holds of a hibitset_atomic_t (hibitset_atomic_new, HIBITSET_ATOMIC_INIT) and of a hibitset_seat_t
+ *   (hibitset_seat_new, HIBITSET_SEAT_INIT): each is moved and never copied. Every function has it alone, those that
+ *   only look too. Seats of one shared set are in calls at once, on any threads, as long as each seat is in one.
  * - No pointer is NULL, unless a length of 0 goes with it, and as much memory lies behind each as is said. Sets, buffers
  *   and results do not overlap, except that two operands may be the same set.
- * - malloc, realloc and free are those of one allocator. No function is called from a signal handler, nor in the child
- *   of a fork of a process with threads.
+ * - malloc, realloc and free are those of one allocator. No function is called where malloc may not be, as in a signal
+ *   handler.
+ *
+ * WHICH LIBRARY FITS THIS HEADER
+ *
+ * Functions of this header read the fields of a hibitset_t. So its layout is a part of the ABI, whose number is in the
+ * name of hibitset_abi_0 and in the soname libhibitset.so.0: a library of another layout does not link.
  */
 #ifndef HIBITSET_H
 #define HIBITSET_H
@@ -39,6 +46,31 @@
 extern "C" {
 #endif
 
+/* What returns a status: a caller that drops it is warned. */
+#if (defined(__cplusplus) && __cplusplus >= 201703L) || (defined(__STDC_VERSION__) && __STDC_VERSION__ >= 202311L)
+#define HIBITSET_MUST_USE [[nodiscard]]
+#elif defined(__GNUC__)
+#define HIBITSET_MUST_USE __attribute__((warn_unused_result))
+#else
+#define HIBITSET_MUST_USE
+#endif
+
+/* ---- Version ---- */
+
+/* The version of this header. */
+#define HIBITSET_VERSION_MAJOR 0
+#define HIBITSET_VERSION_MINOR 1
+#define HIBITSET_VERSION_PATCH 0
+#define HIBITSET_VERSION "0.1.0"
+
+/* Returns the version of the library: HIBITSET_VERSION of the header that it was built with. */
+const char *hibitset_version(void);
+
+/* The word 0, to which each empty set below points: so a program refers to the ABI that it was compiled for. */
+extern const uint64_t hibitset_abi_0;
+
+/* ---- Limits ---- */
+
 /* Every index in a set is less than this. */
 #define HIBITSET_MAX_EID UINT32_C(1073741824)
 
@@ -47,6 +79,8 @@ extern "C" {
 
 /* The most words that layer 0 of a set has. */
 #define HIBITSET_MAX_WORDS UINT32_C(16777216)
+
+/* ---- Statuses and faults ---- */
 
 /* What a function returns that can fail. */
 typedef enum hibitset_status {
@@ -76,31 +110,65 @@ typedef enum hibitset_fault {
     HIBITSET_FAULT_RUN_PAST_END = 11        /* A run ends past the numbers of its container. */
 } hibitset_fault;
 
+/* Returns whether a status is an error: neither HIBITSET_OK nor HIBITSET_PRESENT. */
+static inline bool hibitset_failed(hibitset_status status) { return status >= HIBITSET_NO_MEMORY; }
+
+/* Returns what a status says, in words without a full stop, as a string that is never freed. */
+static inline const char *hibitset_status_text(hibitset_status status) {
+    switch (status) {
+        case HIBITSET_OK: return "done";
+        case HIBITSET_PRESENT: return "the index was a member before";
+        case HIBITSET_NO_MEMORY: return "an allocation failed";
+        case HIBITSET_OUT_OF_RANGE: return "an index or a length is out of range";
+        case HIBITSET_SHARED: return "the set has another seat";
+        case HIBITSET_ONE_SHARE: return "the seat has one share of its set";
+        case HIBITSET_NO_SEAT: return "there is no seat";
+        case HIBITSET_SHORT_BUFFER: return "the buffer is too short";
+        case HIBITSET_MALFORMED: return "the bytes are no stream of members in range";
+    }
+    return "no status of hibitset";
+}
+
+/* Returns what a fault says, as hibitset_status_text does. */
+static inline const char *hibitset_fault_text(hibitset_fault fault) {
+    switch (fault) {
+        case HIBITSET_FAULT_TOO_SHORT: return "the stream ends too early";
+        case HIBITSET_FAULT_TOO_LONG: return "bytes follow the last container";
+        case HIBITSET_FAULT_BAD_COOKIE: return "the first number begins no stream";
+        case HIBITSET_FAULT_TOO_MANY_CONTAINERS: return "the header announces more than 65,536 containers";
+        case HIBITSET_FAULT_KEYS_NOT_ASCENDING: return "a key is not above the one before it";
+        case HIBITSET_FAULT_KEY_OUT_OF_RANGE: return "a key is out of range";
+        case HIBITSET_FAULT_WRONG_OFFSET: return "an offset is not the position of its container";
+        case HIBITSET_FAULT_WRONG_CARDINALITY: return "a container has not as many members as the header says";
+        case HIBITSET_FAULT_NOT_ASCENDING: return "a number of an array is not above the one before it";
+        case HIBITSET_FAULT_RUNS_NOT_APART: return "a run begins within the run before it, or right behind it";
+        case HIBITSET_FAULT_RUN_PAST_END: return "a run ends past the numbers of its container";
+    }
+    return "no fault of hibitset";
+}
+
+/* ---- Life of a set ---- */
+
 /* A set. Its fields are the library's. */
-typedef struct hibitset {
+typedef struct hibitset_t {
     struct {
         const uint64_t *words;
         size_t len;
     } layers_[4];
     uint64_t top_;
-    void *set_;
+    const void *set_;
     bool made_;
 } hibitset_t;
 
-/* ---- Life of a set ---- */
+/* An empty set, to initialize one with, also a static one. */
+#define HIBITSET_INIT                                                                                                \
+    {                                                                                                                \
+        {{&hibitset_abi_0, 0}, {&hibitset_abi_0, 0}, {&hibitset_abi_0, 0}, {&hibitset_abi_0, 0}}, 0, NULL, false     \
+    }
 
 /* Returns an empty set. It takes no memory until the first member. */
 static inline hibitset_t hibitset_new(void) {
-    static const uint64_t no_word = 0;
-    hibitset_t set;
-    int layer;
-    for (layer = 0; layer < 4; layer++) {
-        set.layers_[layer].words = &no_word;
-        set.layers_[layer].len = 0;
-    }
-    set.top_ = 0;
-    set.set_ = NULL;
-    set.made_ = false;
+    hibitset_t set = HIBITSET_INIT;
     return set;
 }
 
@@ -108,15 +176,12 @@ static inline hibitset_t hibitset_new(void) {
  * again, or left. */
 void hibitset_free(hibitset_t *set);
 
-/* Returns whether a status is an error: neither HIBITSET_OK nor HIBITSET_PRESENT. */
-static inline bool hibitset_failed(hibitset_status status) { return status >= HIBITSET_NO_MEMORY; }
-
 /* ---- Capacity ---- */
 
 /* Makes `set` an empty set with capacity for each index below `max`, at most HIBITSET_MAX_EID: adding these allocates
  * nothing until hibitset_clear, hibitset_free or one of the functions that make a set anew.
  * HIBITSET_NO_MEMORY, HIBITSET_OUT_OF_RANGE: `set` is unchanged. */
-hibitset_status hibitset_with_capacity(hibitset_t *set, uint32_t max);
+HIBITSET_MUST_USE hibitset_status hibitset_with_capacity(hibitset_t *set, uint32_t max);
 
 /* Returns a number below which each index can be added without an allocation. */
 static inline size_t hibitset_capacity(const hibitset_t *set) { return 64 * set->layers_[0].len; }
@@ -125,15 +190,15 @@ static inline size_t hibitset_capacity(const hibitset_t *set) { return 64 * set-
 
 /* Adds an index, less than HIBITSET_MAX_EID. HIBITSET_OK: it is new. HIBITSET_PRESENT: it was a member.
  * HIBITSET_NO_MEMORY (never below hibitset_capacity), HIBITSET_OUT_OF_RANGE: the members are unchanged. */
-hibitset_status hibitset_add(hibitset_t *set, uint32_t index);
+HIBITSET_MUST_USE hibitset_status hibitset_add(hibitset_t *set, uint32_t index);
 
 /* Adds `len` indices in order, up to the first that fails, and leaves in `*added` how many were added: `len` on success.
  * HIBITSET_NO_MEMORY, HIBITSET_OUT_OF_RANGE: indices[*added] failed so, and none after it was added. */
-hibitset_status hibitset_add_many(hibitset_t *set, const uint32_t *indices, size_t len, size_t *added);
+HIBITSET_MUST_USE hibitset_status hibitset_add_many(hibitset_t *set, const uint32_t *indices, size_t len, size_t *added);
 
 /* Adds the indices from `start` on and below `end`, at most HIBITSET_MAX_EID; none if end <= start.
  * HIBITSET_NO_MEMORY (never if end <= hibitset_capacity), HIBITSET_OUT_OF_RANGE: the members are unchanged. */
-hibitset_status hibitset_add_range(hibitset_t *set, uint32_t start, uint32_t end);
+HIBITSET_MUST_USE hibitset_status hibitset_add_range(hibitset_t *set, uint32_t start, uint32_t end);
 
 /* Removes an index, and returns whether it was a member. The capacity stays. */
 bool hibitset_remove(hibitset_t *set, uint32_t index);
@@ -146,6 +211,11 @@ void hibitset_clear(hibitset_t *set);
 
 /* Returns whether an index is a member; false for one out of range. */
 bool hibitset_contains(const hibitset_t *set, uint32_t index);
+
+/* Writes for each of `len` indices whether it is a member, 1 or 0, into `found`, until `found_len` bytes are written, and
+ * returns how many. What lies behind them in `found` stays. */
+size_t hibitset_contains_many(const hibitset_t *set, const uint32_t *indices, size_t len, uint8_t *found,
+                              size_t found_len);
 
 /* Returns the number of members. */
 size_t hibitset_len(const hibitset_t *set);
@@ -218,20 +288,23 @@ bool hibitset_pop_last(hibitset_t *set, uint32_t *index);
 /* Removes the members from `start` on and below `end`, at most HIBITSET_MAX_EID, and adds the other indices there; changes
  * nothing if end <= start.
  * HIBITSET_NO_MEMORY (never if end <= hibitset_capacity), HIBITSET_OUT_OF_RANGE: the members are unchanged. */
-hibitset_status hibitset_flip_range(hibitset_t *set, uint32_t start, uint32_t end);
+HIBITSET_MUST_USE hibitset_status hibitset_flip_range(hibitset_t *set, uint32_t start, uint32_t end);
 
 /* ---- Words ---- */
 
 /* Makes `set` the set of these words, at most HIBITSET_MAX_WORDS: index 64 * p + b is a member if bit b of words[p] is
  * set. HIBITSET_NO_MEMORY, HIBITSET_OUT_OF_RANGE: `set` is unchanged. */
-hibitset_status hibitset_assign_words(hibitset_t *set, const uint64_t *words, size_t len);
+HIBITSET_MUST_USE hibitset_status hibitset_assign_words(hibitset_t *set, const uint64_t *words, size_t len);
 
 /* Returns the words of the set, `*len` of them, which are there until it is changed: index 64 * p + b is a member if bit
- * b of word p is set. There is no member past them. */
+ * b of word p is set. There is no member past them. It may return NULL if there are none. */
 static inline const uint64_t *hibitset_words(const hibitset_t *set, size_t *len) {
     *len = set->layers_[0].len;
     return set->layers_[0].words;
 }
+
+/* Fills `buffer` with the words of the set from position `start` on, 0 for each that is past hibitset_words. */
+void hibitset_copy_words(const hibitset_t *set, size_t start, uint64_t *buffer, size_t len);
 
 /* ---- Streams in the portable Roaring format, which other libraries and programs read and write too ---- */
 
@@ -244,62 +317,57 @@ size_t hibitset_roaring_len(const hibitset_t *set);
 /* Writes the one stream without runs of a set's members into the first bytes of `buffer`, and leaves in `*taken` how many
  * bytes that takes. What lies behind them in the buffer stays. It allocates 16 bytes for each 65,536 indices with members.
  * HIBITSET_SHORT_BUFFER (`len` is less than `*taken`): `buffer` is unchanged. HIBITSET_NO_MEMORY: so is `*taken`. */
-hibitset_status hibitset_roaring_write(const hibitset_t *set, uint8_t *buffer, size_t len, size_t *taken);
+HIBITSET_MUST_USE hibitset_status hibitset_roaring_write(const hibitset_t *set, uint8_t *buffer, size_t len,
+                                                         size_t *taken);
 
 /* Makes `set` the set whose members a stream has, with runs or without: a stream of `len` bytes, with nothing behind it.
  * 18 bytes can ask for a set of 136 MB: so bytes of a stranger are better read by hibitset_roaring_read_below.
  * HIBITSET_MALFORMED: `*fault` is the hibitset_fault that the bytes have at position `*at`, and `set` is unchanged.
  * HIBITSET_NO_MEMORY: `set` is unchanged. Neither this nor success changes `*fault` and `*at`. */
-hibitset_status hibitset_roaring_read(hibitset_t *set, const uint8_t *bytes, size_t len, uint32_t *fault, size_t *at);
+HIBITSET_MUST_USE hibitset_status hibitset_roaring_read(hibitset_t *set, const uint8_t *bytes, size_t len,
+                                                        hibitset_fault *fault, size_t *at);
 
 /* As hibitset_roaring_read, if each key in the stream is less than `end`, so each member less than 65536 * end. Layer 0 of
  * the set then takes at most 8,192 bytes for each key below `end`. */
-hibitset_status hibitset_roaring_read_below(hibitset_t *set, const uint8_t *bytes, size_t len, uint32_t end,
-                                            uint32_t *fault, size_t *at);
+HIBITSET_MUST_USE hibitset_status hibitset_roaring_read_below(hibitset_t *set, const uint8_t *bytes, size_t len,
+                                                              uint32_t end, hibitset_fault *fault, size_t *at);
 
 /* ---- Assignments ---- */
 
-/* As the functions below without `raw_`, of two sets that are not the same. */
-hibitset_status hibitset_raw_assign(hibitset_t *set, const hibitset_t *other);
-hibitset_status hibitset_raw_or_assign(hibitset_t *set, const hibitset_t *other);
-hibitset_status hibitset_raw_xor_assign(hibitset_t *set, const hibitset_t *other);
-void hibitset_raw_and_assign(hibitset_t *set, const hibitset_t *other);
-void hibitset_raw_andnot_assign(hibitset_t *set, const hibitset_t *other);
-
 /* Makes `set` a copy of `other`. HIBITSET_NO_MEMORY: `set` is unchanged. */
-static inline hibitset_status hibitset_assign(hibitset_t *set, const hibitset_t *other) {
-    return set == other ? HIBITSET_OK : hibitset_raw_assign(set, other);
-}
+HIBITSET_MUST_USE static inline hibitset_status hibitset_assign(hibitset_t *set, const hibitset_t *other);
 
 /* Adds the members of `other`. HIBITSET_NO_MEMORY (never if all of them are below hibitset_capacity): the members are
  * unchanged. */
-static inline hibitset_status hibitset_or_assign(hibitset_t *set, const hibitset_t *other) {
-    return set == other ? HIBITSET_OK : hibitset_raw_or_assign(set, other);
-}
+HIBITSET_MUST_USE static inline hibitset_status hibitset_or_assign(hibitset_t *set, const hibitset_t *other);
 
 /* Adds the members of `other` that `set` lacks, and removes those that both have. HIBITSET_NO_MEMORY (never if all of
  * them are below hibitset_capacity): the members are unchanged. */
-static inline hibitset_status hibitset_xor_assign(hibitset_t *set, const hibitset_t *other) {
-    if (set == other) {
-        hibitset_remove_range(set, 0, HIBITSET_MAX_EID);
-        return HIBITSET_OK;
-    }
-    return hibitset_raw_xor_assign(set, other);
-}
+HIBITSET_MUST_USE static inline hibitset_status hibitset_xor_assign(hibitset_t *set, const hibitset_t *other);
 
 /* Removes the members that `other` lacks. The capacity stays. */
-static inline void hibitset_and_assign(hibitset_t *set, const hibitset_t *other) {
-    if (set != other) hibitset_raw_and_assign(set, other);
-}
+static inline void hibitset_and_assign(hibitset_t *set, const hibitset_t *other);
 
 /* Removes the members that `other` has. The capacity stays. */
-static inline void hibitset_andnot_assign(hibitset_t *set, const hibitset_t *other) {
-    if (set == other) {
-        hibitset_remove_range(set, 0, HIBITSET_MAX_EID);
-    } else {
-        hibitset_raw_andnot_assign(set, other);
-    }
-}
+static inline void hibitset_andnot_assign(hibitset_t *set, const hibitset_t *other);
+
+/* ---- Sets made of two ---- */
+
+/* Each of these makes `out` a set of members of `a` and `b`, which may be one set. `out` is neither of the two: the
+ * functions above change an operand. Its capacity ends with the word of its last member.
+ * HIBITSET_NO_MEMORY: `out` is unchanged. */
+
+/* The members that both have. */
+HIBITSET_MUST_USE hibitset_status hibitset_and(const hibitset_t *a, const hibitset_t *b, hibitset_t *out);
+
+/* The members that at least one of the two has. */
+HIBITSET_MUST_USE hibitset_status hibitset_or(const hibitset_t *a, const hibitset_t *b, hibitset_t *out);
+
+/* The members that one of the two has alone. */
+HIBITSET_MUST_USE hibitset_status hibitset_xor(const hibitset_t *a, const hibitset_t *b, hibitset_t *out);
+
+/* The members that `a` has and `b` lacks. */
+HIBITSET_MUST_USE hibitset_status hibitset_andnot(const hibitset_t *a, const hibitset_t *b, hibitset_t *out);
 
 /* ---- Two sets that are read ---- */
 
@@ -311,6 +379,9 @@ bool hibitset_is_subset(const hibitset_t *a, const hibitset_t *b);
 
 /* Returns whether the two have the same members. */
 bool hibitset_equals(const hibitset_t *a, const hibitset_t *b);
+
+/* Returns a hash of the members: sets with the same members have the same, whatever their capacity. */
+uint64_t hibitset_hash(const hibitset_t *set);
 
 /* Returns how many members both have. */
 size_t hibitset_and_len(const hibitset_t *a, const hibitset_t *b);
@@ -339,22 +410,26 @@ size_t hibitset_andnot_next_many(const hibitset_t *a, const hibitset_t *b, uint3
 /* ---- Atomic sets ---- */
 
 /* A set of indices below HIBITSET_ATOMIC_MAX_EID that can be shared by threads. Its fields are the library's. */
-typedef struct hibitset_atomic {
-    void *set_;
+typedef struct hibitset_atomic_t {
+    const void *set_;
     bool made_;
 } hibitset_atomic_t;
 
+/* An empty set, to initialize one with. */
+#define HIBITSET_ATOMIC_INIT {&hibitset_abi_0, false}
+
 /* A seat of a shared set: what one thread adds and looks with. Its fields are the library's. */
-typedef struct hibitset_seat {
-    void *seat_;
+typedef struct hibitset_seat_t {
+    const void *seat_;
     bool made_;
 } hibitset_seat_t;
 
+/* No seat, to initialize one with. */
+#define HIBITSET_SEAT_INIT {&hibitset_abi_0, false}
+
 /* Returns an empty set. It takes no memory until the first member. */
 static inline hibitset_atomic_t hibitset_atomic_new(void) {
-    hibitset_atomic_t set;
-    set.set_ = NULL;
-    set.made_ = false;
+    hibitset_atomic_t set = HIBITSET_ATOMIC_INIT;
     return set;
 }
 
@@ -364,7 +439,7 @@ void hibitset_atomic_free(hibitset_atomic_t *set);
 /* Adds an index, less than HIBITSET_ATOMIC_MAX_EID. HIBITSET_OK: it is new. HIBITSET_PRESENT: it was a member.
  * HIBITSET_NO_MEMORY (never if an index of the same 4,096 was added before, nor to a set that hibitset_seat_settle left),
  * HIBITSET_OUT_OF_RANGE: the members are unchanged. */
-hibitset_status hibitset_atomic_add(hibitset_atomic_t *set, uint32_t index);
+HIBITSET_MUST_USE hibitset_status hibitset_atomic_add(hibitset_atomic_t *set, uint32_t index);
 
 /* Removes an index, and returns whether it was a member. */
 bool hibitset_atomic_remove(hibitset_atomic_t *set, uint32_t index);
@@ -399,25 +474,23 @@ size_t hibitset_atomic_word(hibitset_atomic_t *set, size_t layer, size_t positio
 
 /* Returns no seat: what hibitset_atomic_share and hibitset_seat_divide put one into. */
 static inline hibitset_seat_t hibitset_seat_new(void) {
-    hibitset_seat_t seat;
-    seat.seat_ = NULL;
-    seat.made_ = false;
+    hibitset_seat_t seat = HIBITSET_SEAT_INIT;
     return seat;
 }
 
 /* Makes a shared set of `set`, which is empty then, and leaves the first of its seats in `seat`. A seat that was there is
  * freed. All words are made here, 2 MB, so that no addition allocates.
  * HIBITSET_NO_MEMORY: the members of `set`, and `seat`, are unchanged. */
-hibitset_status hibitset_atomic_share(hibitset_atomic_t *set, hibitset_seat_t *seat);
+HIBITSET_MUST_USE hibitset_status hibitset_atomic_share(hibitset_atomic_t *set, hibitset_seat_t *seat);
 
 /* Makes two seats of one, and leaves the second in `other`, for another thread. A seat that was there is freed. Of the
  * 65,536 shares of the set, the second seat has half of those that the first had.
  * HIBITSET_NO_MEMORY, HIBITSET_ONE_SHARE (the seat has one), HIBITSET_NO_SEAT: both are unchanged. */
-hibitset_status hibitset_seat_divide(hibitset_seat_t *seat, hibitset_seat_t *other);
+HIBITSET_MUST_USE hibitset_status hibitset_seat_divide(hibitset_seat_t *seat, hibitset_seat_t *other);
 
 /* Makes `count` seats, at most 65,536, of the one in seats[0]. Those that were in the other places are freed.
  * An error of hibitset_seat_divide: some of the other places have a seat of the set, and seats[0] has one still. */
-static inline hibitset_status hibitset_seat_divide_among(hibitset_seat_t *seats, size_t count) {
+HIBITSET_MUST_USE static inline hibitset_status hibitset_seat_divide_among(hibitset_seat_t *seats, size_t count) {
     size_t have, i;
     for (have = 1; have < count; have *= 2) {
         for (i = 0; i < have && have + i < count; i++) {
@@ -432,7 +505,7 @@ static inline hibitset_status hibitset_seat_divide_among(hibitset_seat_t *seats,
  * makes at most seven loads and four exchanges. HIBITSET_OK: this call put it in. HIBITSET_PRESENT: it was there. Either
  * way hibitset_seat_contains finds it with this seat from then on.
  * HIBITSET_OUT_OF_RANGE, HIBITSET_NO_SEAT: nothing is changed. */
-hibitset_status hibitset_seat_add(hibitset_seat_t *seat, uint32_t index);
+HIBITSET_MUST_USE hibitset_status hibitset_seat_add(hibitset_seat_t *seat, uint32_t index);
 
 /* Returns whether an index is there. It is true of each index that the set had when it was shared, that this seat added,
  * or that it has seen before. What another thread adds may be seen or not. Without a seat it is false. */
@@ -441,19 +514,71 @@ bool hibitset_seat_contains(hibitset_seat_t *seat, uint32_t index);
 /* Walks over the shared set while others add, and adds to `set` what it gives: each index that the set had when it was
  * shared, that this seat added, or that it has seen before. An index that comes in meanwhile may be given or not.
  * HIBITSET_NO_MEMORY: `set` has its old members, and a part of those. HIBITSET_NO_SEAT: nothing is changed. */
-hibitset_status hibitset_seat_collect(hibitset_seat_t *seat, hibitset_t *set);
+HIBITSET_MUST_USE hibitset_status hibitset_seat_collect(hibitset_seat_t *seat, hibitset_t *set);
 
 /* Returns whether the seat has all shares of its set: no other has been made of it. */
 bool hibitset_seat_is_whole(hibitset_seat_t *seat);
 
 /* Ends the shared set. Leaves in `set`, whose members are freed, the set held alone again, and no seat in `seat`. It has
- * exactly the indices from before it was shared and those that its seats put in. No addition to it allocates.
+ * the indices from before it was shared, and those that this seat put in or saw. That it also has those that freed seats
+ * put in, and no others, is tested and not proved. No addition to it allocates.
  * HIBITSET_SHARED (another seat is not freed yet), HIBITSET_NO_MEMORY, HIBITSET_NO_SEAT: both are unchanged. */
-hibitset_status hibitset_seat_settle(hibitset_seat_t *seat, hibitset_atomic_t *set);
+HIBITSET_MUST_USE hibitset_status hibitset_seat_settle(hibitset_seat_t *seat, hibitset_atomic_t *set);
 
 /* Gives the seat up. What it added stays in the set, which is freed with the last seat. There is no seat then, as
  * hibitset_seat_new returns it. */
 void hibitset_seat_free(hibitset_seat_t *seat);
+
+/* ---- Internal: nothing below is for callers ---- */
+
+/* The layout that the library has. Where one of these lines is no type, compiler options change it, as -fshort-enums and
+ * -fpack-struct do. */
+typedef char hibitset_internal_status_size[sizeof(hibitset_status) == 4 ? 1 : -1];
+typedef char hibitset_internal_fault_size[sizeof(hibitset_fault) == 4 ? 1 : -1];
+typedef char hibitset_internal_bool_size[sizeof(bool) == 1 ? 1 : -1];
+typedef char hibitset_internal_size[sizeof(hibitset_t) == 88 ? 1 : -1];
+typedef char hibitset_internal_top[offsetof(hibitset_t, top_) == 64 ? 1 : -1];
+typedef char hibitset_internal_set[offsetof(hibitset_t, set_) == 72 ? 1 : -1];
+typedef char hibitset_internal_made[offsetof(hibitset_t, made_) == 80 ? 1 : -1];
+typedef char hibitset_internal_atomic_size[sizeof(hibitset_atomic_t) == 16 ? 1 : -1];
+typedef char hibitset_internal_atomic_made[offsetof(hibitset_atomic_t, made_) == 8 ? 1 : -1];
+typedef char hibitset_internal_seat_size[sizeof(hibitset_seat_t) == 16 ? 1 : -1];
+typedef char hibitset_internal_seat_made[offsetof(hibitset_seat_t, made_) == 8 ? 1 : -1];
+
+/* The assignments of two sets that are not the same. */
+HIBITSET_MUST_USE hibitset_status hibitset_internal_assign(hibitset_t *set, const hibitset_t *other);
+HIBITSET_MUST_USE hibitset_status hibitset_internal_or_assign(hibitset_t *set, const hibitset_t *other);
+HIBITSET_MUST_USE hibitset_status hibitset_internal_xor_assign(hibitset_t *set, const hibitset_t *other);
+void hibitset_internal_and_assign(hibitset_t *set, const hibitset_t *other);
+void hibitset_internal_andnot_assign(hibitset_t *set, const hibitset_t *other);
+
+static inline hibitset_status hibitset_assign(hibitset_t *set, const hibitset_t *other) {
+    return set == other ? HIBITSET_OK : hibitset_internal_assign(set, other);
+}
+
+static inline hibitset_status hibitset_or_assign(hibitset_t *set, const hibitset_t *other) {
+    return set == other ? HIBITSET_OK : hibitset_internal_or_assign(set, other);
+}
+
+static inline hibitset_status hibitset_xor_assign(hibitset_t *set, const hibitset_t *other) {
+    if (set == other) {
+        hibitset_remove_range(set, 0, HIBITSET_MAX_EID);
+        return HIBITSET_OK;
+    }
+    return hibitset_internal_xor_assign(set, other);
+}
+
+static inline void hibitset_and_assign(hibitset_t *set, const hibitset_t *other) {
+    if (set != other) hibitset_internal_and_assign(set, other);
+}
+
+static inline void hibitset_andnot_assign(hibitset_t *set, const hibitset_t *other) {
+    if (set == other) {
+        hibitset_remove_range(set, 0, HIBITSET_MAX_EID);
+    } else {
+        hibitset_internal_andnot_assign(set, other);
+    }
+}
 
 #ifdef __cplusplus
 }

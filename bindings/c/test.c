@@ -2,13 +2,6 @@
 #include "testing.h"
 #include <pthread.h>
 
-/* The library returns a status as a uint32_t, and takes a set as 88 bytes. */
-typedef char status_has_4_bytes[sizeof(hibitset_status) == 4 ? 1 : -1];
-typedef char set_has_88_bytes[sizeof(hibitset_t) == 88 ? 1 : -1];
-typedef char top_is_at_64[offsetof(hibitset_t, top_) == 64 ? 1 : -1];
-typedef char set_is_at_72[offsetof(hibitset_t, set_) == 72 ? 1 : -1];
-typedef char made_is_at_80[offsetof(hibitset_t, made_) == 80 ? 1 : -1];
-
 /* ---- One set beside its model, a byte for each index below RANGE ---- */
 
 enum { RANGE = 300000 };
@@ -72,6 +65,18 @@ static void check_order(const hibitset_t *set, const uint32_t *list, size_t memb
     check_backwards(set, list, members, UINT32_MAX);
 }
 
+static void check_many(const hibitset_t *set, const unsigned char *model) {
+    uint32_t list[200];
+    uint8_t found[250];
+    size_t len = random_below(201), room = random_below(251), count = len < room ? len : room, i;
+    for (i = 0; i < len; i++) list[i] = random_below(RANGE);
+    if (len > 0) list[random_below((uint32_t)len)] = HIBITSET_MAX_EID + random_below(5);
+    memset(found, 0xa5, sizeof found);
+    CHECK(hibitset_contains_many(set, list, len, found, room) == count);
+    for (i = 0; i < count; i++) CHECK(found[i] == (list[i] < RANGE && model[list[i]]));
+    for (; i < sizeof found; i++) CHECK(found[i] == 0xa5);
+}
+
 static void check_members(const hibitset_t *set, const unsigned char *model) {
     static uint32_t list[RANGE];
     uint32_t index = 12345, *next = list, i;
@@ -95,6 +100,7 @@ static void check_members(const hibitset_t *set, const unsigned char *model) {
         index = random_below(RANGE);
         CHECK(hibitset_contains(set, index) == (bool)model[index]);
     }
+    check_many(set, model);
 }
 
 static void check_words(const hibitset_t *set, const unsigned char *model) {
@@ -102,6 +108,18 @@ static void check_words(const hibitset_t *set, const unsigned char *model) {
     const uint64_t *words = hibitset_words(set, &len);
     CHECK(hibitset_capacity(set) == 64 * len);
     for (i = 0; i < RANGE; i++) CHECK(model[i] == (i / 64 < len ? words[i / 64] >> i % 64 & 1 : 0));
+}
+
+static void check_copied_words(const hibitset_t *set) {
+    uint64_t buffer[60];
+    size_t len, start = random_below(RANGE / 64 + 100), count = random_below(51), i;
+    const uint64_t *words = hibitset_words(set, &len);
+    memset(buffer, 0xa5, sizeof buffer);
+    hibitset_copy_words(set, start, buffer, count);
+    for (i = 0; i < count; i++) CHECK(buffer[i] == (start + i < len ? words[start + i] : 0));
+    for (; i < 60; i++) CHECK(buffer[i] == 0xa5a5a5a5a5a5a5a5u);
+    hibitset_copy_words(set, SIZE_MAX - 3, buffer, 60);
+    for (i = 0; i < 60; i++) CHECK(buffer[i] == 0);
 }
 
 static void check_gaps(const hibitset_t *set, const unsigned char *model, uint32_t start) {
@@ -121,28 +139,53 @@ static void check_gaps(const hibitset_t *set, const unsigned char *model, uint32
 
 typedef size_t next_many(const hibitset_t *a, const hibitset_t *b, uint32_t start, uint32_t *buffer, size_t len);
 typedef size_t len_of_both(const hibitset_t *a, const hibitset_t *b);
+typedef hibitset_status make_of_both(const hibitset_t *a, const hibitset_t *b, hibitset_t *out);
 
 static unsigned in_both(unsigned a, unsigned b) { return a & b; }
 static unsigned in_either(unsigned a, unsigned b) { return a | b; }
 static unsigned in_one(unsigned a, unsigned b) { return a ^ b; }
 static unsigned in_first(unsigned a, unsigned b) { return a & !b; }
 
+/* The set that is made of two has the members of the model, and no word past the last of them. `out` had others before. */
+static void check_made(make_of_both *make, const hibitset_t *x, const hibitset_t *y, const unsigned char *model) {
+    static hibitset_t out;
+    static bool begun = false;
+    hibitset_t copy = hibitset_new();
+    uint32_t last;
+    uint64_t hash;
+    if (!begun) out = hibitset_new();
+    begun = true;
+    if (random_below(3) == 0) hibitset_free(&out);
+    CHECK(make(x, y, &out) == HIBITSET_OK);
+    check_words(&out, model);
+    CHECK(hibitset_capacity(&out) == (hibitset_last(&out, &last) ? last / 64 * 64 + 64 : 0));
+    hash = hibitset_hash(&out);
+    CHECK(hibitset_with_capacity(&copy, RANGE) == HIBITSET_OK && hibitset_or_assign(&copy, &out) == HIBITSET_OK);
+    CHECK(hibitset_hash(&copy) == hash && (hash == hibitset_hash(x)) == hibitset_equals(&out, x));
+    hibitset_free(&copy);
+    CHECK(hibitset_add(&out, 7) == (model[7] ? HIBITSET_PRESENT : HIBITSET_OK));
+    if (random_below(3) == 0) hibitset_free(&out);
+}
+
 static void check_pair(const hibitset_t *x, const hibitset_t *y, const unsigned char *a, const unsigned char *b, uint32_t start) {
     static const struct {
         unsigned (*test)(unsigned a, unsigned b);
         len_of_both *len;
         next_many *next;
+        make_of_both *make;
     } rows[] = {
-        {in_both, hibitset_and_len, hibitset_and_next_many},
-        {in_either, hibitset_or_len, hibitset_or_next_many},
-        {in_one, hibitset_xor_len, hibitset_xor_next_many},
-        {in_first, hibitset_andnot_len, hibitset_andnot_next_many},
+        {in_both, hibitset_and_len, hibitset_and_next_many, hibitset_and},
+        {in_either, hibitset_or_len, hibitset_or_next_many, hibitset_or},
+        {in_one, hibitset_xor_len, hibitset_xor_next_many, hibitset_xor},
+        {in_first, hibitset_andnot_len, hibitset_andnot_next_many, hibitset_andnot},
     };
     static uint32_t buffer[1000];
+    static unsigned char both[RANGE];
     size_t lens[4], row, i, count, len;
     for (row = 0; row < 4; row++) {
         lens[row] = 0;
-        for (i = 0; i < RANGE; i++) lens[row] += rows[row].test(a[i], b[i]);
+        for (i = 0; i < RANGE; i++) lens[row] += both[i] = rows[row].test(a[i], b[i]);
+        check_made(rows[row].make, x, y, both);
         CHECK(rows[row].len(x, y) == lens[row]);
         count = rows[row].next(x, y, start, buffer, 1000);
         for (i = start, len = 0; i < RANGE && len < count; i++) {
@@ -156,6 +199,7 @@ static void check_pair(const hibitset_t *x, const hibitset_t *y, const unsigned 
     CHECK(hibitset_is_disjoint(x, y) == (lens[0] == 0));
     CHECK(hibitset_is_subset(x, y) == (lens[3] == 0));
     CHECK(hibitset_equals(x, y) == (lens[2] == 0));
+    CHECK((hibitset_hash(x) == hibitset_hash(y)) == (lens[2] == 0));
     CHECK(hibitset_equals(x, x) && hibitset_is_subset(x, x) && hibitset_and_len(x, x) == hibitset_len(x));
 }
 
@@ -275,6 +319,7 @@ static void random_changes(void) {
         check_members(&x, a);
         if (round % 8 == 0) {
             check_words(&x, a);
+            check_copied_words(&x);
             check_gaps(&x, a, random_below(RANGE));
             check_pair(&x, &y, a, b, random_below(RANGE));
         }
@@ -292,45 +337,180 @@ static void random_changes(void) {
 
 /* ---- Ends of the range, and sets without members ---- */
 
-static void empty_sets(void) {
-    hibitset_t set = hibitset_new(), other = hibitset_new();
-    uint32_t index = 7, buffer[4];
-    size_t added = 7, len = 7;
+/* The ways to have an empty set: hibitset_new, HIBITSET_INIT, bytes that are 0. */
+enum { EMPTY_SETS = 3 };
+
+static hibitset_t empty_set(int way) {
+    static const hibitset_t init = HIBITSET_INIT, zero;
+    return way == 0 ? hibitset_new() : way == 1 ? init : zero;
+}
+
+/* Looks at an empty set, beside another one, by each call. */
+static void look_at_empty(const hibitset_t *set, const hibitset_t *other) {
+    uint32_t index = 7, buffer[4], *next = buffer;
+    uint64_t words[2] = {7, 7};
+    uint8_t stream[8], found = 7;
+    size_t len = 7;
+    CHECK(hibitset_len(set) == 0 && hibitset_is_empty(set) && !hibitset_contains(set, 0) && hibitset_capacity(set) == 0);
+    CHECK(!hibitset_first(set, &index) && !hibitset_last(set, &index) && !hibitset_contains(set, HIBITSET_MAX_EID - 1));
+    CHECK(hibitset_next_many(set, 0, buffer, 4) == 0 && hibitset_iterate(set, visit_in_order, &next) && next == buffer);
+    CHECK(hibitset_rank(set, 9) == 0 && !hibitset_select(set, 0, &index) && hibitset_len_range(set, 0, 9) == 0);
+    CHECK(!hibitset_last_before(set, 9, &index) && hibitset_prev_many(set, 9, buffer, 4) == 0 && index == 7);
+    CHECK(hibitset_prev_many(set, 9, NULL, 0) == 0);
+    CHECK(hibitset_next_many(set, 0, NULL, 0) == 0 && hibitset_not_next_many(set, 0, NULL, 0) == 0);
+    CHECK(hibitset_contains_many(set, &index, 1, &found, 1) == 1 && found == 0);
+    hibitset_copy_words(set, 0, words, 1);
+    CHECK(words[0] == 0 && words[1] == 7 && hibitset_hash(set) == hibitset_hash(other));
+    CHECK(hibitset_first_gap(set, 5, &index) && index == 5);
+    CHECK(hibitset_not_next_many(set, 5, buffer, 4) == 4 && buffer[0] == 5 && buffer[3] == 8);
+    (void)hibitset_words(set, &len);
+    CHECK(len == 0 && hibitset_roaring_len(set) == 8);
+    CHECK(hibitset_roaring_write(set, stream, 8, &len) == HIBITSET_OK && len == 8);
+    CHECK(hibitset_equals(set, other) && hibitset_is_disjoint(set, other) && hibitset_is_subset(set, other));
+    CHECK(hibitset_and_len(set, other) == 0 && hibitset_or_len(set, other) == 0);
+    CHECK(hibitset_xor_len(set, other) == 0 && hibitset_andnot_len(set, other) == 0);
+    CHECK(hibitset_and_next_many(set, other, 0, buffer, 4) == 0 && hibitset_or_next_many(set, other, 0, buffer, 4) == 0);
+    CHECK(hibitset_xor_next_many(set, other, 0, buffer, 4) == 0 && hibitset_andnot_next_many(set, other, 0, buffer, 4) == 0);
+}
+
+/* Calls on an empty set that change nothing, and allocate nothing. */
+static void leave_empty(hibitset_t *set, const hibitset_t *other) {
+    uint32_t index = 7;
+    size_t added = 7;
     long before = allocations;
-    CHECK(hibitset_len(&set) == 0 && hibitset_is_empty(&set) && !hibitset_contains(&set, 0) && hibitset_capacity(&set) == 0);
-    CHECK(!hibitset_first(&set, &index) && !hibitset_last(&set, &index) && index == 7);
-    CHECK(hibitset_next_many(&set, 0, buffer, 4) == 0 && !hibitset_remove(&set, 5));
-    CHECK(hibitset_rank(&set, 9) == 0 && !hibitset_select(&set, 0, &index) && hibitset_len_range(&set, 0, 9) == 0);
-    CHECK(!hibitset_last_before(&set, 9, &index) && hibitset_prev_many(&set, 9, buffer, 4) == 0);
-    CHECK(!hibitset_pop_first(&set, &index) && !hibitset_pop_last(&set, &index) && index == 7);
-    CHECK(hibitset_flip_range(&set, 10, 10) == HIBITSET_OK && hibitset_flip_range(&set, 10, 5) == HIBITSET_OK);
-    hibitset_remove_range(&set, 0, 100);
-    hibitset_clear(&set);
-    CHECK(hibitset_or_assign(&set, &other) == HIBITSET_OK && hibitset_xor_assign(&set, &other) == HIBITSET_OK);
-    hibitset_and_assign(&set, &other);
-    hibitset_andnot_assign(&set, &other);
-    CHECK(hibitset_add_range(&set, 10, 10) == HIBITSET_OK && hibitset_add_range(&set, 10, 5) == HIBITSET_OK);
-    CHECK(hibitset_add_many(&set, NULL, 0, &added) == HIBITSET_OK && added == 0);
-    CHECK(hibitset_prev_many(&set, 9, NULL, 0) == 0);
-    CHECK(hibitset_next_many(&set, 0, NULL, 0) == 0 && hibitset_not_next_many(&set, 0, NULL, 0) == 0);
-    CHECK(hibitset_equals(&set, &other) && hibitset_is_disjoint(&set, &set) && hibitset_words(&set, &len) && len == 0);
+    CHECK(!hibitset_remove(set, 5) && !hibitset_pop_first(set, &index) && !hibitset_pop_last(set, &index) && index == 7);
+    CHECK(hibitset_flip_range(set, 10, 10) == HIBITSET_OK && hibitset_flip_range(set, 10, 5) == HIBITSET_OK);
+    hibitset_remove_range(set, 0, 100);
+    hibitset_clear(set);
+    CHECK(hibitset_or_assign(set, other) == HIBITSET_OK && hibitset_xor_assign(set, other) == HIBITSET_OK);
+    hibitset_and_assign(set, other);
+    hibitset_andnot_assign(set, other);
+    CHECK(hibitset_add_range(set, 10, 10) == HIBITSET_OK && hibitset_add_range(set, 10, 5) == HIBITSET_OK);
+    CHECK(hibitset_add_many(set, NULL, 0, &added) == HIBITSET_OK && added == 0);
     CHECK(allocations == before);
-    CHECK(hibitset_assign_words(&set, NULL, 0) == HIBITSET_OK && hibitset_is_empty(&set));
-    CHECK(hibitset_assign(&set, &other) == HIBITSET_OK && hibitset_is_empty(&set));
+}
+
+/* An empty set beside one with a member. */
+static void empty_beside_member(const hibitset_t *empty) {
+    hibitset_t set = hibitset_new();
+    CHECK(hibitset_add(&set, 70000) == HIBITSET_OK);
+    CHECK(hibitset_is_subset(empty, &set) && !hibitset_is_subset(&set, empty) && !hibitset_equals(&set, empty));
+    CHECK(hibitset_or_len(&set, empty) == 1 && hibitset_andnot_len(empty, &set) == 0 && hibitset_and_len(&set, empty) == 0);
+    CHECK(hibitset_or_assign(&set, empty) == HIBITSET_OK && hibitset_xor_assign(&set, empty) == HIBITSET_OK);
+    hibitset_andnot_assign(&set, empty);
+    CHECK(hibitset_len(&set) == 1);
+    hibitset_and_assign(&set, empty);
+    CHECK(hibitset_is_empty(&set) && hibitset_add(&set, 3) == HIBITSET_OK && hibitset_assign(&set, empty) == HIBITSET_OK);
+    CHECK(hibitset_is_empty(&set));
     hibitset_free(&set);
-    hibitset_free(&set);
-    CHECK(hibitset_is_empty(&set) && hibitset_add(&set, 3) == HIBITSET_OK && hibitset_len(&set) == 1);
-    hibitset_free(&set);
+}
+
+static void make_of_empty(const hibitset_t *set, const hibitset_t *other) {
+    static make_of_both *const makes[] = {hibitset_and, hibitset_or, hibitset_xor, hibitset_andnot};
+    hibitset_t out = hibitset_new();
+    size_t i;
+    for (i = 0; i < 4; i++) {
+        CHECK(hibitset_add(&out, 70000) == HIBITSET_OK && makes[i](set, other, &out) == HIBITSET_OK);
+        CHECK(hibitset_is_empty(&out) && hibitset_capacity(&out) == 0);
+    }
+    hibitset_free(&out);
+}
+
+static void check_empty(hibitset_t *set, const hibitset_t *other) {
+    look_at_empty(set, other);
+    look_at_empty(other, set);
+    look_at_empty(set, set);
+    leave_empty(set, other);
+    look_at_empty(set, other);
+    empty_beside_member(set);
+    make_of_empty(set, other);
+    hibitset_free(set);
+    look_at_empty(set, other);
+    CHECK(hibitset_assign_words(set, NULL, 0) == HIBITSET_OK && hibitset_is_empty(set));
+    CHECK(hibitset_assign(set, other) == HIBITSET_OK && hibitset_is_empty(set));
+    CHECK(hibitset_or(other, other, set) == HIBITSET_OK && hibitset_is_empty(set));
+    hibitset_free(set);
+    hibitset_free(set);
+    CHECK(hibitset_is_empty(set) && hibitset_add(set, 3) == HIBITSET_OK && hibitset_len(set) == 1);
+    hibitset_free(set);
+}
+
+/* The first call on an empty set of each kind. */
+static void first_calls(int way) {
+    static const uint32_t list[] = {3};
+    static const uint64_t word = 8;
+    hibitset_t sets[6], other = hibitset_new();
+    size_t added, i;
+    CHECK(hibitset_add(&other, 3) == HIBITSET_OK);
+    for (i = 0; i < 6; i++) sets[i] = empty_set(way);
+    CHECK(hibitset_add(&sets[0], 3) == HIBITSET_OK && hibitset_add_many(&sets[1], list, 1, &added) == HIBITSET_OK);
+    CHECK(hibitset_add_range(&sets[2], 3, 4) == HIBITSET_OK && hibitset_flip_range(&sets[3], 3, 4) == HIBITSET_OK);
+    CHECK(hibitset_or_assign(&sets[4], &other) == HIBITSET_OK && hibitset_assign_words(&sets[5], &word, 1) == HIBITSET_OK);
+    for (i = 0; i < 6; i++) {
+        CHECK(hibitset_equals(&sets[i], &other) && hibitset_len(&sets[i]) == 1);
+        hibitset_free(&sets[i]);
+    }
     hibitset_free(&other);
+}
+
+static void empty_sets(void) {
+    static hibitset_t stays, stays_too = HIBITSET_INIT;
+    hibitset_t *block = calloc(1, sizeof *block);
+    int way, other_way;
+    CHECK(block != NULL);
+    for (way = 0; way < EMPTY_SETS; way++) {
+        first_calls(way);
+        for (other_way = 0; other_way < EMPTY_SETS; other_way++) {
+            hibitset_t set = empty_set(way), other = empty_set(other_way);
+            check_empty(&set, &other);
+        }
+    }
+    check_empty(&stays, block);
+    check_empty(&stays_too, &stays);
+    check_empty(block, &stays);
+    free(block);
+}
+
+/* ---- Texts and the version ---- */
+
+static void texts(void) {
+    int number, other;
+    for (number = HIBITSET_OK; number <= HIBITSET_MALFORMED; number++) {
+        CHECK(strcmp(hibitset_status_text((hibitset_status)number), "no status of hibitset") != 0);
+        for (other = HIBITSET_OK; other < number; other++) {
+            CHECK(strcmp(hibitset_status_text((hibitset_status)number), hibitset_status_text((hibitset_status)other)) != 0);
+        }
+    }
+    for (number = HIBITSET_FAULT_TOO_SHORT; number <= HIBITSET_FAULT_RUN_PAST_END; number++) {
+        CHECK(strcmp(hibitset_fault_text((hibitset_fault)number), "no fault of hibitset") != 0);
+        for (other = HIBITSET_FAULT_TOO_SHORT; other < number; other++) {
+            CHECK(strcmp(hibitset_fault_text((hibitset_fault)number), hibitset_fault_text((hibitset_fault)other)) != 0);
+        }
+    }
+    CHECK(strcmp(hibitset_status_text((hibitset_status)99), "no status of hibitset") == 0);
+    CHECK(strcmp(hibitset_fault_text((hibitset_fault)0), "no fault of hibitset") == 0);
+    CHECK(strcmp(hibitset_status_text(HIBITSET_NO_MEMORY), "an allocation failed") == 0);
+    CHECK(strcmp(hibitset_fault_text(HIBITSET_FAULT_BAD_COOKIE), "the first number begins no stream") == 0);
+}
+
+static void version(void) {
+    char text[32];
+    sprintf(text, "%d.%d.%d", HIBITSET_VERSION_MAJOR, HIBITSET_VERSION_MINOR, HIBITSET_VERSION_PATCH);
+    CHECK(strcmp(text, HIBITSET_VERSION) == 0 && strcmp(hibitset_version(), HIBITSET_VERSION) == 0 && hibitset_abi_0 == 0);
 }
 
 /* NULL is a buffer of length 0, also where there are members. */
 static void null_buffers(void) {
     hibitset_t set = hibitset_new();
+    uint32_t index = 7;
+    uint8_t found = 7;
     size_t added = 7;
     CHECK(hibitset_add_range(&set, 5, 5000) == HIBITSET_OK);
     CHECK(hibitset_next_many(&set, 0, NULL, 0) == 0 && hibitset_not_next_many(&set, 0, NULL, 0) == 0);
     CHECK(hibitset_prev_many(&set, HIBITSET_MAX_EID, NULL, 0) == 0);
+    CHECK(hibitset_contains_many(&set, NULL, 0, &found, 1) == 0 && hibitset_contains_many(&set, &index, 1, NULL, 0) == 0);
+    hibitset_copy_words(&set, 0, NULL, 0);
+    CHECK(found == 7);
     CHECK(hibitset_and_next_many(&set, &set, 0, NULL, 0) == 0 && hibitset_or_next_many(&set, &set, 0, NULL, 0) == 0);
     CHECK(hibitset_xor_next_many(&set, &set, 0, NULL, 0) == 0 && hibitset_andnot_next_many(&set, &set, 0, NULL, 0) == 0);
     CHECK(hibitset_add_many(&set, NULL, 0, &added) == HIBITSET_OK && added == 0 && hibitset_len(&set) == 4995);
@@ -372,8 +552,13 @@ static void out_of_range(void) {
 }
 
 static void one_set_twice(void) {
-    hibitset_t set = hibitset_new();
+    hibitset_t set = hibitset_new(), out = hibitset_new();
     CHECK(hibitset_add(&set, 3) == HIBITSET_OK && hibitset_assign(&set, &set) == HIBITSET_OK);
+    CHECK(hibitset_and(&set, &set, &out) == HIBITSET_OK && hibitset_equals(&out, &set));
+    CHECK(hibitset_xor(&set, &set, &out) == HIBITSET_OK && hibitset_is_empty(&out));
+    CHECK(hibitset_or(&set, &set, &out) == HIBITSET_OK && hibitset_equals(&out, &set));
+    CHECK(hibitset_andnot(&set, &set, &out) == HIBITSET_OK && hibitset_is_empty(&out));
+    hibitset_free(&out);
     CHECK(hibitset_or_assign(&set, &set) == HIBITSET_OK);
     hibitset_and_assign(&set, &set);
     CHECK(hibitset_len(&set) == 1 && !hibitset_is_disjoint(&set, &set) && hibitset_or_len(&set, &set) == 1);
@@ -429,6 +614,17 @@ static hibitset_status assign_words(hibitset_t *set, const hibitset_t *other) {
 static hibitset_status or_assign(hibitset_t *set, const hibitset_t *other) { return hibitset_or_assign(set, other); }
 static hibitset_status xor_assign(hibitset_t *set, const hibitset_t *other) { return hibitset_xor_assign(set, other); }
 
+static const hibitset_t *no_members(void) {
+    static hibitset_t none;
+    none = hibitset_new();
+    return &none;
+}
+
+static hibitset_status make_and(hibitset_t *set, const hibitset_t *other) { return hibitset_and(other, other, set); }
+static hibitset_status make_or(hibitset_t *set, const hibitset_t *other) { return hibitset_or(other, no_members(), set); }
+static hibitset_status make_xor(hibitset_t *set, const hibitset_t *other) { return hibitset_xor(other, no_members(), set); }
+static hibitset_status make_andnot(hibitset_t *set, const hibitset_t *other) { return hibitset_andnot(other, no_members(), set); }
+
 /* Makes a call on a set with or without members, the first `met` allocations of which succeed. Returns whether all did. */
 static bool meets(call *made, const hibitset_t *other, bool has_member, long met) {
     hibitset_t set = hibitset_new(), before = hibitset_new();
@@ -452,7 +648,8 @@ static bool meets(call *made, const hibitset_t *other, bool has_member, long met
 }
 
 static void failing_allocations(void) {
-    static call *const calls[] = {add_far, add_two, add_range, flip_range, with_capacity, assign, assign_words, or_assign, xor_assign};
+    static call *const calls[] = {add_far, add_two, add_range, flip_range, with_capacity, assign, assign_words,
+                                  or_assign, xor_assign, make_and, make_or, make_xor, make_andnot};
     hibitset_t other = hibitset_new();
     size_t i;
     int has_member;
@@ -523,6 +720,8 @@ static void many_readers(void) {
 int main(void) {
     random_changes();
     empty_sets();
+    texts();
+    version();
     null_buffers();
     out_of_range();
     one_set_twice();

@@ -3,9 +3,6 @@
 #include "testing.h"
 #include <pthread.h>
 
-typedef char atomic_has_16_bytes[sizeof(hibitset_atomic_t) == 16 && offsetof(hibitset_atomic_t, made_) == 8 ? 1 : -1];
-typedef char seat_has_16_bytes[sizeof(hibitset_seat_t) == 16 && offsetof(hibitset_seat_t, made_) == 8 ? 1 : -1];
-
 /* ---- A set held alone beside its model, a byte for each index below RANGE ---- */
 
 enum { RANGE = 300000 };
@@ -88,8 +85,21 @@ static void random_changes(void) {
     free(model);
 }
 
-static void ends_of_the_range(void) {
-    hibitset_atomic_t set = hibitset_atomic_new();
+/* The ways to have an empty set, or no seat: the function, the macro, bytes that are 0. */
+enum { WAYS = 3 };
+
+static hibitset_atomic_t empty_set(int way) {
+    static const hibitset_atomic_t init = HIBITSET_ATOMIC_INIT, zero;
+    return way == 0 ? hibitset_atomic_new() : way == 1 ? init : zero;
+}
+
+static hibitset_seat_t no_seat(int way) {
+    static const hibitset_seat_t init = HIBITSET_SEAT_INIT, zero;
+    return way == 0 ? hibitset_seat_new() : way == 1 ? init : zero;
+}
+
+static void check_ends(int way) {
+    hibitset_atomic_t set = empty_set(way);
     uint32_t index = 7, buffer[4];
     long before = allocations;
     CHECK(hibitset_atomic_len(&set) == 0 && hibitset_atomic_is_empty(&set) && !hibitset_atomic_contains(&set, 0));
@@ -107,6 +117,11 @@ static void ends_of_the_range(void) {
     hibitset_atomic_free(&set);
 }
 
+static void ends_of_the_range(void) {
+    int way;
+    for (way = 0; way < WAYS; way++) check_ends(way);
+}
+
 /* ---- A shared set on one thread ---- */
 
 static hibitset_seat_t shared(const uint32_t *old, size_t len) {
@@ -119,9 +134,9 @@ static hibitset_seat_t shared(const uint32_t *old, size_t len) {
     return seat;
 }
 
-static void without_a_seat(void) {
-    hibitset_seat_t seat = hibitset_seat_new(), other = hibitset_seat_new();
-    hibitset_atomic_t alone = hibitset_atomic_new();
+static void check_no_seat(int way) {
+    hibitset_seat_t seat = no_seat(way), other = no_seat(way);
+    hibitset_atomic_t alone = empty_set(way);
     hibitset_t set = hibitset_new();
     long before = allocations;
     CHECK(hibitset_seat_add(&seat, 3) == HIBITSET_NO_SEAT && hibitset_seat_add(&seat, UINT32_MAX) == HIBITSET_NO_SEAT);
@@ -129,7 +144,17 @@ static void without_a_seat(void) {
     CHECK(hibitset_seat_divide(&seat, &other) == HIBITSET_NO_SEAT && hibitset_seat_collect(&seat, &set) == HIBITSET_NO_SEAT);
     CHECK(hibitset_seat_settle(&seat, &alone) == HIBITSET_NO_SEAT && hibitset_failed(HIBITSET_NO_SEAT));
     hibitset_seat_free(&seat);
+    hibitset_atomic_free(&alone);
     CHECK(allocations == before);
+    CHECK(hibitset_atomic_share(&alone, &seat) == HIBITSET_OK && hibitset_seat_divide(&seat, &other) == HIBITSET_OK);
+    hibitset_seat_free(&other);
+    CHECK(hibitset_seat_settle(&seat, &alone) == HIBITSET_OK && hibitset_atomic_is_empty(&alone));
+    hibitset_atomic_free(&alone);
+}
+
+static void without_a_seat(void) {
+    int way;
+    for (way = 0; way < WAYS; way++) check_no_seat(way);
 }
 
 static void on_one_thread(void) {

@@ -1,8 +1,6 @@
 /* Tests of the functions on streams. They end with status 0, or say which line failed. */
 #include "testing.h"
 
-typedef char fault_has_4_bytes[sizeof(hibitset_fault) == 4 ? 1 : -1];
-
 /* ---- Streams that are written ---- */
 
 /* The stream of a set, in a block of its size, after all buffers that are too short were refused. */
@@ -26,7 +24,8 @@ static uint8_t *stream_of(const hibitset_t *set, size_t *len) {
 /* A set is written, and read in the place of another one. */
 static void check_round_trip(const hibitset_t *set) {
     hibitset_t copy = hibitset_new();
-    uint32_t fault = 7, last = 0;
+    hibitset_fault fault = (hibitset_fault)7;
+    uint32_t last = 0;
     size_t len, at = 7;
     uint8_t *bytes = stream_of(set, &len);
     CHECK(hibitset_add(&copy, 12345) == HIBITSET_OK);
@@ -75,7 +74,7 @@ static const uint8_t two_runs[] = {0x3b, 0x30, 0, 0, 1, 0, 0, 3, 0, 2, 0, 0, 0, 
 
 static void check_list(const uint8_t *bytes, size_t len, const uint32_t *list, size_t members) {
     hibitset_t set = hibitset_new();
-    uint32_t fault;
+    hibitset_fault fault;
     size_t at, i;
     CHECK(hibitset_roaring_read(&set, bytes, len, &fault, &at) == HIBITSET_OK && hibitset_len(&set) == members);
     for (i = 0; i < members; i++) CHECK(hibitset_contains(&set, list[i]));
@@ -104,7 +103,7 @@ static void streams_of_another_library(void) {
 /* Reads bytes into a set of one member, and sees that they are refused for this fault, at this position. */
 static void check_refused(const uint8_t *bytes, size_t len, uint32_t wanted, size_t position) {
     hibitset_t set = hibitset_new();
-    uint32_t fault = 0;
+    hibitset_fault fault = (hibitset_fault)0;
     size_t at = SIZE_MAX;
     CHECK(hibitset_add(&set, 12345) == HIBITSET_OK);
     CHECK(hibitset_roaring_read(&set, bytes, len, &fault, &at) == HIBITSET_MALFORMED);
@@ -164,7 +163,7 @@ static void malformed(void) {
 
 static void bounds(void) {
     hibitset_t set = hibitset_new();
-    uint32_t fault;
+    hibitset_fault fault;
     size_t at;
     CHECK(hibitset_roaring_read_below(&set, arrays, sizeof arrays, 1, &fault, &at) == HIBITSET_MALFORMED);
     CHECK(fault == HIBITSET_FAULT_KEY_OUT_OF_RANGE && at == 12 && hibitset_is_empty(&set));
@@ -181,7 +180,7 @@ static void bounds(void) {
 /* Reads a stream into a set with or without members, the first `met` allocations of which succeed. Returns whether all did. */
 static bool read_meets(bool has_member, long met) {
     hibitset_t set = hibitset_new();
-    uint32_t fault = 7;
+    hibitset_fault fault = (hibitset_fault)7;
     size_t at = 7;
     hibitset_status status;
     if (has_member) CHECK(hibitset_add(&set, 5) == HIBITSET_OK);
@@ -217,7 +216,7 @@ static bool write_meets(const hibitset_t *set, long met) {
 
 static void failing_allocations(void) {
     hibitset_t set = hibitset_new();
-    uint32_t fault;
+    hibitset_fault fault;
     size_t at;
     long met;
     for (met = 0; !read_meets(false, met); met++) CHECK(met < 6);

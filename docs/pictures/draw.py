@@ -1,14 +1,16 @@
 #!/usr/bin/env python3
-"""draw.py: draws layers.svg and ratios.svg into its own folder; ratios.svg is read off the results in bench/RESULTS.md.
+"""draw.py [FOLDER]: draws layers.svg and ratios.svg into its own folder or this one; ratios.svg is read off bench/RESULTS.md.
 
 layers.svg: the words of a set of four members, and the order in which a walk reads them.
 ratios.svg: the time of each row of the results, as part of the original's, a dot each.
 """
 import pathlib
-import re
+import sys
 
 HERE = pathlib.Path(__file__).resolve().parent
-RESULTS = HERE.parent.parent / "bench" / "RESULTS.md"
+sys.path.insert(0, str(HERE.parent.parent / "bench"))
+
+from results import RESULTS, ratio_of, rows_of  # noqa: E402 (its folder is named above)
 
 BITS = 64
 LAYERS = 5
@@ -63,7 +65,7 @@ def read_order(layers, layer=LAYERS - 1, position=0):
             yield from read_order(layers, layer - 1, position * BITS + bit)
 
 
-def draw_layers():
+def draw_layers(folder):
     width, tick, word_height, row_height, top = 940, 3, 22, 92, 80
     word_width = BITS * tick
     layers = words_of(MEMBERS)
@@ -101,28 +103,20 @@ def draw_layers():
     for layer in range(LAYERS):
         drawing.text(16, top + (LAYERS - 1 - layer) * row_height + 15, f"layer {layer}", 13, bold=True)
     drawing.text(left, under + 24, "Under each bit of layer 0 stands the member that it is for.", 12, fill=GREEN)
-    drawing.write(HERE / "layers.svg")
+    drawing.write(folder / "layers.svg")
 
 
-def results():
-    """The parts of the table of sets, each with the ratios of its rows."""
-    parts, held = [], False
-    for line in RESULTS.read_text().splitlines():
-        held = (held or line == "<!-- results -->") and not line.startswith("Values by index")
-        cells = [cell.strip() for cell in re.split(r"(?<!\\)\|", line)[1:-1]]
-        if not held or len(cells) < 5:
-            continue
-        heading = re.fullmatch(r"\*\*(.*?) \(.*\)\*\*", cells[0])
-        ratio = re.fullmatch(r"(-?[\d.]+)( \*)?", cells[3])
-        if heading:
-            parts.append((heading[1], []))
-        elif ratio and parts:
-            parts[-1][1].append(float(ratio[1]))
-    return [part for part in parts if part[1]]
+def ratios_by_part():
+    """The parts of the table of sets, each with the ratios of its rows; those of columns of values are left out."""
+    parts, sets = {}, RESULTS.read_text(encoding="utf-8").split("\nValues by index")[0] + "\n<!-- end of results -->\n"
+    for row in rows_of("results", sets):
+        if ratio_of(row) is not None:
+            parts.setdefault(row.part, []).append(ratio_of(row))
+    return list(parts.items())
 
 
-def draw_ratios():
-    parts = results()
+def draw_ratios(folder):
+    parts = ratios_by_part()
     width, left, right, top, row = 760, 330, 24, 70, 24
     drawing = Drawing(width, top + row * len(parts) + 40, "Time beside the original")
     drawing.text(16, 24, "Time as part of the original's, a dot for each row of the benchmark", 14, bold=True)
@@ -144,9 +138,10 @@ def draw_ratios():
                 drawing.text(across(ratio) - 8, y + 4, f"{ratio:.1f}", 11, "end", BLUE)
         median = across(sorted(ratios)[len(ratios) // 2])
         drawing.rect(median - 1.5, y - 9, 3, 18, GREEN)
-    drawing.write(HERE / "ratios.svg")
+    drawing.write(folder / "ratios.svg")
 
 
 if __name__ == "__main__":
-    draw_layers()
-    draw_ratios()
+    into = pathlib.Path(sys.argv[1]) if sys.argv[1:] else HERE
+    draw_layers(into)
+    draw_ratios(into)

@@ -57,6 +57,12 @@ def path(source, at, crates):
         source.put(at, ELSEWHERE[name], "path")
 
 
+def link(source, at):
+    """A path of this crate that documentation links to."""
+    if "](crate::" in source.text(at):
+        source.put(at, source.text(at).replace("](crate::", f"]({DERIVED}{source.name.split('/')[0]}::"), "path")
+
+
 def renamed(source, at):
     if source.text(at) in RENAMED:
         source.put(at, RENAMED[source.text(at)], "name")

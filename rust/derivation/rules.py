@@ -42,6 +42,8 @@ class Rules:
                 at = self.word(at)
             elif source.tokens[at].kind == "sign":
                 at = self.sign(at)
+            elif source.tokens[at].kind == "comment":
+                naming.link(source, at)
             at += 1
         return laid_out("".join(source.out)), source.counts
 

@@ -60,6 +60,9 @@ compile_error!("the words of a set have 64 bits, as `usize` must have: its sourc
 #[macro_use]
 mod support;
 mod beside;
+// Its text is that of the sources. Proofs name loops (`unused_labels`), and clauses use names and parameters that no code
+// does (`dead_code`, `unused_imports`, `unused_variables`). Where the prover excludes a case, an empty array is indexed
+// (`unconditional_panic`). rustc 1.85 does not know the lint of lifetimes (`unknown_lints`).
 #[rustfmt::skip]
 #[allow(unknown_lints, dead_code, missing_docs, unused_imports, unused_labels, unused_variables, mismatched_lifetime_syntaxes, unconditional_panic, clippy::all)]
 mod derived;

@@ -1,8 +1,9 @@
 //! Sets made of the items of an iterator, or extended by them, and sets made of words.
 #![tactic(auto, unfolding(crate::specs::BitSet::has, crate::specs::BitSet::word_of, crate::specs::Layers::room_for))]
 
-ghost use Rattle.std.specs.Prelude.{◌≡◌, ℕ, ◌-◌, ◌*◌, ◌/◌, ◌^◌, ◌<◌, ◌≤◌, ◌||◌, Bool, false, [], get_or, length, slice_index_or, vec_capacity, OnOk, OnErr, IfOk, IfErr, IsOk};
+ghost use Rattle.std.specs.Prelude.{◌≡◌, ℕ, ◌-◌, ◌*◌, ◌/◌, ◌^◌, ◌<◌, ◌≤◌, ◌||◌, ◌↔◌, Bool, true, false, [], get_or, length, take, Contains, slice_index_or, vec_capacity, OnOk, OnErr, IfOk, IfErr, IsOk};
 ghost use Rattle.std.specs.Iterator.{IsFiniteIterable};
+ghost use Rattle.hibitset_base.specs.Slices.{AddsList, place_of, InRangeBefore, IsWhy, LacksRoom, LiesApartIn};
 ghost use Rattle.hibitset_base.specs.Words.{SummariesExactEverywhere, word_at};
 ghost use Rattle.hibitset_base.specs.declared.util.TheConstants.{LAYERS, MAX_EID};
 ghost use Rattle.hibitset.specs.BitSet.{has, word_of, slice_len};
@@ -118,6 +119,53 @@ impl BitSet {
             iter) }
     {
         build::from_index_refs(BitSet::new(alloc), iter)
+    }
+
+    /// Adds the indices of a slice, each of which is to be below `MAX_EID`.
+    ///
+    /// It stops at the first that is not, and if an allocation fails: then the set has its old members and the indices
+    /// before that one. The error has its place. An allocation can fail only for an index whose word lies past
+    /// `layer0_as_slice`, and no slice grows longer than the members need.
+    pub fn extend_from_slice(&mut self, indices: &[Index]) -> Result<(), BuildError>
+        ensures added { OnOk result (AddsList (has self.old) (has self.new) indices.now) }
+        ensures in_range { OnOk result (InRangeBefore MAX_EID indices.now (length indices.now)) }
+        ensures added_before { IfErr result (λ error. AddsList (has self.old) (has self.new)
+            (take (place_of error) indices.now)) }
+        ensures place { IfErr result (λ error. place_of error < length indices.now) }
+        ensures in_range_before { IfErr result (λ error. InRangeBefore MAX_EID indices.now
+            (place_of error)) }
+        ensures why { IfErr result (IsWhy MAX_EID indices.now) }
+        ensures lacks_room { IfErr result (LacksRoom (λ i. slice_len self.new 0 ≤ i / 64)
+            indices.now) }
+        ensures len_min { slice_len self.old 0 ≤ slice_len self.new 0 }
+        ensures len_max { (end : ℕ) → slice_len self.old 0 ≤ end → MembersEndBy (has self.new) end
+            → slice_len self.new 0 ≤ end }
+        ensures upper_len_max { (l end : ℕ) → l < LAYERS - 1 → slice_len self.old l ≤ end
+            → MembersEndBy (has self.new) (64 ^ l * end) → slice_len self.new l ≤ end }
+    {
+        build::extend_from_slice(self, indices)
+    }
+
+    /// A set of the indices of a slice, each of which is to be below `MAX_EID`.
+    ///
+    /// It stops at the first that is not, and if an allocation fails; the error has its place. An allocation can fail
+    /// only for an index whose word lies past those of all indices before it.
+    pub fn from_slice(alloc: Global, indices: &[Index]) -> Result<BitSet, BuildError>
+        ensures members { IfOk result (λ set. (i : ℕ)
+            → (has set i ≡ true) ↔ Contains indices.now i) }
+        ensures in_range { IfOk result (λ _. InRangeBefore MAX_EID indices.now
+            (length indices.now)) }
+        ensures len_max { IfOk result (λ set. (end : ℕ) → MembersEndBy (has set) end
+            → slice_len set 0 ≤ end) }
+        ensures upper_len_max { IfOk result (λ set. (l end : ℕ) → l < LAYERS - 1
+            → MembersEndBy (has set) (64 ^ l * end) → slice_len set l ≤ end) }
+        ensures place { IfErr result (λ error. place_of error < length indices.now) }
+        ensures in_range_before { IfErr result (λ error. InRangeBefore MAX_EID indices.now
+            (place_of error)) }
+        ensures why { IfErr result (IsWhy MAX_EID indices.now) }
+        ensures apart { IfErr result (LiesApartIn (λ i j. i / 64 < j / 64) indices.now) }
+    {
+        build::from_slice(BitSet::new(alloc), indices)
     }
 
     /// The set whose words of layer 0 are these, at most as many as that layer may have: index `64 * p + b` is a member

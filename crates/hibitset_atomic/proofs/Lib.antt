@@ -12,6 +12,7 @@ pub mod CallerStepLemmas
 pub mod RowLemmas
 pub mod LoadLemmas
 pub mod LevelLemmas
+pub mod SparedLemmas
 pub mod SharedWalkLemmas
 pub mod SharedStepLemmas
 pub mod SpanLemmas

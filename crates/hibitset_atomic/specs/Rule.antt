@@ -10,6 +10,7 @@ use lib.ListN.{get_elem?}
 use Rattle.atomic_table.specs.Table.{State, Step, Me}
 use Rattle.hibitset_atomic.specs.declared.shared.view.View.{View}
 use Rattle.hibitset_atomic.specs.Lists.{Has, Distinct, Apart, below, Each, Pairs}
+use Rattle.hibitset_atomic.specs.Levels.{ShareBit}
 use Rattle.hibitset_atomic.specs.declared.shared.layout.TheConstants.{SHARES, ROW_WORDS}
 use Rattle.hibitset_atomic.specs.declared.atomic.TheConstants.{ATOMIC_MAX_EID}
 
@@ -160,3 +161,11 @@ Grew v w = (w.1 ≡ v.1) × (w.0.old ≡ v.0.old) × (w.0.shares ≡ v.0.shares)
 -- at some moment the mark was clear, while all that the seat had seen was set, and the paths of all old indices
 abbrev pub Gap : View → ℕ → Type 0
 Gap v mark = (words : List ℕ) × ¬ IsSet words mark × Sees words v × OldPathsSet v.old words
+
+-- the index was there when the set was shared, or the seat knows it
+abbrev pub IsOldOrKnownTo : View → ℕ → Type 0
+IsOldOrKnownTo v i = (i < ATOMIC_MAX_EID) × (IsSet v.old i ⊎ Knows v i)
+
+-- between two steps of one seat, no exchange was made if an old or known index has the bit of this one in the layer
+unfoldable pub SparesSharedBit : ℕ → ℕ → View → View → Type 0
+SparesSharedBit layer id v w = (i : ℕ) → IsOldOrKnownTo v i → ShareBit layer i id → w.exchanges ≡ v.exchanges

@@ -15,7 +15,7 @@ ghost use Rattle.hibitset_atomic.specs.Row.{word_in_row};
 ghost use Rattle.hibitset_base.specs.Words.{SummariesExactEverywhere};
 ghost use Rattle.hibitset_atomic.specs.declared.layers.TheConstants.{ATOMIC_LAYERS};
 ghost use Rattle.hibitset_atomic.specs.declared.atomic.TheConstants.{ATOMIC_MAX_EID};
-ghost use Rattle.hibitset_atomic.specs.Seats.{IsOld, BelongsTo, IsKnown, weight_of, reports_of, loads_by, exchanges_by, HasAllReports};
+ghost use Rattle.hibitset_atomic.specs.Seats.{IsOld, BelongsTo, IsKnown, weight_of, reports_of, loads_by, exchanges_by, SparesSharedBits, HasAllReports};
 ghost use Rattle.hibitset_atomic.specs.declared.shared.layout.TheConstants.{SHARES, LAYER1_START, ROW_WORDS};
 
 use crate::atomic::{ATOMIC_MAX_EID, AtomicBitSet};
@@ -131,7 +131,9 @@ impl SharedBitSet {
     ///
     /// It reads those four bits first, and where they stand, as for an index that is old or known to the seat, it
     /// writes nothing and returns true. Else it exchanges in layer 0, and above it, from the lowest up, in each layer
-    /// whose bit is still clear: seven loads and four exchanges at most. It does not allocate and waits for nobody.
+    /// whose bit is still clear, so that adders whose indices lie under one word do not contend for it: seven loads and
+    /// four exchanges at most. Where an old or known index has the same bit in some layer, it exchanges in the layers
+    /// below that one alone. It does not allocate and waits for nobody.
     #[inline]
     pub fn add_atomic(&self, seat: &mut Seat, id: Index) -> bool
         requires id { id < ATOMIC_MAX_EID }
@@ -147,6 +149,7 @@ impl SharedBitSet {
         ensures still { IsOld self.now id ⊎ IsKnown seat.old id
             → (loads_by seat.new ≤ loads_by seat.old + ATOMIC_LAYERS)
             × (exchanges_by seat.new ≡ exchanges_by seat.old) }
+        ensures spared { SparesSharedBits self.now seat.old seat.new id }
     {
         if self.contains(seat, id) {
             return true;
@@ -167,6 +170,7 @@ impl SharedBitSet {
         ensures new { result ≡ false → reports_of seat.new ≡ id ∷ reports_of seat.old }
         ensures loads { loads_by seat.new ≡ loads_by seat.old + (ATOMIC_LAYERS - 1) }
         ensures exchanges { exchanges_by seat.new ≤ exchanges_by seat.old + ATOMIC_LAYERS }
+        ensures spared { SparesSharedBits self.now seat.old seat.new id }
     {
         let there = self.fetch_or_layer0(&mut seat.pass, id);
         self.set_summary(&mut seat.pass, id, 0);
@@ -270,14 +274,15 @@ impl SharedBitSet {
         }
     }
 
-    /// The set held alone again, with exact summaries. It has exactly the indices from before `share` and those that
-    /// some seat of the set reported, this one or another: each that this seat knows or reported is one of them, and
-    /// with a whole seat there are no reports but its own.
+    /// The set held alone again, with exact summaries. It has each index from before `share`, and each that this seat
+    /// knows or reported; with a whole seat, no others.
     ///
-    /// There is room for all its blocks, so no `add` to it needs memory.
+    /// A seat that was dropped took its shares with it, so no seat is whole after that. With a seat that is not whole
+    /// the members are those of some state of all seats that the rule admits beside this one (`all`). That these are
+    /// what the other seats did report is tested, and in no clause.
     ///
-    /// It is refused for memory alone, which it takes first: then both come back unchanged, and it can be called again.
-    /// A seat that was dropped took its shares with it, so no seat is whole after that.
+    /// There is room for all its blocks, so no `add` to it allocates. It allocates before it changes anything: if that
+    /// fails, both come back unchanged, and it can be called again.
     #[tactic(auto, unfolding(crate::specs::Seats::BelongsTo, crate::specs::Seats::IsKnown, crate::specs::Seats::IsOld, crate::specs::Seats::weight_of, crate::specs::Seats::reports_of, crate::specs::Seats::loads_by, crate::specs::Seats::exchanges_by, crate::specs::Seats::HasAllReports, crate::specs::AtomicBitSet::has, crate::specs::AtomicBitSet::word_of, crate::specs::AtomicBitSet::AllBlocksReserved))]
     pub fn settle(self, seat: Seat) -> Result<AtomicBitSet, (SharedBitSet, Seat)>
         requires { BelongsTo self seat }

@@ -1,4 +1,4 @@
--- Returns in slots, and in the order of their parts.
+-- Answers in slots, and in the order of their parts.
 use Rattle.std.proofs.Common.{ℕ, zero, suc, ◌≡◌, ◌∷◌, [], ◌++◌, List, All, drop, refl, ap, sym, ◌∙◌, inl, inr}
 use Rattle.std.specs.Prelude.{◌⊎◌, Option, Some, None}
 use Rattle.std.specs.Borrow.{Bor}

@@ -26,6 +26,7 @@ pub mod PartLemmas
 pub mod RankLemmas
 pub mod RankedLemmas
 pub mod ReadBoundLemmas
+pub mod CoverLemmas
 pub mod SkipLemmas
 pub mod RunLemmas
 pub mod RevPlaceLemmas
@@ -39,6 +40,7 @@ pub mod WholeWalkLemmas
 pub mod SummaryUpdateLemmas
 pub mod MembershipLemmas
 pub mod ErrorLemmas
+pub mod SliceLemmas
 pub mod RangeLemmas
 pub mod RetainLemmas
 pub mod CallerLemmas

@@ -1,7 +1,8 @@
 //! Sets made of the items of an iterator, or extended by them: one text for every set that keeps its words.
-ghost use Rattle.std.specs.Prelude.{◌≡◌, ℕ, ◌<◌, ◌≤◌, ◌==◌, ◌||◌, true, false, Some, OnOk, OnErr, IfOk, IfErr};
+ghost use Rattle.std.specs.Prelude.{◌≡◌, ℕ, ◌<◌, ◌≤◌, ◌==◌, ◌||◌, ◌↔◌, true, false, Some, OnOk, OnErr, IfOk, IfErr, Contains, length, take};
 ghost use Rattle.std.specs.Iterator.{IsFiniteIterable};
 ghost use Rattle.hibitset_base.specs.Extension.{IsRefusalBelow, LiesApart, RefusesBelow, TakesAllBelow, StopsAtRefusedBelow, text_of};
+ghost use Rattle.hibitset_base.specs.Slices.{AddsList, place_of, InRangeBefore, IsWhy, LacksRoom, LiesApartIn};
 
 use crate::like::BitSetLike;
 use crate::util::Index;
@@ -178,4 +179,45 @@ pub fn from_index_refs<'a, T: FallibleInsert, U: IntoIterator<Item = &'a Index>>
 {
     extend_index_refs(&mut set, iter)?;
     Ok(set)
+}
+
+/// Adds the indices of a slice, up to the first that is refused.
+#[doc(hidden)]
+pub fn extend_from_slice<T: FallibleInsert>(
+    set: &mut T,
+    indices: &[Index],
+) -> Result<(), BuildError>
+    ensures added { OnOk result (AddsList (T.holds set.old) (T.holds set.new) indices.now) }
+    ensures in_range { OnOk result (InRangeBefore T.RANGE indices.now (length indices.now)) }
+    ensures added_before { IfErr result (λ error. AddsList (T.holds set.old) (T.holds set.new)
+        (take (place_of error) indices.now)) }
+    ensures place { IfErr result (λ error. place_of error < length indices.now) }
+    ensures in_range_before { IfErr result (λ error. InRangeBefore T.RANGE indices.now
+        (place_of error)) }
+    ensures why { IfErr result (IsWhy T.RANGE indices.now) }
+    ensures lacks_room { IfErr result (LacksRoom (T.needs_allocation set.new) indices.now) }
+    ensures keeps { (j : ℕ) → T.needs_allocation set.new j → T.needs_allocation set.old j }
+    ensures most { (j : ℕ) → T.needs_allocation set.old j
+        → LiesApart T.need_separate_room (T.holds set.new) j → T.needs_allocation set.new j }
+{
+    extend_index_refs(set, indices)
+}
+
+/// A set without members, extended by the indices of a slice.
+#[doc(hidden)]
+pub fn from_slice<T: FallibleInsert>(set: T, indices: &[Index]) -> Result<T, BuildError>
+    requires empty { (i : ℕ) → T.holds set i ≡ false }
+    requires bare { (j : ℕ) → T.needs_allocation set j }
+    ensures members { IfOk result (λ made. (i : ℕ)
+        → (T.holds made i ≡ true) ↔ Contains indices.now i) }
+    ensures in_range { IfOk result (λ _. InRangeBefore T.RANGE indices.now (length indices.now)) }
+    ensures most { IfOk result (λ made. (j : ℕ) → LiesApart T.need_separate_room (T.holds made) j
+        → T.needs_allocation made j) }
+    ensures place { IfErr result (λ error. place_of error < length indices.now) }
+    ensures in_range_before { IfErr result (λ error. InRangeBefore T.RANGE indices.now
+        (place_of error)) }
+    ensures why { IfErr result (IsWhy T.RANGE indices.now) }
+    ensures apart { IfErr result (LiesApartIn T.need_separate_room indices.now) }
+{
+    from_index_refs(set, indices)
 }

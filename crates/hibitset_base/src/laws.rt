@@ -1,5 +1,6 @@
 //! Laws of the virtual sets.
-ghost use Rattle.std.specs.Prelude.{◌≡◌, ℕ};
+ghost use Rattle.std.specs.Prelude.{◌≡◌, ℕ, Bool, bit_and};
+ghost use Rattle.hibitset_base.specs.WordsRead.{CoversWords};
 
 use crate::like::BitSetLike;
 use crate::virt::{BitSetAnd, BitSetNot, BitSetOr};
@@ -27,4 +28,21 @@ pub fn virtual_laws<A: BitSetLike, B: BitSetLike, C: BitSetLike>()
         (record { 0 = a; 1 = record { 0 = b; 1 = c } }) i
         ≡ ⟦<BitSetAnd<BitSetOr<A, B>, BitSetOr<A, C>> as BitSetLike>⟧.holds
         (record { 0 = record { 0 = a; 1 = b }; 1 = record { 0 = a; 1 = c } }) i }
+{}
+
+/// The laws of the words that a set covers. The call does nothing, and its contract says them.
+///
+/// A set with exact summaries covers words if each of their bits is set in its own. By the clause `bound` of `iter` a
+/// walk over words that a set covers reads at most four words for each of its members, and the top. A set covers its own
+/// words (`own`). What it covers it covers still where bits are taken out, on either side of an intersection (`left`,
+/// `right`). So the bound holds of intersections and differences nested at will: of each set that is taken in.
+pub fn cover_laws()
+    ensures own { (n : ℕ) (holds : ℕ → Bool) (own word : ℕ → ℕ → ℕ) → CoversWords n holds own word
+        → CoversWords n holds own own }
+    ensures left { (n : ℕ) (holds : ℕ → Bool) (own word other : ℕ → ℕ → ℕ)
+        → CoversWords n holds own word
+        → CoversWords n holds own (λ l p. bit_and (word l p) (other l p)) }
+    ensures right { (n : ℕ) (holds : ℕ → Bool) (own word other : ℕ → ℕ → ℕ)
+        → CoversWords n holds own word
+        → CoversWords n holds own (λ l p. bit_and (other l p) (word l p)) }
 {}

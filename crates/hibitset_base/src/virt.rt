@@ -258,6 +258,9 @@ impl<A: BitSetLike, B: BitSetLike> BitSetLike for BitSetXor<A, B> {
 
 /// The complement of a set: the indices that are not in it. It has every index from `MAX_EID` on that its operand
 /// lacks, but a walk stops below.
+///
+/// Above layer 0 it has every bit, so a walk over it reads all 2^24 words of layer 0. `&` with a set or a
+/// `BitSetRange` bounds the walk.
 #[derive(Debug, Drop)]
 pub struct BitSetNot<A: BitSetLike>(pub A);
 

@@ -1,6 +1,9 @@
 mod BelongsToLemmas
+mod BulkLemmas
+mod CombineLemmas
 mod EmptinessLemmas
 mod HandleLemmas
+mod HashLemmas
 mod KeptHandleLemmas
 mod LengthLemmas
 mod ListLemmas

@@ -34,7 +34,8 @@ module _ (old other : ℕ → Bool) (none : members_below MAX_EID other ≡ []) 
   pub xor_stays : IsSymmetricDifference old (is_member other) old
   xor_stays i = same_differ (old i) (is_member other i) (no_member i)
 
-bit_of_none : (b : ℕ) → (bit_at 0 b == 1) ≡ false
+-- a word that is 0 has no bit
+pub bit_of_none : (b : ℕ) → (bit_at 0 b == 1) ≡ false
 bit_of_none b = grind (arith, nat_tests)
 
 pub no_words : (set : Seen) → NoWordsFrom (word_of set) 0 → members_below MAX_EID (has set) ≡ []

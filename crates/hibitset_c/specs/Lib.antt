@@ -1,6 +1,7 @@
 pub mod Atomic
 pub mod Buffer
 pub mod Handle
+pub mod Hash
 pub mod KeptSet
 pub mod KeptLoan
 pub mod SetLoan

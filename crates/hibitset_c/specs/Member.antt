@@ -35,7 +35,7 @@ DividesTo old (Two first second) = AreHalves old first second
 DividesTo old (Single m) = (weight_of old.seat ≡ 1) × Keeps old m × (reports_of m.seat ≡ reports_of old.seat)
 DividesTo old (NoMemoryToDivide m) = IsSame old m
 
--- The set has exactly the old indices and those that some seat reported; with a whole seat, its own.
+-- What `settle` of hibitset_atomic says of the members, with this seat.
 pub record EndsAs (set : SharedBitSet) (seat : Seat) (members : ℕ → Bool) : Type 0 where
   pub old : (i : ℕ) → IsOld set i → members i ≡ true
   pub known : (i : ℕ) → IsKnown seat i → members i ≡ true

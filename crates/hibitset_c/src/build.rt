@@ -68,7 +68,7 @@ pub extern "C" fn hibitset_assign_words(alloc: Global, set: &mut Set, words: &[u
 /// Makes it a copy of the other set.
 #[tactic(auto, unfolding(crate::specs::Seen::has, crate::specs::Seen::word_of))]
 #[unsafe(no_mangle)]
-pub extern "C" fn hibitset_raw_assign(alloc: Global, set: &mut Set, other: &Seen<'_>) -> u32
+pub extern "C" fn hibitset_internal_assign(alloc: Global, set: &mut Set, other: &Seen<'_>) -> u32
     ensures members { result ≡ OK → (i : ℕ) → has set.new i ≡ other_has other.now i }
     ensures err { result ≢ OK → (i : ℕ) → has set.new i ≡ has set.old i }
     ensures status { (result ≡ OK) ⊎ (result ≡ NO_MEMORY) }

@@ -178,7 +178,7 @@ pub extern "C" fn hibitset_remove_range(set: &mut Set, start: u32, end: u32)
 
 /// Removes the members that the other set lacks.
 #[unsafe(no_mangle)]
-pub extern "C" fn hibitset_raw_and_assign(set: &mut Set, other: &Seen<'_>)
+pub extern "C" fn hibitset_internal_and_assign(set: &mut Set, other: &Seen<'_>)
     ensures members { IsIntersection (has set.old) (other_has other.now) (has set.new) }
     ensures length { layer0_len set.new ≡ layer0_len set.old }
 {
@@ -191,7 +191,7 @@ pub extern "C" fn hibitset_raw_and_assign(set: &mut Set, other: &Seen<'_>)
 
 /// Removes the members that the other set has.
 #[unsafe(no_mangle)]
-pub extern "C" fn hibitset_raw_andnot_assign(set: &mut Set, other: &Seen<'_>)
+pub extern "C" fn hibitset_internal_andnot_assign(set: &mut Set, other: &Seen<'_>)
     ensures members { IsDifference (has set.old) (other_has other.now) (has set.new) }
     ensures length { layer0_len set.new ≡ layer0_len set.old }
 {
@@ -204,7 +204,7 @@ pub extern "C" fn hibitset_raw_andnot_assign(set: &mut Set, other: &Seen<'_>)
 
 /// Adds the members of the other set.
 #[unsafe(no_mangle)]
-pub extern "C" fn hibitset_raw_or_assign(alloc: Global, set: &mut Set, other: &Seen<'_>) -> u32
+pub extern "C" fn hibitset_internal_or_assign(alloc: Global, set: &mut Set, other: &Seen<'_>) -> u32
     ensures members { result ≡ OK → IsUnion (has set.old) (is_member (other_has other.now))
         (has set.new) }
     ensures err { result ≢ OK → (i : ℕ) → has set.new i ≡ has set.old i }
@@ -234,7 +234,11 @@ pub extern "C" fn hibitset_raw_or_assign(alloc: Global, set: &mut Set, other: &S
 
 /// Adds the members of the other set that this one lacks, and removes those that both have.
 #[unsafe(no_mangle)]
-pub extern "C" fn hibitset_raw_xor_assign(alloc: Global, set: &mut Set, other: &Seen<'_>) -> u32
+pub extern "C" fn hibitset_internal_xor_assign(
+    alloc: Global,
+    set: &mut Set,
+    other: &Seen<'_>,
+) -> u32
     ensures members { result ≡ OK → IsSymmetricDifference (has set.old)
         (is_member (other_has other.now)) (has set.new) }
     ensures err { result ≢ OK → (i : ℕ) → has set.new i ≡ has set.old i }

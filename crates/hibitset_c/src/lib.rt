@@ -16,11 +16,14 @@
 pub mod atomic;
 pub mod atomic_set;
 pub mod build;
+pub mod bulk;
 pub mod change;
 mod collect;
+pub mod combine;
 pub mod fault;
 mod fill;
 pub mod handle;
+pub mod hash;
 pub mod held_seat;
 pub mod kept;
 pub mod kept_handle;

@@ -5,6 +5,7 @@ ghost use Rattle.std.specs.Prelude.{◌≡◌, ℕ, ◌-◌, ◌^◌, ◌≤◌,
 ghost use Rattle.hibitset_base.specs.Words.{SummariesExactEverywhere, word_at};
 ghost use Rattle.hibitset_base.specs.declared.util.TheConstants.{LAYERS};
 ghost use Rattle.hibitset.specs.Layers.{piled, IsFitted};
+ghost use Rattle.hibitset.specs.Merge.{AreWords};
 
 use hibitset::{BitSetLike, Index};
 
@@ -27,6 +28,12 @@ pub struct Seen<'a> {
     ghost summed: { SummariesExactEverywhere LAYERS
         (word_at (piled layer0.now layer1.now layer2.now layer3.now top)) },
 }
+
+// Does nothing: that the items of a slice are words is what its type says.
+#[inline]
+pub(crate) fn are_words(words: &[usize])
+    ensures { AreWords (λ p. get_or words.now p 0) }
+{}
 
 // The word at a position, 0 past the end.
 #[inline]

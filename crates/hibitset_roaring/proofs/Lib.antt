@@ -8,6 +8,7 @@ pub mod ContainerLemmas
 pub mod PartLemmas
 pub mod HeaderLemmas
 pub mod FrameLemmas
+pub mod NumberLemmas
 pub mod WordLemmas
 pub mod SlotLemmas
 pub mod SummaryLemmas

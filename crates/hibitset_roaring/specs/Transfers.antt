@@ -1,7 +1,9 @@
 -- What is read from a reader and written to a writer, where its bytes are known.
-use Rattle.std.specs.Prelude.{◌≡◌, ℕ, ◌+◌, ◌*◌, ◌<◌, ◌≤◌, ⊤, List, ◌++◌, length, IfSome}
+use Rattle.std.specs.Prelude.{◌≡◌, ◌≢◌, ℕ, ◌+◌, ◌*◌, ◌<◌, ◌≤◌, ⊤, List, ◌++◌, length, IfSome}
 use Rattle.std.specs.declared.option.Option.{Option}
+use Rattle.std.specs.declared.io.ErrorKind.TheVariants.{Interrupted}
 use Rattle.std.specs.Io.KnownBytes.{Appends, Consumes}
+use Rattle.std.specs.IoError.{error_kind}
 use Rattle.hibitset_roaring.specs.Faults.{IsFault}
 use Rattle.hibitset_roaring.specs.declared.error.ReadError.{ReadError}
 use Rattle.hibitset_roaring.specs.declared.error.ReadError.TheVariants as errors
@@ -24,7 +26,7 @@ abbrev pub from_read : ReadError → ReadFromError
 from_read errors.Memory = from.Memory
 from_read (errors.Malformed m) = from.Malformed m
 
--- The reader or an allocation failed, which may be at any time.
+-- The error is `Io` or `Memory`, which may come at any time.
 abbrev pub IsOutside : ReadFromError → Type 0
 IsOutside (from.Io e) = ⊤
 IsOutside from.Memory = ⊤
@@ -38,6 +40,13 @@ IsFromReason bytes end (from.Io e) = ⊤
 IsFromReason bytes end from.Memory = ⊤
 IsFromReason bytes end from.TooLong = longest_below end < length bytes
 IsFromReason bytes end (from.Malformed m) = IsFault bytes end m.fault m.at
+
+-- No interruption is handed on.
+abbrev pub IsRetried : ReadFromError → Type 0
+IsRetried (from.Io e) = error_kind e ≢ Interrupted
+IsRetried from.Memory = ⊤
+IsRetried from.TooLong = ⊤
+IsRetried (from.Malformed m) = ⊤
 
 -- why not all bytes of a reader were read
 abbrev pub IsInputReason : Option (List ℕ) → ℕ → ReadFromError → Type 0

@@ -33,15 +33,10 @@ pub(crate) fn read_u64(bytes: &[u8], at: usize) -> usize
     requires { at + 8 ≤ length bytes.now }
     ensures { result ≡ u64_at bytes.now at }
 {
+    // One look at the length serves all eight bytes.
+    let bytes = &bytes[at..at + 8];
     usize::from_le_bytes([
-        bytes[at],
-        bytes[at + 1],
-        bytes[at + 2],
-        bytes[at + 3],
-        bytes[at + 4],
-        bytes[at + 5],
-        bytes[at + 6],
-        bytes[at + 7],
+        bytes[0], bytes[1], bytes[2], bytes[3], bytes[4], bytes[5], bytes[6], bytes[7],
     ])
 }
 
@@ -88,6 +83,8 @@ pub(crate) fn put_u64(out: &mut [u8], at: usize, number: usize)
     ensures here { u64_at out.new at ≡ number }
     ensures before { SameBefore at out.old out.new }
 {
-    put_u32(out, at, number % 4294967296);
-    put_u32(out, at + 4, number / 4294967296);
+    // One look at the length serves all eight bytes.
+    let place = &mut out[at..at + 8];
+    put_u32(place, 0, number % 4294967296);
+    put_u32(place, 4, number / 4294967296);
 }

@@ -4,7 +4,7 @@ use Rattle.std.specs.Prelude.{Some, None, IfSome}
 use Rattle.std.specs.declared.option.Option.{Option}
 use Rattle.std.specs.Bool.{MatchBool}
 use Rattle.std.specs.Str.{bytes_eq}
-use Rattle.std.specs.Io.KnownBytes.{Keeps}
+use Rattle.std.specs.Io.KnownBytes.{IsAtEnd, Keeps}
 use Rattle.hibitset_run.specs.declared.script.text.Ended.{Ended}
 use Rattle.hibitset_run.specs.declared.script.text.Ended.TheVariants.{Done, BadLine, NoMemory, InputFailed, OutputFailed}
 use Rattle.hibitset_run.specs.declared.script.Slot.{Slot}
@@ -17,7 +17,7 @@ use Rattle.hibitset_run.specs.Script as script
 use Rattle.hibitset_run.specs.Store as store
 use Rattle.hibitset_run.specs.Text.{IsLine, IsFirstBad, Say, printed, lines_of, reply_text}
 use Rattle.hibitset_run.specs.ScriptParser.{IsReadFault, IsLineFault, IsPrintFault, WritesFront}
-use Rattle.hibitset_run.specs.Program.{Ends, StoreEnds, EndsScript, IsOutput, IsStoreOutput, WritesPart, is_store}
+use Rattle.hibitset_run.specs.Program.{Ends, StoreEnds, EndsScript, EndsText, ReadsAll, IsOutput, IsStoreOutput, WritesPart, is_store}
 use Rattle.hibitset_run.specs.StoreText as store_text
 use Rattle.hibitset_run.specs.ScriptParser.{IsCut}
 use Rattle.hibitset_run.proofs.TextLemmas.{cut_lines}
@@ -96,32 +96,55 @@ either_way : (b : Bool) (X Y : Type 0) → X → Y → MatchBool b X Y
 either_way true X Y x y = x
 either_way false X Y x y = y
 
-read_keeps : (lines : List (List ℕ)) (e : Ended) (o : Option (List ℕ)) → IsReadFault e → Ends lines e o o
-read_keeps lines Done o h = absurd h
-read_keeps lines (BadLine n) o h = absurd h
-read_keeps lines NoMemory o h = inl (keeps_same o)
-read_keeps lines InputFailed o h = keeps_same o
-read_keeps lines OutputFailed o h = absurd h
+memory_ends : (lines : List (List ℕ)) (o : Option (List ℕ)) → EndsScript lines NoMemory o o
+memory_ends [] o = no_memory_ends [] o
+memory_ends (line ∷ lines) o = either_way (bytes_eq line (codes "store")) (StoreEnds lines NoMemory o o) (Ends (line ∷ lines) NoMemory o o) (store_no_memory_ends lines o) (no_memory_ends (line ∷ lines) o)
 
-store_read_keeps : (lines : List (List ℕ)) (e : Ended) (o : Option (List ℕ)) → IsReadFault e → StoreEnds lines e o o
-store_read_keeps lines Done o h = absurd h
-store_read_keeps lines (BadLine n) o h = absurd h
-store_read_keeps lines NoMemory o h = inl (keeps_same o)
-store_read_keeps lines InputFailed o h = keeps_same o
-store_read_keeps lines OutputFailed o h = absurd h
-
-read_ends : (lines : List (List ℕ)) (e : Ended) (o : Option (List ℕ)) → IsReadFault e → EndsScript lines e o o
-read_ends [] e o h = read_keeps [] e o h
-read_ends (line ∷ lines) e o h = either_way (bytes_eq line (codes "store")) (StoreEnds lines e o o) (Ends (line ∷ lines) e o o) (store_read_keeps lines e o h) (read_keeps (line ∷ lines) e o h)
+-- what ends before the lines are run
+read_ends : (lines : List (List ℕ)) (e : Ended) (o : Option (List ℕ)) → IsReadFault e → EndsText lines e o o
+read_ends lines Done o h = absurd h
+read_ends lines (BadLine n) o h = absurd h
+read_ends lines NoMemory o h = memory_ends lines o
+read_ends lines InputFailed o h = keeps_same o
+read_ends lines OutputFailed o h = absurd h
 
 -- whatever was left to be read
-pub unread : (left : Option (List ℕ)) (e : Ended) (o : Option (List ℕ)) → IsReadFault e → IfSome left (λ input. EndsScript (lines_of input) e o o)
+pub unread : (left : Option (List ℕ)) (e : Ended) (o : Option (List ℕ)) → IsReadFault e → IfSome left (λ input. EndsText (lines_of input) e o o)
 unread None e o h = tt
 unread (Some input) e o h = read_ends (lines_of input) e o h
 
-pub read_all_of : (left : Option (List ℕ)) (input : List ℕ) (e : Ended) (old new : Option (List ℕ)) → IfSome left (λ bytes. input ≡ bytes) → EndsScript (lines_of input) e old new → IfSome left (λ input. EndsScript (lines_of input) e old new)
+neither_way : (b : Bool) (X : Type 0) → MatchBool b ⊥ ⊥ → X
+neither_way true X h = absurd h
+neither_way false X h = absurd h
+
+-- A script that was read ends as a text does.
+script_ends : (lines : List (List ℕ)) (e : Ended) (old new : Option (List ℕ)) → EndsScript lines e old new → EndsText lines e old new
+script_ends lines Done old new h = h
+script_ends lines (BadLine n) old new h = h
+script_ends lines NoMemory old new h = h
+script_ends [] InputFailed old new h = absurd h
+script_ends (line ∷ lines) InputFailed old new h = neither_way (bytes_eq line (codes "store")) (Keeps old new) h
+script_ends lines OutputFailed old new h = h
+
+pub read_all_of : (left : Option (List ℕ)) (input : List ℕ) (e : Ended) (old new : Option (List ℕ)) → IfSome left (λ bytes. input ≡ bytes) → EndsScript (lines_of input) e old new → IfSome left (λ input. EndsText (lines_of input) e old new)
 read_all_of None input e old new same h = tt
-read_all_of (Some bytes) input e old new same h = subst (λ xs. EndsScript (lines_of xs) e old new) same h
+read_all_of (Some bytes) input e old new same h = script_ends (lines_of bytes) e old new (subst (λ xs. EndsScript (lines_of xs) e old new) same h)
+
+-- All was read before the lines were run.
+pub reads_all : (e : Ended) (left : Option (List ℕ)) → IsAtEnd left → ReadsAll e left
+reads_all Done left end = end
+reads_all (BadLine n) left end = end
+reads_all NoMemory left end = tt
+reads_all InputFailed left end = tt
+reads_all OutputFailed left end = end
+
+-- Reading ended before all was read.
+pub reads_some : (e : Ended) (left : Option (List ℕ)) → IsReadFault e → ReadsAll e left
+reads_some Done left h = absurd h
+reads_some (BadLine n) left h = absurd h
+reads_some NoMemory left h = tt
+reads_some InputFailed left h = tt
+reads_some OutputFailed left h = absurd h
 
 -- the first line decides
 pub sets_script : (lines : List (List ℕ)) (e : Ended) (old new : Option (List ℕ)) → is_store lines ≡ false → Ends lines e old new → EndsScript lines e old new

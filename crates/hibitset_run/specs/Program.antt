@@ -1,9 +1,9 @@
 -- What the program writes, and how it ends, as a relation to the lines that it read.
-use Rattle.std.specs.Prelude.{◌≡◌, ◌⊎◌, ℕ, ◌+◌, Bool, false, List, [], ◌∷◌, ◌++◌, None, codes}
+use Rattle.std.specs.Prelude.{◌≡◌, ◌⊎◌, ℕ, ◌+◌, ⊤, Bool, false, List, [], ◌∷◌, ◌++◌, None, codes}
 use Rattle.std.specs.declared.option.Option.{Option}
 use Rattle.std.specs.Bool.{MatchBool}
 use Rattle.std.specs.Str.{bytes_eq}
-use Rattle.std.specs.Io.KnownBytes.{Appends, Keeps}
+use Rattle.std.specs.Io.KnownBytes.{Appends, IsAtEnd, Keeps}
 use Rattle.hibitset_run.specs.declared.script.Slot.{Slot}
 use Rattle.hibitset_run.specs.declared.script.Command.{Command}
 use Rattle.hibitset_run.specs.declared.script.text.Ended.{Ended}
@@ -47,11 +47,12 @@ pub record WritesPart (Output : List ℕ → Type 0) (old new : Option (List ℕ
   pub whole : output ≡ part ++ rest
   pub written : Appends old new part
 
--- How a script of these lines may end, and what the writer holds then beside what it held, where its bytes are known.
+-- How a script of these lines, which were read, may end, and what the writer holds then beside what it held, where its
+-- bytes are known.
 abbrev pub Ends : List (List ℕ) → Ended → Option (List ℕ) → Option (List ℕ) → Type 0
 Ends lines Done old new = (output : List ℕ) × IsOutput lines output × Appends old new output
 Ends lines (BadLine n) old new = IsFirstBad IsLine lines n × Keeps old new
-Ends lines InputFailed old new = Keeps old new
+Ends lines InputFailed old new = ⊥
 Ends lines NoMemory old new = Keeps old new ⊎ WritesPart (IsOutput lines) old new
 Ends lines OutputFailed old new = WritesPart (IsOutput lines) old new
 
@@ -59,7 +60,7 @@ Ends lines OutputFailed old new = WritesPart (IsOutput lines) old new
 abbrev pub StoreEnds : List (List ℕ) → Ended → Option (List ℕ) → Option (List ℕ) → Type 0
 StoreEnds lines Done old new = (output : List ℕ) × IsStoreOutput lines output × Appends old new output
 StoreEnds lines (BadLine n) old new = (k : ℕ) × IsFirstBad store_text.IsLine lines k × (n ≡ 1 + k) × Keeps old new
-StoreEnds lines InputFailed old new = Keeps old new
+StoreEnds lines InputFailed old new = ⊥
 StoreEnds lines NoMemory old new = Keeps old new ⊎ WritesPart (IsStoreOutput lines) old new
 StoreEnds lines OutputFailed old new = WritesPart (IsStoreOutput lines) old new
 
@@ -72,3 +73,19 @@ is_store (line ∷ lines) = bytes_eq line (codes "store")
 abbrev pub EndsScript : List (List ℕ) → Ended → Option (List ℕ) → Option (List ℕ) → Type 0
 EndsScript [] ended old new = Ends [] ended old new
 EndsScript (line ∷ lines) ended old new = MatchBool (bytes_eq line (codes "store")) (StoreEnds lines ended old new) (Ends (line ∷ lines) ended old new)
+
+-- How a text of these lines may end: a read may fail before the lines are run.
+abbrev pub EndsText : List (List ℕ) → Ended → Option (List ℕ) → Option (List ℕ) → Type 0
+EndsText lines InputFailed old new = Keeps old new
+EndsText lines Done old new = EndsScript lines Done old new
+EndsText lines (BadLine n) old new = EndsScript lines (BadLine n) old new
+EndsText lines NoMemory old new = EndsScript lines NoMemory old new
+EndsText lines OutputFailed old new = EndsScript lines OutputFailed old new
+
+-- The reader is at its end, unless a read or an allocation failed.
+abbrev pub ReadsAll : Ended → Option (List ℕ) → Type 0
+ReadsAll Done left = IsAtEnd left
+ReadsAll (BadLine n) left = IsAtEnd left
+ReadsAll OutputFailed left = IsAtEnd left
+ReadsAll NoMemory left = ⊤
+ReadsAll InputFailed left = ⊤

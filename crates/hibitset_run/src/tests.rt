@@ -4,7 +4,7 @@ mod meeting;
 
 ghost use Rattle.std.specs.Prelude.{Some};
 ghost use Rattle.hibitset_run.specs.Text.{lines_of};
-ghost use Rattle.hibitset_run.specs.Program.{EndsScript};
+ghost use Rattle.hibitset_run.specs.Program.{EndsText};
 
 use crate::script::{Ended, run_text};
 use std::alloc::{AllocError, Global};
@@ -12,7 +12,7 @@ use std::test::Fail;
 
 // Runs a script that lies in memory: how it may end, and what comes behind the output then, is known.
 fn run_in_memory(alloc: Global, script: &str, output: &mut Vec<u8>) -> Ended
-    ensures { EndsScript (lines_of script.now) result (Some output.old.items)
+    ensures { EndsText (lines_of script.now) result (Some output.old.items)
         (Some output.new.items) }
 {
     run_text(alloc, &mut script.as_bytes(), output)

@@ -1,11 +1,10 @@
 -- How many words of each mask a join reads.
-use Rattle.std.proofs.Common.{◌≡◌, ℕ, ◌+◌, ◌-◌, ◌*◌, ◌≤◌, min, bit_and, Bool, List, length, length-append, ap, ◌∙◌, arith}
+use Rattle.std.proofs.Common.{◌≡◌, ℕ, ◌+◌, ◌-◌, ◌*◌, ◌≤◌, min, Bool, List, length, length-append, ap, ◌∙◌, arith}
 use Rattle.std.specs.Option.{is_some}
 use Rattle.std.proofs.Math.Path.{fun_ext}
-use Rattle.std.proofs.lemmas.Nat.Bits.{bit_at_and, bit_at-lt}
 use Rattle.hibitset_base.specs.Members.{members_below}
 use Rattle.hibitset_base.specs.Places.{Place}
-use Rattle.hibitset_base.specs.WordsRead.{CoversWords, AreBoundByMembers}
+use Rattle.hibitset_base.specs.WordsRead.{AreBoundByMembers}
 use Rattle.hibitset_base.specs.Walk.{StepKeeps, words_ahead}
 use Rattle.hibitset_base.specs.declared.iter.BitIter.{BitIter}
 use Rattle.hibitset_base.specs.declared.util.TheConstants.{LAYERS, MAX_EID}
@@ -22,19 +21,6 @@ goes_on word old new step =
 
 pub goes_both : {T : Type 0} (word : T → ℕ → ℕ → ℕ) (old between new : BitIter T) → GoesOnReading word old between → GoesOnReading word between new → GoesOnReading word old new
 goes_both word old between new first second = (omega (arith, first.0, second.0), second.1 ∙ first.1)
-
--- words within those of a set stay so where bits are taken out
-pub encloses-and : {n : ℕ} {p : ℕ → Bool} {a v : ℕ → ℕ → ℕ} (w : ℕ → ℕ → ℕ) → CoversWords n p a v → CoversWords n p a (λ l q. bit_and (v l q) (w l q))
-encloses-and {v = v} w e = record {
-  lawful = e.lawful;
-  exact = e.exact;
-  words = e.words;
-  inside = λ l q b on. e.inside l q b (let both = bit_at_and (v l q) (w l q) b in let small = bit_at-lt (v l q) b in let other = bit_at-lt (w l q) b in omega (arith, both, on, small, other));
-}
-
--- a set's own words are within it
-pub encloses-itself : {n : ℕ} {p : ℕ → Bool} {a v : ℕ → ℕ → ℕ} → CoversWords n p a v → CoversWords n p a a
-encloses-itself e = record { lawful = e.lawful; exact = e.exact; words = e.words; inside = λ l q b on. on }
 
 -- a set with the indices that have a value has as many members as there are keys
 keys-members : {V : Type 0} (m : Map V) (holds : ℕ → Bool) → ((i : ℕ) → holds i ≡ is_some (m i)) → members_below MAX_EID holds ≡ keys_of m

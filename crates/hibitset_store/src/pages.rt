@@ -14,8 +14,9 @@ use std::mem;
 /// How many indices a page has slots for.
 pub const PAGE: usize = 64;
 
-/// Where the slots of a page begin that is not made: past all slots.
-pub const NO_PAGE: u32 = u32::MAX;
+/// Where the slots of a page begin that is not made: past all slots, and such that the place of its last slot is a `u32`
+/// too.
+pub const NO_PAGE: u32 = u32::MAX - 63;
 
 /// How many pages a table has at most that is laid out in order: those of 2^21 indices. With a table eight times as
 /// long, `insert` from empty took twice its time.

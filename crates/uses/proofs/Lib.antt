@@ -1,5 +1,4 @@
 mod BudgetLemmas
-pub mod ListLemmas
 mod FreeRunLemmas
 mod WeightLemmas
 mod WorkerLemmas

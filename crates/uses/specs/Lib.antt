@@ -1,9 +1,9 @@
 pub mod Budget
 pub mod Filter
 pub mod Ids
-pub mod Lists
 pub mod Results
 pub mod Pages
 pub mod Ready
 pub mod Weights
 pub mod Workers
+pub mod Nested

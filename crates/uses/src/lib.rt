@@ -5,6 +5,7 @@ pub mod budget;
 pub mod filter;
 pub mod ids;
 pub mod lists;
+pub mod nested;
 pub mod pages;
 pub mod ready;
 pub mod results;

@@ -8,15 +8,27 @@ use hibitset::laws::atomic_laws;
 use hibitset::{AtomicBitSet, BitSet, Index};
 use std::alloc::{AllocError, Global};
 
-/// A copy with one index more, for which the set has a word: only the copy itself can fail to allocate, and it has as
-/// many words.
+/// Adds an index for which the set has a word, and returns whether it was there. It can't fail, and the set has as many
+/// words as before.
+pub fn add_without_growth(set: &mut BitSet, id: Index) -> bool
+    requires id { id < MAX_EID }
+    requires room { id / 64 < slice_len set.old 0 }
+    ensures was { result ≡ has set.old id }
+    ensures added { (i : ℕ) → has set.new i ≡ (has set.old i || i == id) }
+    ensures length { slice_len set.new 0 ≡ slice_len set.old 0 }
+{
+    set.add(id).unwrap()
+}
+
+/// A copy with one index more, for which the set has a word. The copy has as many words.
 pub fn with_one_more(set: &BitSet, id: Index) -> Result<BitSet, AllocError>
     requires id { id < MAX_EID }
     requires room { id / 64 < slice_len set.now 0 }
     ensures members { IfOk result (λ copy. (i : ℕ) → has copy i ≡ (has set.now i || i == id)) }
+    ensures length { IfOk result (λ copy. slice_len copy 0 ≡ slice_len set.now 0) }
 {
     let mut copy = set.clone()?;
-    copy.add(id).unwrap();
+    add_without_growth(&mut copy, id);
     Ok(copy)
 }
 

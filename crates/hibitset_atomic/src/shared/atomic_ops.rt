@@ -3,7 +3,7 @@ ghost use Rattle.std.specs.Prelude.{◌≡◌, ℕ, ◌+◌, ◌-◌, ◌*◌, �
 ghost use Rattle.std.specs.Int.{bit_at};
 ghost use Rattle.hibitset_atomic.specs.Lists.{Has};
 ghost use Rattle.hibitset_atomic.specs.Levels.{first_mark};
-ghost use Rattle.hibitset_atomic.specs.Rule.{AllReportsKnown, Grew, Gap, Knows, IsSet, LoadAt};
+ghost use Rattle.hibitset_atomic.specs.Rule.{AllReportsKnown, Grew, Gap, Knows, IsSet, LoadAt, SparesSharedBit};
 ghost use Rattle.hibitset_atomic.specs.declared.layers.TheConstants.{ATOMIC_LAYERS};
 ghost use Rattle.hibitset_atomic.specs.declared.atomic.TheConstants.{ATOMIC_MAX_EID};
 ghost use Rattle.hibitset_atomic.specs.declared.shared.layout.TheConstants.{ROW_WORDS};
@@ -97,6 +97,7 @@ impl SharedBitSet {
         ensures mark { Has pass.new.me.0.seen (first_mark (layer + 1) + id / 64 ^ (layer + 1)) }
         ensures counts { (pass.new.me.0.loads ≡ pass.old.me.0.loads + 1)
             × (pass.new.me.0.exchanges ≤ pass.old.me.0.exchanges + 1) }
+        ensures spared { SparesSharedBit (layer + 1) id pass.old.me.0 pass.new.me.0 }
     {
         if !self.load_bit(pass, mark_of(id, layer + 1)) {
             self.fetch_or_summary(pass, id, layer);

@@ -49,6 +49,18 @@ fn building_by_references(rt: HostRuntime) -> Result<(), Fail> {
 }
 
 #[test]
+fn slices(rt: HostRuntime) -> Result<(), Fail> {
+    let mut set = AtomicBitSet::from_slice(rt.alloc(), &[9, 3, 16777215, 3])?;
+    assert_members(&rt, &set, &[3, 9, 16777215])?;
+    set.extend_from_slice(&[70, 3])?;
+    assert_members(&rt, &set, &[3, 9, 70, 16777215])?;
+    assert_stopped(&rt, set.extend_from_slice(&ITEMS), REFUSED);
+    assert_members(&rt, &set, &[3, 9, 70, 16777215])?;
+    assert_refused(&rt, AtomicBitSet::from_slice(rt.alloc(), &ITEMS), REFUSED);
+    Ok(())
+}
+
+#[test]
 fn building_past_the_range(rt: HostRuntime) {
     let made = AtomicBitSet::from_indices(rt.alloc(), [16777216u32].iter().copied());
     let error = BuildError::OutOfRange {

@@ -169,6 +169,20 @@ pub fn add_again(set: &SharedBitSet, seat: &mut Seat, id: Index) -> bool
     set.add_atomic(seat, id)
 }
 
+/// Adds two indices whose bits lie in one word of layer 0. The second exchanges that word at most, so there are five
+/// exchanges at most.
+pub fn add_in_one_word(set: &SharedBitSet, seat: &mut Seat, first: Index, second: Index) -> bool
+    requires came { BelongsTo set.now seat.old }
+    requires first { first < ATOMIC_MAX_EID }
+    requires second { second < ATOMIC_MAX_EID }
+    requires word { first / 64 ≡ second / 64 }
+    ensures came { BelongsTo set.now seat.new }
+    ensures exchanges { exchanges_by seat.new ≤ exchanges_by seat.old + 5 }
+{
+    set.add_atomic(seat, first);
+    set.add_atomic(seat, second)
+}
+
 /// The word of layer 0 at a position past the range, which is 0 in every set.
 pub fn word_past_the_range(set: &AtomicBitSet, position: usize) -> usize
     requires { ATOMIC_MAX_EID / 64 ≤ position }
@@ -197,10 +211,14 @@ fn one_more_after_settling(rt: HostRuntime) -> Result<(), Fail> {
         panic!(rt; "no memory")
     };
     assert!(rt; add_again(&set, &mut seat, 70_000));
+    assert!(rt; !add_in_one_word(&set, &mut seat, 64, 65));
     let Ok(set) = settle_with(set, seat, 5) else {
         panic!(rt; "no memory")
     };
-    assert_eq!(rt; list(rt.alloc(), &set)?.as_slice(), [5, 70_000].as_slice());
+    assert_eq!(rt;
+        list(rt.alloc(), &set)?.as_slice(),
+        [5, 64, 65, 70_000].as_slice()
+    );
     assert!(rt; word_past_the_range(&set, 262_144) == 0);
     Ok(())
 }

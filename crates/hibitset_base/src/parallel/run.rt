@@ -7,7 +7,6 @@ ghost use Rattle.hibitset_base.specs.Folds.{FoldsFrom, FoldsOfParts, Combines, F
 ghost use Rattle.hibitset_base.specs.Parts.{items_if_some, AreCounts};
 ghost use Rattle.hibitset_base.specs.Walk.{items_left};
 ghost use Rattle.hibitset_base.specs.declared.util.TheConstants.{LAYERS};
-ghost use Rattle.hibitset_base.specs.declared.parallel.run.TheConstants.{MAX_PARTS};
 
 use super::BitProducer;
 use super::fill::{fill, halvings};
@@ -21,8 +20,13 @@ use crate::util::{Index, LAYERS};
 use std::alloc::{AllocError, Global};
 use std::thread::Threads;
 
-// How many parts there are at most. They are cut in one thread, and each costs it some hundred nanoseconds.
-const MAX_PARTS: usize = 512;
+/// Where a walk is cut into parts: in so many layers from the top one on, and into so many parts at most. They are cut in
+/// one thread.
+#[derive(Clone, Copy)]
+pub(crate) struct Cuts {
+    pub(crate) layers: u8,
+    pub(crate) max_parts: usize,
+}
 
 // Splits one part.
 fn split<'a, T: BitSetLike + Send + Sync>(
@@ -40,22 +44,23 @@ fn split<'a, T: BitSetLike + Send + Sync>(
     }
 }
 
-// Splits each part once from left to right, while there are fewer than `MAX_PARTS`.
+// Splits each part once from left to right, while there are fewer than `max_parts`.
 fn split_each_once<'a, T: BitSetLike + Send + Sync>(
     alloc: Global,
     parts: Vec<BitIter<&'a T>>,
     layers: u8,
+    max_parts: usize,
 ) -> Result<Vec<BitIter<&'a T>>, AllocError>
     requires { layers < LAYERS }
     ensures items { IfOk result (λ v. flat_map (items_left (λ s. T.holds s.now)) v.items
         ≡ flat_map (items_left (λ s. T.holds s.now)) parts.entry.items) }
     ensures grows { IfOk result (λ v. length parts.entry.items ≤ length v.items) }
-    ensures most { IfOk result (λ v. length v.items ≤ max (length parts.entry.items) MAX_PARTS) }
+    ensures most { IfOk result (λ v. length v.items ≤ max (length parts.entry.items) max_parts) }
 {
     let mut total = parts.len();
     let mut next = Vec::new(alloc);
     for part in parts {
-        if total < MAX_PARTS {
+        if total < max_parts {
             let (first, second) = split(part, layers);
             next.push(first)?;
             if let Some(other) = second {
@@ -74,6 +79,7 @@ fn split_into_parts<'a, T: BitSetLike + Send + Sync>(
     alloc: Global,
     whole: BitIter<&'a T>,
     layers: u8,
+    max_parts: usize,
 ) -> Result<Vec<BitIter<&'a T>>, AllocError>
     requires { layers < LAYERS }
     ensures { IfOk result (λ v. flat_map (items_left (λ s. T.holds s.now)) v.items
@@ -82,9 +88,9 @@ fn split_into_parts<'a, T: BitSetLike + Send + Sync>(
     let mut parts = Vec::new(alloc);
     parts.push(whole)?;
     let mut before = 0;
-    while before < parts.len() && parts.len() < MAX_PARTS {
+    while before < parts.len() && parts.len() < max_parts {
         before = parts.len();
-        parts = split_each_once(alloc, parts, layers)?;
+        parts = split_each_once(alloc, parts, layers, max_parts)?;
     }
     Ok(parts)
 }
@@ -178,13 +184,13 @@ pub(crate) fn count<R: Threads + Sync, T: BitSetLike + Send + Sync>(
     rt: &R,
     alloc: Global,
     whole: BitIter<&'_ T>,
-    layers: u8,
+    cuts: Cuts,
 ) -> Result<usize, AllocError>
-    requires layers { layers < LAYERS }
+    requires layers { cuts.layers < LAYERS }
     requires few { length (items_left (λ s. T.holds s.now) whole) < 2 ^ 64 }
     ensures { IfOk result (λ n. n ≡ length (items_left (λ s. T.holds s.now) whole.entry)) }
 {
-    let parts = split_into_parts(alloc, whole, layers)?;
+    let parts = split_into_parts(alloc, whole, cuts.layers, cuts.max_parts)?;
     let counts = counts(rt, alloc, parts.as_slice())?;
     Ok(sum_of_counts(counts.as_slice()))
 }
@@ -194,14 +200,14 @@ pub(crate) fn collect<R: Threads + Sync, T: BitSetLike + Send + Sync>(
     rt: &R,
     alloc: Global,
     whole: BitIter<&'_ T>,
-    layers: u8,
+    cuts: Cuts,
     is_large: bool,
 ) -> Result<Vec<Index>, AllocError>
-    requires layers { layers < LAYERS }
+    requires layers { cuts.layers < LAYERS }
     requires few { length (items_left (λ s. T.holds s.now) whole) < 2 ^ 64 }
     ensures { IfOk result (λ v. v.items ≡ items_left (λ s. T.holds s.now) whole.entry) }
 {
-    let parts = split_into_parts(alloc, whole, layers)?;
+    let parts = split_into_parts(alloc, whole, cuts.layers, cuts.max_parts)?;
     let counts = counts_by_size(rt, alloc, parts.as_slice(), is_large)?;
     let mut list = vec![in alloc; 0; sum_of_counts(counts.as_slice())]?;
     fill(
@@ -219,13 +225,13 @@ pub(crate) fn for_each<R: Threads + Sync, T: BitSetLike + Send + Sync, F: Fn(Ind
     rt: &R,
     alloc: Global,
     whole: BitIter<&'_ T>,
-    layers: u8,
+    cuts: Cuts,
     f: F,
 ) -> Result<(), AllocError>
-    requires layers { layers < LAYERS }
+    requires layers { cuts.layers < LAYERS }
     requires f { F.IsAlwaysCallable f }
 {
-    let parts = split_into_parts(alloc, whole, layers)?;
+    let parts = split_into_parts(alloc, whole, cuts.layers, cuts.max_parts)?;
     let visit = |part: &BitIter<&'_ T>|
         requires { F.IsAlwaysCallable f }
     { visit_walk(split_again(part), &f) };
@@ -245,19 +251,19 @@ pub(crate) fn fold<
     rt: &R,
     alloc: Global,
     whole: BitIter<&'_ T>,
-    layers: u8,
+    cuts: Cuts,
     init: I,
     step: F,
     combine: C,
 ) -> Result<U, AllocError>
-    requires layers { layers < LAYERS }
+    requires layers { cuts.layers < LAYERS }
     requires init { I.IsAlwaysCallable init }
     requires step { F.IsAlwaysCallable step }
     requires combine { C.IsAlwaysCallable combine }
     ensures { IfOk result (FoldsInParts (I.post init) (λ a x b. F.post step a x b)
         (λ a b c. C.post combine a b c) (items_left (λ s. T.holds s.now) whole.entry)) }
 {
-    let parts = split_into_parts(alloc, whole, layers)?;
+    let parts = split_into_parts(alloc, whole, cuts.layers, cuts.max_parts)?;
     let folds = fold_parts(rt, alloc, parts.as_slice(), &init, &step)?;
     match reduce(folds, &combine) {
         Some(result) => Ok(result),

@@ -12,6 +12,7 @@ use std::alloc::{AllocError, AllocGlobal, Global};
 use std::process::Abort;
 use std::test::Fail;
 
+// allocates: 4, 41_984 bytes: hibitset_atomic::AtomicBitSet::new
 #[test]
 fn new(rt: HostRuntime) -> Result<(), Fail> {
     let set = retried!(&rt, AtomicBitSet::new(rt.alloc()));
@@ -25,6 +26,7 @@ fn added(set: &mut AtomicBitSet, id: Index) -> Result<bool, AllocError>
     set.add(id)
 }
 
+// allocates: 1, 2_048 bytes: hibitset_atomic::AtomicBitSet::add
 #[test]
 fn add(rt: HostRuntime) -> Result<(), Fail> {
     let mut set = atomic_of(rt.alloc(), &[5])?;
@@ -79,6 +81,7 @@ fn assert_spread(
     Ok(())
 }
 
+// allocates: 7, 49_152 bytes: hibitset_atomic::AtomicBitSet::from_indices, hibitset_base::from_indices
 #[test]
 fn from_indices(rt: HostRuntime) -> Result<(), Fail> {
     let built = tried!(
@@ -90,10 +93,23 @@ fn from_indices(rt: HostRuntime) -> Result<(), Fail> {
     Ok(())
 }
 
+// allocates: 7, 49_152 bytes: hibitset_atomic::AtomicBitSet::from_index_refs, hibitset_base::from_index_refs
 #[test]
 fn from_index_refs(rt: HostRuntime) -> Result<(), Fail> {
     let built = tried!(&rt, of_items(rt.alloc(), &SPREAD, true), |it| it.0.is_err());
     assert_spread(&rt, built, true)?;
+    Ok(())
+}
+
+// allocates: unmeasured: hibitset_atomic::AtomicBitSet::from_slice, hibitset_base::from_slice
+#[test]
+fn from_slice(rt: HostRuntime) -> Result<(), Fail> {
+    let set = retried!(&rt, AtomicBitSet::from_slice(rt.alloc(), &SPREAD));
+    assert_has(
+        &rt,
+        &set,
+        &[6, 7, 8, 9, 10, 11, 5_000_000, 9_000_000, 13_000_000],
+    );
     Ok(())
 }
 
@@ -115,6 +131,7 @@ fn assert_one_fits(rt: &impl Abort, built: &Drawn<AtomicBitSet>) {
     assert!(rt; fails_at_first(built) != after_out_of_range);
 }
 
+// allocates: 5, 43_008 bytes: hibitset_atomic::AtomicBitSet::from_indices
 #[test]
 fn from_indices_of_which_one_fits(rt: HostRuntime) -> Result<(), Fail> {
     let built = tried!(
@@ -126,6 +143,7 @@ fn from_indices_of_which_one_fits(rt: HostRuntime) -> Result<(), Fail> {
     Ok(())
 }
 
+// allocates: 5, 43_008 bytes: hibitset_atomic::AtomicBitSet::from_index_refs
 #[test]
 fn from_index_refs_of_which_one_fits(rt: HostRuntime) -> Result<(), Fail> {
     let built = tried!(
@@ -157,6 +175,7 @@ fn assert_none_fits(rt: &impl Abort, built: Drawn<AtomicBitSet>) {
     assert!(rt; error == out_of_range && next == Some(8));
 }
 
+// allocates: 4, 41_984 bytes: hibitset_atomic::AtomicBitSet::from_indices
 #[test]
 fn from_indices_of_which_none_fits(rt: HostRuntime) -> Result<(), Fail> {
     let built = tried!(
@@ -168,6 +187,7 @@ fn from_indices_of_which_none_fits(rt: HostRuntime) -> Result<(), Fail> {
     Ok(())
 }
 
+// allocates: 4, 41_984 bytes: hibitset_atomic::AtomicBitSet::from_index_refs
 #[test]
 fn from_index_refs_of_which_none_fits(rt: HostRuntime) -> Result<(), Fail> {
     let built = tried!(
@@ -188,6 +208,7 @@ fn is_empty_or_refused(built: &Result<AtomicBitSet, BuildError>) -> bool {
 }
 
 // The empty set itself wants memory, also where there is no item.
+// allocates: 4, 41_984 bytes: hibitset_atomic::AtomicBitSet::from_indices
 #[test]
 fn from_no_indices(rt: HostRuntime) -> Result<(), Fail> {
     let built = tried!(&rt, AtomicBitSet::from_indices(rt.alloc(), 0..0));
@@ -195,6 +216,7 @@ fn from_no_indices(rt: HostRuntime) -> Result<(), Fail> {
     Ok(())
 }
 
+// allocates: 4, 41_984 bytes: hibitset_atomic::AtomicBitSet::from_index_refs
 #[test]
 fn from_no_index_refs(rt: HostRuntime) -> Result<(), Fail> {
     let built = tried!(&rt, AtomicBitSet::from_index_refs(rt.alloc(), &[0u32; 0]));
@@ -240,6 +262,8 @@ fn assert_extended(
     Ok(())
 }
 
+// allocates: 2, 6_144 bytes: hibitset_atomic::AtomicBitSet::add_index, hibitset_atomic::AtomicBitSet::extend_indices,
+//     hibitset_base::FallibleInsert::add_index, hibitset_base::extend_indices
 #[test]
 fn extend_indices(rt: HostRuntime) -> Result<(), Fail> {
     let mut set = atomic_of(rt.alloc(), &[5])?;
@@ -248,11 +272,31 @@ fn extend_indices(rt: HostRuntime) -> Result<(), Fail> {
     Ok(())
 }
 
+// allocates: 2, 6_144 bytes: hibitset_atomic::AtomicBitSet::extend_index_refs, hibitset_base::extend_index_refs
 #[test]
 fn extend_index_refs(rt: HostRuntime) -> Result<(), Fail> {
     let mut set = atomic_of(rt.alloc(), &[5])?;
     let extended = tried!(&rt, extended_by(&mut set, true), |it| it.0.is_err());
     assert_extended(&rt, &mut set, extended, true)?;
+    Ok(())
+}
+
+// allocates: unmeasured: hibitset_atomic::AtomicBitSet::extend_from_slice, hibitset_base::extend_from_slice
+#[test]
+fn extend_from_slice(rt: HostRuntime) -> Result<(), Fail> {
+    let mut set = atomic_of(rt.alloc(), &[5])?;
+    let extended = tried!(&rt, set.extend_from_slice(&SPREAD));
+    if let Err(error) = extended {
+        let is_first = error == (BuildError::Memory { place: 4 });
+        assert!(rt; is_first || error == (BuildError::Memory { place: 7 }));
+        assert!(rt; set.contains(9) && set.contains(9_000_000) != is_first && !set.contains(11));
+        set.extend_from_slice(&SPREAD)?;
+    }
+    assert_has(
+        &rt,
+        &set,
+        &[5, 6, 7, 8, 9, 10, 11, 5_000_000, 9_000_000, 13_000_000],
+    );
     Ok(())
 }
 
@@ -273,6 +317,7 @@ fn shared_again(rt: &impl Abort, set: AtomicBitSet) -> (SharedBitSet, Seat)
     shared
 }
 
+// allocates: 3, 4_260_881 bytes: hibitset_atomic::AtomicBitSet::share
 #[test]
 fn share(rt: HostRuntime) -> Result<(), Fail> {
     let set = atomic_of(rt.alloc(), &[5, 70000])?;
@@ -319,6 +364,7 @@ fn in_three_again(rt: &impl Abort, shared: &SharedBitSet, seat: Seat, alloc: Glo
     seats
 }
 
+// allocates: 1, 12 bytes: hibitset_atomic::SharedBitSet::divide_among
 #[test]
 fn divide_among(rt: HostRuntime) -> Result<(), Fail> {
     let (shared, seat) = shared_with(&rt, rt.alloc(), 9)?;
@@ -350,6 +396,7 @@ fn settled_again(rt: &impl Abort, shared: SharedBitSet, seat: Seat) -> AtomicBit
     set
 }
 
+// allocates: 5, 2_139_648 bytes: hibitset_atomic::SharedBitSet::settle
 #[test]
 fn settle(rt: HostRuntime) -> Result<(), Fail> {
     let (shared, seat) = shared_with(&rt, rt.alloc(), 16777215)?;

@@ -8,6 +8,7 @@ use std::test::Fail;
 
 // Each growth of `insert`: of the table of pages, of the places and of the mask. Refused, the value comes back and the
 // column is as it was.
+// allocates: 3, 949_496 bytes: hibitset_store::Column::insert
 #[test]
 fn insert(rt: HostRuntime) -> Result<(), Fail> {
     let mut column = column_of(rt.alloc(), &[(5, 77), (70, 7)])?;
@@ -25,6 +26,7 @@ fn insert(rt: HostRuntime) -> Result<(), Fail> {
 
 // The third of eight pages finds the list of places full and enough of the table made, and all are laid out in order,
 // for one request. Refused, the value comes back and the column is as it was.
+// allocates: 1, 4_096 bytes: hibitset_store::Column::insert
 #[test]
 fn insert_in_order(rt: HostRuntime) -> Result<(), Fail> {
     let mut column = column_of(rt.alloc(), &[(450, 77), (400, 7)])?;
@@ -58,6 +60,7 @@ fn is_row(column: &Column<u32>, count: Index) -> bool {
 }
 
 // 64 pages, one after the other: the capacity of the table, of the slots and of the mask doubles where it is used up.
+// allocates: 17, 66_632 bytes: hibitset_store::Column::insert
 #[test]
 fn insert_a_row(rt: HostRuntime) -> Result<(), Fail> {
     let mut column = Column::new(rt.alloc());
@@ -79,6 +82,7 @@ fn pairs<'a>(
     join(a, b).collect(alloc)
 }
 
+// allocates: 1, 96 bytes, or goes on
 #[test]
 fn collect(rt: HostRuntime) -> Result<(), Fail> {
     let a = column_of(rt.alloc(), &[(5, 77), (70, 7), (300_000, 1)])?;

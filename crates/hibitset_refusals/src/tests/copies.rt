@@ -5,6 +5,7 @@ use hibitset_testing::sets::set_of;
 use std::alloc::AllocError;
 use std::test::Fail;
 
+// allocates: 2, 64 bytes: hibitset_base::BitSetAnd::clone
 #[test]
 fn intersection(rt: HostRuntime) -> Result<(), Fail> {
     let a = set_of(rt.alloc(), &[1, 2])?;
@@ -15,6 +16,7 @@ fn intersection(rt: HostRuntime) -> Result<(), Fail> {
     Ok(())
 }
 
+// allocates: 2, 64 bytes: hibitset_base::BitSetOr::clone
 #[test]
 fn union(rt: HostRuntime) -> Result<(), Fail> {
     let a = set_of(rt.alloc(), &[1, 2])?;
@@ -25,6 +27,7 @@ fn union(rt: HostRuntime) -> Result<(), Fail> {
     Ok(())
 }
 
+// allocates: 2, 64 bytes: hibitset_base::BitSetXor::clone
 #[test]
 fn symmetric_difference(rt: HostRuntime) -> Result<(), Fail> {
     let a = set_of(rt.alloc(), &[1, 2])?;
@@ -35,6 +38,7 @@ fn symmetric_difference(rt: HostRuntime) -> Result<(), Fail> {
     Ok(())
 }
 
+// allocates: 1, 634_944 bytes: hibitset_base::BitSetNot::clone
 #[test]
 fn complement(rt: HostRuntime) -> Result<(), Fail> {
     let rest = BitSetNot(set_of(rt.alloc(), &[1, 5_000_000])?);
@@ -48,6 +52,7 @@ fn complement(rt: HostRuntime) -> Result<(), Fail> {
     Ok(())
 }
 
+// allocates: 1, 40 bytes: hibitset_base::BitIter::clone
 #[test]
 fn walk(rt: HostRuntime) -> Result<(), Fail> {
     let mut walk = set_of(rt.alloc(), &[1, 2, 70])?.iter();

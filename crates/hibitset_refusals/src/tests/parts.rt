@@ -81,6 +81,7 @@ fn is_many(set: &BitSet) -> bool {
     is_evenly(set, 1, MEMBERS as usize)
 }
 
+// allocates: 9 at most, 0 bytes on 1 processor: hibitset_base::BitParIter::count
 #[test]
 fn count(rt: HostRuntime) -> Result<(), Fail> {
     let set = in_many_words(rt.alloc())?;
@@ -93,6 +94,7 @@ fn count(rt: HostRuntime) -> Result<(), Fail> {
     Ok(())
 }
 
+// allocates: 5 at most, 2_097_152 bytes on 1 processor: hibitset_base::BitParIter::collect
 #[test]
 fn collect(rt: HostRuntime) -> Result<(), Fail> {
     let set = in_two_ranges(rt.alloc())?;
@@ -105,6 +107,7 @@ fn collect(rt: HostRuntime) -> Result<(), Fail> {
     Ok(())
 }
 
+// allocates: 7 at most, 0 bytes on 1 processor: uses::weight_of_both, hibitset_base::BitParIter::fold
 #[test]
 fn fold(rt: HostRuntime) -> Result<(), Fail> {
     let set = in_two_ranges(rt.alloc())?;
@@ -123,6 +126,7 @@ fn fold(rt: HostRuntime) -> Result<(), Fail> {
     Ok(())
 }
 
+// allocates: 7 at most, 0 bytes on 1 processor: hibitset_base::BitParIter::for_each
 #[test]
 fn for_each(rt: HostRuntime) -> Result<(), Fail> {
     let set = many(rt.alloc())?;

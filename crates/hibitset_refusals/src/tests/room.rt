@@ -41,6 +41,7 @@ fn assert_empty(rt: &impl Abort, alloc: Global) {
     assert!(rt; empty.is_empty() && empty.clone().is_ok());
 }
 
+// allocates: none
 #[test]
 fn sets_with_room(rt: HostRuntime) -> Result<(), Fail> {
     let mut set = BitSet::with_capacity(rt.alloc(), 1000)?;
@@ -54,6 +55,7 @@ fn sets_with_room(rt: HostRuntime) -> Result<(), Fail> {
 }
 
 // Five words make room for eight.
+// allocates: none
 #[test]
 fn sets_with_room_of_adds(rt: HostRuntime) -> Result<(), Fail> {
     let mut set = BitSet::new(rt.alloc());
@@ -65,6 +67,7 @@ fn sets_with_room_of_adds(rt: HostRuntime) -> Result<(), Fail> {
 }
 
 // An assignment that needs one word more than there is room for makes room for an eighth more.
+// allocates: none
 #[test]
 fn sets_with_room_of_assignments(rt: HostRuntime) -> Result<(), Fail> {
     let mut set = BitSet::new(rt.alloc());
@@ -77,6 +80,7 @@ fn sets_with_room_of_assignments(rt: HostRuntime) -> Result<(), Fail> {
 }
 
 // A vector with room for five words and those over them becomes a set of four as it is.
+// allocates: none
 #[test]
 fn vectors_with_room(rt: HostRuntime) -> Result<(), Fail> {
     let mut words = BitSet::vec_with_room(rt.alloc(), 5)?;
@@ -127,6 +131,7 @@ fn assert_drains(rt: &impl Abort, set: &mut BitSet, other: &BitSet) {
     assert_has(rt, set, &[]);
 }
 
+// allocates: none
 #[test]
 fn sets(rt: HostRuntime) -> Result<(), Fail> {
     let mut set = set_of(rt.alloc(), &[5, 70, 300_000])?;
@@ -159,6 +164,7 @@ fn assert_removes(rt: &impl Abort, a: &mut Column<u32>) {
     assert!(rt; a.is_empty() && has_values(a, &[]));
 }
 
+// allocates: none
 #[test]
 fn columns(rt: HostRuntime) -> Result<(), Fail> {
     let mut a = column_of(rt.alloc(), &[(5, 77), (300_000, 7)])?;
@@ -174,6 +180,7 @@ fn columns(rt: HostRuntime) -> Result<(), Fail> {
 }
 
 // Once they lie in order, all pages of the table have their places.
+// allocates: none
 #[test]
 fn columns_in_order(rt: HostRuntime) -> Result<(), Fail> {
     let mut column = column_of(rt.alloc(), &[(450, 7), (400, 6), (350, 5)])?;
@@ -197,6 +204,7 @@ fn inserts_row(column: &mut Column<u32>, from: Index, to: Index) -> bool
 }
 
 // With 33 pages there is capacity for 64: of slots, of the table and of the mask.
+// allocates: none
 #[test]
 fn columns_with_room_of_inserts(rt: HostRuntime) -> Result<(), Fail> {
     let mut column = Column::new(rt.alloc());
@@ -216,6 +224,7 @@ fn inserts_three(column: &mut Column<u32>) -> bool {
 }
 
 // The memory of the pages, the table and the mask is kept for the same keys.
+// allocates: none
 #[test]
 fn cleared_columns(rt: HostRuntime) -> Result<(), Fail> {
     let mut column = Column::new(rt.alloc());
@@ -243,6 +252,7 @@ fn assert_clones(rt: &impl Abort, a: &BitSet, b: &BitSet) {
     assert!(rt; BitSetAll.clone().is_ok() && a.iter().clone().is_ok());
 }
 
+// allocates: none: hibitset_base::BitSetAll::clone
 #[test]
 fn virtual_sets(rt: HostRuntime) -> Result<(), Fail> {
     let a = set_of(rt.alloc(), &[1, 2])?;
@@ -265,6 +275,7 @@ fn assert_gives_up(rt: &impl Abort, set: &mut AtomicBitSet) {
     assert_has(rt, set, &[5, 7, 8, 9, 70, 4095, 300_000, 600_000]);
 }
 
+// allocates: none
 #[test]
 fn atomic_sets(rt: HostRuntime) -> Result<(), Fail> {
     let mut set = atomic_of(rt.alloc(), &[5, 70, 300_000, 600_000])?;
@@ -291,6 +302,7 @@ fn adds_blocks(set: &mut AtomicBitSet, from: u32, to: u32) -> bool
 }
 
 // With 2,048 blocks and the one of zeros there is capacity for 4,096.
+// allocates: none
 #[test]
 fn atomic_sets_with_room_of_adds(rt: HostRuntime) -> Result<(), Fail> {
     let mut set = AtomicBitSet::new(rt.alloc())?;
@@ -303,6 +315,7 @@ fn atomic_sets_with_room_of_adds(rt: HostRuntime) -> Result<(), Fail> {
 }
 
 // A settled set has room for all blocks, and keeps it.
+// allocates: none
 #[test]
 fn settled_sets(rt: HostRuntime) -> Result<(), Fail> {
     let (shared, seat) = shared_of(rt.alloc(), &[7])?;
@@ -338,6 +351,7 @@ fn assert_parts(rt: &impl Abort, set: &SharedBitSet, seat: Seat)
     }
 }
 
+// allocates: none
 #[test]
 fn shared_sets(rt: HostRuntime) -> Result<(), Fail> {
     let (set, mut seat) = shared_of(rt.alloc(), &[7])?;
@@ -360,6 +374,7 @@ fn last_share(set: &SharedBitSet, seat: Seat) -> Seat
     last
 }
 
+// allocates: none
 #[test]
 fn last_shares(rt: HostRuntime) -> Result<(), Fail> {
     let (set, seat) = shared_of(rt.alloc(), &[7])?;
@@ -375,6 +390,7 @@ fn assert_new(rt: &impl Abort, world: &World) {
     assert!(rt; world.stands(7) && !world.stands(8) && !world.stands(16_777_215));
 }
 
+// allocates: none
 #[test]
 fn new_worlds(rt: HostRuntime) -> Result<(), Fail> {
     let set = atomic_of(rt.alloc(), &[7])?;
@@ -415,6 +431,7 @@ fn assert_refusals(rt: &impl Abort, world: &mut World) {
     assert_refused(rt, world, Event::Read { walk: 1 }, StepError::Ended);
 }
 
+// allocates: none
 #[test]
 fn worlds(rt: HostRuntime) -> Result<(), Fail> {
     let mut world = world_at_rest(rt.alloc())?;
@@ -439,6 +456,7 @@ fn reads(world: &mut World, count: u32) -> bool {
 
 // Behind the upper layers, each second read gives an item. After 2,100 reads there is capacity for 4,096 events and
 // 2,048 items.
+// allocates: none
 #[test]
 fn worlds_with_room_of_reads(rt: HostRuntime) -> Result<(), Fail> {
     let mut set = AtomicBitSet::new(rt.alloc())?;
@@ -454,6 +472,7 @@ fn worlds_with_room_of_reads(rt: HostRuntime) -> Result<(), Fail> {
     ask(&rt)
 }
 
+// allocates: none
 #[test]
 fn parts(rt: HostRuntime) -> Result<(), Fail> {
     let set = set_of(rt.alloc(), &[1, 70, 300_000])?;
@@ -470,6 +489,7 @@ fn parts(rt: HostRuntime) -> Result<(), Fail> {
 }
 
 // Walks that are to take no threads, since they have fewer members than are asked for.
+// allocates: none
 #[test]
 fn parts_in_one_thread(rt: HostRuntime) -> Result<(), Fail> {
     let words = vec![in rt.alloc(); usize::MAX; 1_000]?;
@@ -495,6 +515,7 @@ fn assert_frees_runs(rt: &impl Abort, ids: &mut Ids) {
     assert!(rt; ids.alloc_run(10) == Ok(Some(10)) && ids.alloc_run(3) == Ok(Some(66)));
 }
 
+// allocates: none
 #[test]
 fn identifiers(rt: HostRuntime) -> Result<(), Fail> {
     let mut ids = Ids::new(rt.alloc());
@@ -517,6 +538,7 @@ fn assert_flushes(rt: &impl Abort, pages: &mut Pages, out: &mut Vec<Index>, page
     assert!(rt; pages.flush(out).is_ok() && out.as_slice() == pages_of);
 }
 
+// allocates: none
 #[test]
 fn pages(rt: HostRuntime) -> Result<(), Fail> {
     let mut pages = Pages::new(rt.alloc());
@@ -538,6 +560,7 @@ fn assert_wakes(rt: &impl Abort, ready: &mut Ready) {
     assert!(rt; ready.wake(99) == Ok(false));
 }
 
+// allocates: none
 #[test]
 fn tasks(rt: HostRuntime) -> Result<(), Fail> {
     let mut ready = Ready::new(rt.alloc(), 100)?;
@@ -567,6 +590,7 @@ fn assert_tags(rt: &impl Abort, alloc: Global, tagged: &mut Tagged, more: &BitSe
     assert!(rt; tagged.count(0, 1, 2) == 1 && tagged.records(1).len() == 2);
 }
 
+// allocates: none
 #[test]
 fn tags(rt: HostRuntime) -> Result<(), Fail> {
     let mut tagged = tagged(rt.alloc())?;

@@ -19,6 +19,7 @@ fn with_room(alloc: Global) -> Result<BitSet, AllocError> {
     BitSet::with_capacity(alloc, 5000)
 }
 
+// allocates: 1, 664 bytes: hibitset::BitSet::with_capacity
 #[test]
 fn with_capacity(rt: HostRuntime) -> Result<(), Fail> {
     let set = retried!(&rt, with_room(rt.alloc()));
@@ -31,6 +32,7 @@ fn copy_of(set: &BitSet) -> Result<BitSet, AllocError> {
     set.clone()
 }
 
+// allocates: 1, 38_120 bytes: hibitset::BitSet::clone
 #[test]
 fn clone(rt: HostRuntime) -> Result<(), Fail> {
     let set = set_of(rt.alloc(), &[1, 70, 300000])?;
@@ -55,6 +57,7 @@ fn assert_new(rt: &impl Abort, set: &mut BitSet, id: Index) -> Result<(), AllocE
 }
 
 // A copy has room for its own words alone.
+// allocates: 1, 56 bytes: hibitset::BitSet::clone
 #[test]
 fn add_to_a_clone(rt: HostRuntime) -> Result<(), Fail> {
     let mut copy = copy_of(&set_of(rt.alloc(), &[1, 70])?)?;
@@ -67,6 +70,7 @@ fn add_to_a_clone(rt: HostRuntime) -> Result<(), Fail> {
     Ok(())
 }
 
+// allocates: 1, 634_944 bytes: hibitset::BitSet::add
 #[test]
 fn add(rt: HostRuntime) -> Result<(), Fail> {
     let mut set = set_of(rt.alloc(), &[5])?;
@@ -81,6 +85,7 @@ fn add(rt: HostRuntime) -> Result<(), Fail> {
 
 // `allocation_failures.py` refuses one request at a time, and checks that the two calls make one alone: so where that
 // is refused, every request of theirs is.
+// allocates: 1, 634_944 bytes: hibitset::BitSet::add
 #[test]
 fn room_made_before(rt: HostRuntime) -> Result<(), Fail> {
     let mut set = BitSet::with_capacity(rt.alloc(), 1000)?;
@@ -100,6 +105,7 @@ fn room_made_before(rt: HostRuntime) -> Result<(), Fail> {
 }
 
 // Room that was made before is for those words alone.
+// allocates: 1, 88 bytes: hibitset::BitSet::with_capacity
 #[test]
 fn add_past_the_last_word(rt: HostRuntime) -> Result<(), Fail> {
     let mut set = BitSet::with_capacity(rt.alloc(), 320)?;
@@ -136,6 +142,7 @@ fn assert_two(
     Ok(())
 }
 
+// allocates: 1, 634_944 bytes: hibitset::BitSet::add_range
 #[test]
 fn add_range(rt: HostRuntime) -> Result<(), Fail> {
     let mut set = set_of(rt.alloc(), &[5])?;
@@ -144,6 +151,7 @@ fn add_range(rt: HostRuntime) -> Result<(), Fail> {
     Ok(())
 }
 
+// allocates: 1, 634_944 bytes: hibitset::BitSet::flip_range
 #[test]
 fn flip_range(rt: HostRuntime) -> Result<(), Fail> {
     let mut set = set_of(rt.alloc(), &[5])?;
@@ -156,6 +164,7 @@ fn of_words(alloc: Global) -> Result<BitSet, AllocError> {
     BitSet::from_words(alloc, [0, 8, 1].as_slice())
 }
 
+// allocates: 1, 48 bytes: hibitset::BitSet::from_words
 #[test]
 fn from_words(rt: HostRuntime) -> Result<(), Fail> {
     let set = retried!(&rt, of_words(rt.alloc()));
@@ -163,6 +172,7 @@ fn from_words(rt: HostRuntime) -> Result<(), Fail> {
     Ok(())
 }
 
+// allocates: 1, 48 bytes: hibitset::BitSet::from_vec
 #[test]
 fn from_vec(rt: HostRuntime) -> Result<(), Fail> {
     let words = vec![in rt.alloc(); 0, 8, 1]?;
@@ -173,6 +183,7 @@ fn from_vec(rt: HostRuntime) -> Result<(), Fail> {
     Ok(())
 }
 
+// allocates: 1, 48 bytes: hibitset::BitSet::vec_with_room
 #[test]
 fn vec_with_room(rt: HostRuntime) -> Result<(), Fail> {
     let words = retried!(&rt, BitSet::vec_with_room(rt.alloc(), 3));
@@ -180,6 +191,7 @@ fn vec_with_room(rt: HostRuntime) -> Result<(), Fail> {
     Ok(())
 }
 
+// allocates: 1, 634_944 bytes: hibitset::BitSet::from_layers
 #[test]
 fn from_layers(rt: HostRuntime) -> Result<(), Fail> {
     let set = set_of(rt.alloc(), &[5, FAR])?;
@@ -195,6 +207,7 @@ fn ranked_by_counts(alloc: Global, set: &BitSet) -> Result<usize, AllocError> {
     Ok(ranked.rank(FAR))
 }
 
+// allocates: 1, 4_888 bytes: hibitset_base::Ranked::new
 #[test]
 fn ranked(rt: HostRuntime) -> Result<(), Fail> {
     let set = set_of(rt.alloc(), &[5, 70, FAR])?;
@@ -207,6 +220,7 @@ fn joined(set: &mut BitSet, other: &BitSet) -> Result<(), AllocError> {
     set.bitor_assign(other)
 }
 
+// allocates: 1, 127_008 bytes: hibitset::BitSet::bitor_assign
 #[test]
 fn bitor_assign(rt: HostRuntime) -> Result<(), Fail> {
     let other = set_of(rt.alloc(), &[1_000_000])?;
@@ -225,6 +239,7 @@ fn differing(set: &mut BitSet, other: &BitSet) -> Result<(), AllocError> {
     set.bitxor_assign(other)
 }
 
+// allocates: 1, 127_008 bytes: hibitset::BitSet::bitxor_assign
 #[test]
 fn bitxor_assign(rt: HostRuntime) -> Result<(), Fail> {
     let other = set_of(rt.alloc(), &[0, 1_000_000])?;
@@ -258,6 +273,7 @@ fn assert_goes_on(rt: &impl Abort, built: &Drawn<BitSet>) {
     }
 }
 
+// allocates: 2, 635_000 bytes: hibitset::BitSet::from_indices, hibitset_base::from_indices
 #[test]
 fn from_indices(rt: HostRuntime) -> Result<(), Fail> {
     let built = tried!(&rt, of_items(rt.alloc(), false), |it| it.0.is_err());
@@ -267,11 +283,20 @@ fn from_indices(rt: HostRuntime) -> Result<(), Fail> {
     Ok(())
 }
 
+// allocates: 2, 635_000 bytes: hibitset::BitSet::from_index_refs, hibitset_base::from_index_refs
 #[test]
 fn from_index_refs(rt: HostRuntime) -> Result<(), Fail> {
     let built = tried!(&rt, of_items(rt.alloc(), true), |it| it.0.is_err());
     assert_goes_on(&rt, &built);
     let set = or_again!(built.0, of_items(rt.alloc(), true).0);
+    assert_has(&rt, &set, &[6, 7, FAR]);
+    Ok(())
+}
+
+// allocates: unmeasured: hibitset::BitSet::from_slice, hibitset_base::from_slice
+#[test]
+fn from_slice(rt: HostRuntime) -> Result<(), Fail> {
+    let set = retried!(&rt, BitSet::from_slice(rt.alloc(), &ITEMS));
     assert_has(&rt, &set, &[6, 7, FAR]);
     Ok(())
 }
@@ -301,6 +326,8 @@ fn assert_extends_again(
     Ok(())
 }
 
+// allocates: 1, 634_944 bytes: hibitset::BitSet::add_index, hibitset::BitSet::extend_indices,
+//     hibitset_base::FallibleInsert::add_index, hibitset_base::extend_indices
 #[test]
 fn extend_indices(rt: HostRuntime) -> Result<(), Fail> {
     let mut set = set_of(rt.alloc(), &[5])?;
@@ -310,11 +337,26 @@ fn extend_indices(rt: HostRuntime) -> Result<(), Fail> {
     Ok(())
 }
 
+// allocates: 1, 634_944 bytes: hibitset::BitSet::extend_index_refs, hibitset_base::extend_index_refs
 #[test]
 fn extend_index_refs(rt: HostRuntime) -> Result<(), Fail> {
     let mut set = set_of(rt.alloc(), &[5])?;
     let extended = tried!(&rt, extended_by(&mut set, true), |it| it.0.is_err());
     assert_extends_again(&rt, &mut set, extended, true)?;
+    assert_has(&rt, &set, &[5, 6, 7, FAR]);
+    Ok(())
+}
+
+// allocates: unmeasured: hibitset::BitSet::extend_from_slice, hibitset_base::extend_from_slice
+#[test]
+fn extend_from_slice(rt: HostRuntime) -> Result<(), Fail> {
+    let mut set = set_of(rt.alloc(), &[5])?;
+    let extended = tried!(&rt, set.extend_from_slice(&ITEMS));
+    if let Err(error) = extended {
+        assert!(rt; error == BuildError::Memory { place: 1 });
+        assert_way(&rt, &set, &[5, 6], FAR, UPPER);
+        set.extend_from_slice(&ITEMS)?;
+    }
     assert_has(&rt, &set, &[5, 6, 7, FAR]);
     Ok(())
 }
@@ -335,6 +377,7 @@ fn is_refused_in_the_row(error: BuildError, set: &BitSet) -> bool {
 }
 
 // The first word of 64 makes room for four, and the room is doubled where it is full.
+// allocates: 5, 1_112 bytes: hibitset::BitSet::extend_indices
 #[test]
 fn extend_indices_by_a_row(rt: HostRuntime) -> Result<(), Fail> {
     let mut set = BitSet::new(rt.alloc());
@@ -351,6 +394,7 @@ fn list_of(alloc: Global, set: &BitSet) -> Result<Vec<Index>, AllocError> {
     set.to_vec(alloc)
 }
 
+// allocates: 1, 12 bytes: hibitset_base::BitSetLike::to_vec
 #[test]
 fn to_vec(rt: HostRuntime) -> Result<(), Fail> {
     let set = set_of(rt.alloc(), &[5, 6, FAR])?;
@@ -374,6 +418,7 @@ fn one_a_word(alloc: Global) -> Result<BitSet, AllocError> {
     Ok(set)
 }
 
+// allocates: 2, 384 bytes: hibitset_base::BitSetLike::to_vec
 #[test]
 fn to_vec_of_a_member_a_word(rt: HostRuntime) -> Result<(), Fail> {
     let set = one_a_word(rt.alloc())?;
@@ -390,6 +435,7 @@ fn full_words(alloc: Global) -> Result<BitSet, AllocError> {
     Ok(set)
 }
 
+// allocates: 1, 4_000 bytes: hibitset_base::BitSetLike::to_vec
 #[test]
 fn to_vec_of_full_words(rt: HostRuntime) -> Result<(), Fail> {
     let set = full_words(rt.alloc())?;

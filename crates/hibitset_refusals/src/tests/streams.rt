@@ -17,6 +17,7 @@ const STREAM: [u8; 28] = [
 ];
 
 // The set's words.
+// allocates: 1, 16_656 bytes: hibitset_roaring::read
 #[test]
 fn read_a_stream(rt: HostRuntime) -> Result<(), Fail> {
     let set = retried!(&rt, read(rt.alloc(), &STREAM));
@@ -24,6 +25,7 @@ fn read_a_stream(rt: HostRuntime) -> Result<(), Fail> {
     Ok(())
 }
 
+// allocates: 1, 16_656 bytes: hibitset_roaring::read_below
 #[test]
 fn read_with_a_bound(rt: HostRuntime) -> Result<(), Fail> {
     let set = retried!(&rt, read_below(rt.alloc(), &STREAM, 2));
@@ -37,6 +39,7 @@ fn lacks_memory<T>(made: &Result<T, ReadFromError>) -> bool {
 }
 
 // The bytes, the words, and the set of them.
+// allocates: 2, 16_684 bytes: hibitset_roaring::read_from
 #[test]
 fn read_from_a_reader(rt: HostRuntime) -> Result<(), Fail> {
     let made = tried!(&rt, read_from(rt.alloc(), &mut STREAM.as_slice(), 2));
@@ -60,6 +63,7 @@ impl Read for ByteByByte<'_> {
 }
 
 // The bytes, whose capacity of 8 and then 16 is doubled by the ninth and the seventeenth, and the rest as above.
+// allocates: 4, 16_712 bytes: hibitset_roaring::read_from
 #[test]
 fn read_from_a_slow_reader(rt: HostRuntime) -> Result<(), Fail> {
     let mut reader = ByteByByte { bytes: &STREAM };
@@ -79,6 +83,7 @@ fn is_stream(bytes: &[u8]) -> bool {
 }
 
 // The keys, the numbers of members, and the stream.
+// allocates: 3, 92 bytes: hibitset_roaring::write
 #[test]
 fn write_a_set(rt: HostRuntime) -> Result<(), Fail> {
     let set = set_of(rt.alloc(), &[5, 70_000])?;
@@ -88,6 +93,7 @@ fn write_a_set(rt: HostRuntime) -> Result<(), Fail> {
 }
 
 // The words of what two sets have in common, in four layers, and then as a `BitSet` is written.
+// allocates: 4, 9_004 bytes: hibitset_roaring::write_like
 #[test]
 fn write_a_virtual_set(rt: HostRuntime) -> Result<(), Fail> {
     let first = set_of(rt.alloc(), &[5, 6, 70_000])?;
@@ -99,6 +105,7 @@ fn write_a_virtual_set(rt: HostRuntime) -> Result<(), Fail> {
 }
 
 // The same behind a byte, which is all that is there where one failed.
+// allocates: 3, 93 bytes: hibitset_roaring::write_to
 #[test]
 fn write_behind_a_byte(rt: HostRuntime) -> Result<(), Fail> {
     let set = set_of(rt.alloc(), &[5, 70_000])?;
@@ -114,6 +121,7 @@ fn write_behind_a_byte(rt: HostRuntime) -> Result<(), Fail> {
 }
 
 // As a set is written. Nothing is written where one failed, which the error's kind says.
+// allocates: 3, 92 bytes: hibitset_roaring::write_into
 #[test]
 fn write_into_a_writer(rt: HostRuntime) -> Result<(), Fail> {
     let set = set_of(rt.alloc(), &[5, 70_000])?;
@@ -133,6 +141,7 @@ fn write_words_of(alloc: Global, set: &BitSet, out: &mut [u8]) -> Result<usize, 
 }
 
 // The keys and the numbers of members. The buffer is as it was where one failed.
+// allocates: 2, 64 bytes: hibitset_roaring::write_words
 #[test]
 fn write_into_a_buffer(rt: HostRuntime) -> Result<(), Fail> {
     let set = set_of(rt.alloc(), &[5, 70_000])?;
@@ -146,6 +155,7 @@ fn write_into_a_buffer(rt: HostRuntime) -> Result<(), Fail> {
     Ok(())
 }
 
+// allocates: 4, 16_748 bytes: hibitset_roaring::round_trip
 #[test]
 fn round_trip_of_a_set(rt: HostRuntime) -> Result<(), Fail> {
     let set = set_of(rt.alloc(), &[5, 70_000])?;
@@ -155,6 +165,7 @@ fn round_trip_of_a_set(rt: HostRuntime) -> Result<(), Fail> {
 }
 
 // The keys, the numbers of members, those of runs, and the stream: none of its containers is runs.
+// allocates: 4, 124 bytes: hibitset_roaring::write_run_optimized
 #[test]
 fn write_a_set_without_runs(rt: HostRuntime) -> Result<(), Fail> {
     let set = set_of(rt.alloc(), &[5, 70_000])?;
@@ -164,6 +175,7 @@ fn write_a_set_without_runs(rt: HostRuntime) -> Result<(), Fail> {
 }
 
 // The same behind a byte, which is all that is there where one failed.
+// allocates: 4, 125 bytes: hibitset_roaring::write_run_optimized_to
 #[test]
 fn write_runs_behind_a_byte(rt: HostRuntime) -> Result<(), Fail> {
     let set = set_of(rt.alloc(), &[5, 70_000])?;
@@ -178,6 +190,7 @@ fn write_runs_behind_a_byte(rt: HostRuntime) -> Result<(), Fail> {
     Ok(())
 }
 
+// allocates: 5, 16_780 bytes: hibitset_roaring::round_trip_optimized
 #[test]
 fn round_trip_with_runs(rt: HostRuntime) -> Result<(), Fail> {
     let set = set_of(rt.alloc(), &[5, 70_000])?;

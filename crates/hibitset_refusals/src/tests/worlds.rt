@@ -26,6 +26,7 @@ fn is_as(world: &World, items: Option<&[u32]>, rests: bool) -> bool {
     world.items(1) == items && world.is_at_rest() == rests
 }
 
+// allocates: 2, 232 bytes: hibitset_atomic::World::apply
 #[test]
 fn begin(rt: HostRuntime) -> Result<(), Fail> {
     let mut world = world_after(&rt, &[])?;
@@ -47,6 +48,7 @@ fn assert_path(rt: &impl Abort, world: &mut World, event: Event) {
     }
 }
 
+// allocates: 1, 2_048 bytes: hibitset_atomic::World::apply
 #[test]
 fn step(rt: HostRuntime) -> Result<(), Fail> {
     let mut world = world_after(&rt, &[Event::Begin { call: 1, id: 5000 }])?;
@@ -61,6 +63,7 @@ fn step(rt: HostRuntime) -> Result<(), Fail> {
     Ok(())
 }
 
+// allocates: 2, 1_312 bytes: hibitset_atomic::World::apply
 #[test]
 fn open(rt: HostRuntime) -> Result<(), Fail> {
     let mut world = world_after(&rt, &[])?;
@@ -75,6 +78,7 @@ fn open(rt: HostRuntime) -> Result<(), Fail> {
 }
 
 // The fourth read has an item.
+// allocates: 1, 96 bytes: hibitset_atomic::World::apply
 #[test]
 fn read(rt: HostRuntime) -> Result<(), Fail> {
     let event = Event::Read { walk: 1 };
@@ -106,6 +110,7 @@ fn happens_again(rt: &impl Abort, world: &mut World, event: Event, reply: Reply)
 }
 
 // A whole run, in which an event that is refused is made again.
+// allocates: 6, 3_896 bytes: hibitset_atomic::World::apply
 #[test]
 fn run(rt: HostRuntime) -> Result<(), Fail> {
     let mut world = world_after(&rt, &[])?;

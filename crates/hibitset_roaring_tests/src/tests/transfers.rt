@@ -105,6 +105,40 @@ fn a_reader_gives_little_and_breaks(rt: HostRuntime) -> Result<(), Fail> {
     Ok(())
 }
 
+// Gives its bytes, at most so many a read, and can't fail.
+#[derive(Drop)]
+struct Giving<'a> {
+    bytes: &'a [u8],
+    most: usize,
+}
+
+impl Read for Giving<'_> {
+    fn read(&mut self, buf: &mut [u8]) -> io::Result<usize> {
+        let count = buf.len().min(self.most);
+        self.bytes.read(&mut buf[..count])
+    }
+}
+
+// Reads bytes from such a reader, and returns whether the reader is said to have failed.
+fn reader_fails(alloc: Global, bytes: &[u8], most: usize, end: usize) -> bool {
+    let mut reader = Giving { bytes, most };
+    let found = read_from(alloc, &mut reader, end.min(KEYS));
+    matches!(found, Err(ReadFromError::Io(_)))
+}
+
+// A stream, bytes that are none, and more of them than any stream has.
+#[test]
+fn a_reader_that_cannot_fail_is_never_said_to(rt: HostRuntime) -> Result<(), Fail> {
+    let alloc = rt.alloc();
+    let stream = write(alloc, &array_and_bits(alloc)?)?;
+    for most in [1, 8_191, 8_192, usize::MAX] {
+        assert!(rt; !reader_fails(alloc, &stream, most, KEYS));
+        assert!(rt; !reader_fails(alloc, &stream, most, 0));
+        assert!(rt; !reader_fails(alloc, &stream[..8_192], most, KEYS));
+    }
+    Ok(())
+}
+
 // Writes a set into a writer that takes bytes in so many writes and then none, or times out. Returns how many it took.
 fn taken_in(rt: &impl Abort, alloc: Global, writes: u32, times_out: bool) -> Result<usize, Fail> {
     let set = array_and_bits(alloc)?;

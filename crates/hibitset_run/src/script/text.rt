@@ -5,7 +5,7 @@ ghost use Rattle.hibitset_run.specs.Outcome.{status_of, text_of};
 ghost use Rattle.hibitset_run.specs.Script.{sets_of};
 ghost use Rattle.hibitset_run.specs.Text.{lines_of};
 ghost use Rattle.hibitset_run.specs.ScriptParser.{IsReadFault};
-ghost use Rattle.hibitset_run.specs.Program.{Ends, EndsScript, is_store};
+ghost use Rattle.hibitset_run.specs.Program.{Ends, EndsScript, EndsText, ReadsAll, is_store};
 ghost use Rattle.hibitset_run.specs.declared.script.text.Ended.TheVariants.{Done};
 ghost use Rattle.hibitset_run.specs.declared.script.Slot.{Slot};
 
@@ -66,11 +66,13 @@ impl fmt::Display for Ended {
 /// Reads a script to its end, runs its commands on eight empty sets, and writes one line a reply. Where the first line
 /// is `store`, the others are commands on two empty columns.
 ///
-/// The first fault met ends it. Where a line is bad, nothing is run or written.
+/// The first fault met ends it. Where a line is bad, nothing is run or written. The reader is at its end then, unless a
+/// read or an allocation failed.
 pub fn run_text<R: Read, W: Write>(alloc: Global, reader: &mut R, writer: &mut W) -> Ended
-    ensures { IfSome (R.remaining reader.old)
-        (λ input. EndsScript (lines_of input) result (W.contents writer.old)
+    ensures outcome { IfSome (R.remaining reader.old)
+        (λ input. EndsText (lines_of input) result (W.contents writer.old)
         (W.contents writer.new)) }
+    ensures end { ReadsAll result (R.remaining reader.new) }
 {
     match read_all(alloc, reader) {
         Ok(input) => run_input(alloc, &input, writer),
@@ -78,7 +80,7 @@ pub fn run_text<R: Read, W: Write>(alloc: Global, reader: &mut R, writer: &mut W
     }
 }
 
-// Runs what was read.
+// Runs what was read, and no longer ends as `InputFailed`.
 fn run_input<W: Write>(alloc: Global, input: &[u8], writer: &mut W) -> Ended
     ensures { EndsScript (lines_of input.now) result (W.contents writer.old)
         (W.contents writer.new) }
@@ -142,6 +144,7 @@ fn no_sets(alloc: Global) -> [BitSet; 8]
 fn read_all<R: Read>(alloc: Global, reader: &mut R) -> Result<Vec<u8>, Ended>
     ensures ok { IfOk result (λ input. IfSome (R.remaining reader.old)
         (λ bytes. input.items ≡ bytes)) }
+    ensures end { OnOk result (IsAtEnd (R.remaining reader.new)) }
     ensures err { IfErr result IsReadFault }
 {
     let mut input = Vec::new(alloc);

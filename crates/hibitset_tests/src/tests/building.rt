@@ -31,6 +31,19 @@ fn building_by_references(rt: HostRuntime) -> Result<(), Fail> {
 }
 
 #[test]
+fn slices(rt: HostRuntime) -> Result<(), Fail> {
+    let mut set = BitSet::from_slice(rt.alloc(), &[9, 3, 16777216, 3])?;
+    assert_members(&rt, &set, &[3, 9, 16777216])?;
+    set.extend_from_slice(&[70, 3])?;
+    assert_members(&rt, &set, &[3, 9, 70, 16777216])?;
+    set.extend_from_slice(&[])?;
+    assert!(rt; set.extend_from_slice(&[8, 1073741824, 4]).is_err());
+    assert_members(&rt, &set, &[3, 8, 9, 70, 16777216])?;
+    assert!(rt; BitSet::from_slice(rt.alloc(), &ITEMS) == Err(REFUSED));
+    Ok(())
+}
+
+#[test]
 fn building_past_the_range(rt: HostRuntime) {
     let refused = BitSet::from_indices(rt.alloc(), [1073741824u32].iter().copied());
     assert!(rt;

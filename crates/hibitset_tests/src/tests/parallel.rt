@@ -139,6 +139,25 @@ fn folds_of_ten_and_of_many(rt: HostRuntime) -> Result<(), AllocError> {
     Ok(())
 }
 
+// How many pieces a fold goes over in so many layers.
+fn pieces_of(
+    rt: &(impl Threads + Sync),
+    alloc: Global,
+    set: &BitSet,
+    layers: u8,
+) -> Result<u64, AllocError>
+    requires some { 0 < layers }
+    requires fits { layers < LAYERS }
+{
+    BitParIter::new(set).layers_split(layers).fold(
+        rt,
+        alloc,
+        || 1u64,
+        |pieces: u64, _index: Index| pieces,
+        |pieces: u64, other: u64| pieces.wrapping_add(other),
+    )
+}
+
 #[test]
 fn folds_count_their_pieces(rt: HostRuntime) -> Result<(), Fail> {
     let many = run_of(rt.alloc(), 524_288)?;
@@ -146,14 +165,28 @@ fn folds_count_their_pieces(rt: HostRuntime) -> Result<(), Fail> {
     let is_cut = available_parallelism(&rt)?.get() > 1;
     for (layers, parts) in [(1u8, 1), (2, 2), (3, 128), (4, 512)] {
         let wanted = if is_cut { parts } else { 1 };
-        let pieces = BitParIter::new(&many).layers_split(layers).fold(
-            &rt,
-            rt.alloc(),
-            || 1u64,
-            |pieces: u64, _index: Index| pieces,
-            |pieces: u64, other: u64| pieces.wrapping_add(other),
-        )?;
+        let pieces = pieces_of(&rt, rt.alloc(), &many, layers)?;
         assert!(rt; pieces == wanted && pieces <= 4_096, "in {layers} layers");
+    }
+    Ok(())
+}
+
+// A large set is cut into a piece for each 32,768 members, up to 4,096.
+#[test]
+fn folds_count_the_pieces_of_large_sets(rt: HostRuntime) -> Result<(), Fail> {
+    let is_cut = available_parallelism(&rt)?.get() > 1;
+    for (members, parts) in [
+        (33_554_432u32, 1_024),
+        (134_217_728, 4_096),
+        (150_994_944, 4_096),
+    ] {
+        let wanted = if is_cut { parts } else { 1 };
+        let mut many = BitSet::new(rt.alloc());
+        many.add_range(0, members)?;
+        assert!(rt;
+            pieces_of(&rt, rt.alloc(), &many, 4)? == wanted,
+            "{members} members"
+        );
     }
     Ok(())
 }

@@ -3,7 +3,7 @@ ghost use Rattle.std.specs.Prelude.{◌≡◌, ◌≢◌, ℕ, ◌/◌, ◌<◌,
 ghost use Rattle.hibitset_base.specs.declared.build.BuildError.TheVariants.{Memory};
 ghost use Rattle.hibitset_atomic.specs.declared.atomic.TheConstants.{ATOMIC_MAX_EID};
 ghost use Rattle.hibitset_atomic.specs.AtomicBitSet.{has, NeedsAllocation};
-ghost use Rattle.uses.specs.Lists.{place_of, InRangeBefore, IsWhy, LacksRoom, LiesApartIn};
+ghost use Rattle.hibitset_base.specs.Slices.{place_of, InRangeBefore, IsWhy, LacksRoom, LiesApartIn};
 
 use hibitset::{AtomicBitSet, BitSetLike, BuildError, Index};
 use std::alloc::Global;
@@ -13,15 +13,14 @@ use std::test::Fail;
 // memory, and then it lies in other 4,096 indices than each before it. Want of memory at place 0 may also tell of the
 // empty set.
 fn set_of(alloc: Global, list: &[Index]) -> Result<AtomicBitSet, BuildError>
-    requires { 0 < length list.now }
     ensures members { IfOk result (λ set. (i : ℕ) → (has set i ≡ true) ↔ Contains list.now i) }
-    ensures place { IfErr result (λ error. place_of error < length list.now) }
+    ensures place { IfErr result (λ error. (error ≡ Memory 0) ⊎ (place_of error < length list.now)) }
     ensures before { IfErr result (λ error. InRangeBefore ATOMIC_MAX_EID list.now
         (place_of error)) }
     ensures why { IfErr result (λ error. (error ≡ Memory 0) ⊎ IsWhy ATOMIC_MAX_EID list.now error) }
     ensures apart { IfErr result (LiesApartIn (λ i j. i / 4096 ≢ j / 4096) list.now) }
 {
-    AtomicBitSet::from_index_refs(alloc, list)
+    AtomicBitSet::from_slice(alloc, list)
 }
 
 // Adds the indices of a list to a set. Where one is refused, those before it are added, and where there was no memory
@@ -35,7 +34,7 @@ fn add_all(set: &mut AtomicBitSet, list: &[Index]) -> Result<(), BuildError>
     ensures why { IfErr result (IsWhy ATOMIC_MAX_EID list.now) }
     ensures lacks { IfErr result (LacksRoom (NeedsAllocation set.new) list.now) }
 {
-    set.extend_index_refs(list)
+    set.extend_from_slice(list)
 }
 
 #[test]

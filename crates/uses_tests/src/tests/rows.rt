@@ -6,8 +6,9 @@ use hibitset::{AtomicBitSet, BitSet, BitSetLike, BuildError, Event, Reply, World
 use std::test::Fail;
 use uses::budget::{halves, in_both, in_both_from};
 use uses::lists::{add_all, set_of, set_of_range};
+use uses::nested::chosen;
 use uses::ready::Ready;
-use uses::room::{add_beside, saved, with_one_more};
+use uses::room::{add_beside, add_without_growth, saved, with_one_more};
 use uses::weights::{weight_here, weight_of_both};
 
 #[test]
@@ -49,6 +50,20 @@ fn what_both_have_below_an_end(rt: HostRuntime) -> Result<(), Fail> {
 }
 
 #[test]
+fn what_three_have_and_a_fourth_has_not(rt: HostRuntime) -> Result<(), Fail> {
+    let a = set_of(rt.alloc(), &[3, 70, 5_000, 300_000])?;
+    let b = set_of(rt.alloc(), &[70, 71, 5_000, 300_000])?;
+    let hidden = set_of(rt.alloc(), &[71, 5_000])?;
+    let ready = set_of(rt.alloc(), &[3, 70, 5_000, 300_000])?;
+    let mut walk = chosen(&a, &b, &hidden, &ready);
+    assert_eq!(rt;
+        (walk.next(), walk.next(), walk.next()),
+        (Some(70), Some(300_000), None)
+    );
+    Ok(())
+}
+
+#[test]
 fn sets_of_ranges(rt: HostRuntime) -> Result<(), Fail> {
     let set = set_of_range(rt.alloc(), 63, 66)?;
     assert_eq!(rt; set.to_vec(rt.alloc())?.as_slice(), [63, 64, 65].as_slice());
@@ -61,20 +76,6 @@ fn sets_of_ranges(rt: HostRuntime) -> Result<(), Fail> {
     assert_eq!(rt;
         set_of_range(rt.alloc(), 1_073_741_822, 1_073_741_824)?.len(),
         2
-    );
-    assert_eq!(rt;
-        set_of_range(rt.alloc(), 1_073_741_822, 1_073_741_826).err(),
-        Some(BuildError::OutOfRange {
-            place: 2,
-            index: 1_073_741_824
-        })
-    );
-    assert_eq!(rt;
-        set_of_range(rt.alloc(), 1_073_741_824, 4_294_967_295).err(),
-        Some(BuildError::OutOfRange {
-            place: 0,
-            index: 1_073_741_824
-        })
     );
     Ok(())
 }
@@ -108,6 +109,8 @@ fn additions_without_memory(rt: HostRuntime) -> Result<(), Fail> {
     assert_eq!(rt; summaries.as_slice(), [1].as_slice());
     let copy = with_one_more(&set, 40)?;
     assert_eq!(rt; copy.to_vec(rt.alloc())?.as_slice(), [3, 40].as_slice());
+    assert!(rt; !add_without_growth(&mut set, 100) && add_without_growth(&mut set, 100));
+    assert_eq!(rt; set.to_vec(rt.alloc())?.as_slice(), [3, 100].as_slice());
     Ok(())
 }
 

@@ -122,6 +122,61 @@ impl BitSet {
         build::from_index_refs(BitSet::new(alloc), iter)
     }
 
+    /// Adds the indices of a slice, each of which is to be below `MAX_EID`.
+    ///
+    /// It stops at the first that is not, and if an allocation fails: then the set has its old members and the indices
+    /// before that one. The error has its place. An allocation can fail only for an index whose word lies past
+    /// `layer0_as_slice`, and no slice grows longer than the members need.
+    ///
+    /// # Contract
+    ///
+    /// ```text
+    /// ensures added { OnOk result (AddsList (has self.old) (has self.new) indices.now) }
+    /// ensures in_range { OnOk result (InRangeBefore MAX_EID indices.now (length indices.now)) }
+    /// ensures added_before { IfErr result (λ error. AddsList (has self.old) (has self.new)
+    ///     (take (place_of error) indices.now)) }
+    /// ensures place { IfErr result (λ error. place_of error < length indices.now) }
+    /// ensures in_range_before { IfErr result (λ error. InRangeBefore MAX_EID indices.now
+    ///     (place_of error)) }
+    /// ensures why { IfErr result (IsWhy MAX_EID indices.now) }
+    /// ensures lacks_room { IfErr result (LacksRoom (λ i. slice_len self.new 0 ≤ i / 64)
+    ///     indices.now) }
+    /// ensures len_min { slice_len self.old 0 ≤ slice_len self.new 0 }
+    /// ensures len_max { (end : ℕ) → slice_len self.old 0 ≤ end → MembersEndBy (has self.new) end
+    ///     → slice_len self.new 0 ≤ end }
+    /// ensures upper_len_max { (l end : ℕ) → l < LAYERS - 1 → slice_len self.old l ≤ end
+    ///     → MembersEndBy (has self.new) (64 ^ l * end) → slice_len self.new l ≤ end }
+    /// ```
+    pub fn extend_from_slice(&mut self, indices: &[Index]) -> Result<(), BuildError> {
+        build::extend_from_slice(self, indices)
+    }
+
+    /// A set of the indices of a slice, each of which is to be below `MAX_EID`.
+    ///
+    /// It stops at the first that is not, and if an allocation fails; the error has its place. An allocation can fail
+    /// only for an index whose word lies past those of all indices before it.
+    ///
+    /// # Contract
+    ///
+    /// ```text
+    /// ensures members { IfOk result (λ set. (i : ℕ)
+    ///     → (has set i ≡ true) ↔ Contains indices.now i) }
+    /// ensures in_range { IfOk result (λ _. InRangeBefore MAX_EID indices.now
+    ///     (length indices.now)) }
+    /// ensures len_max { IfOk result (λ set. (end : ℕ) → MembersEndBy (has set) end
+    ///     → slice_len set 0 ≤ end) }
+    /// ensures upper_len_max { IfOk result (λ set. (l end : ℕ) → l < LAYERS - 1
+    ///     → MembersEndBy (has set) (64 ^ l * end) → slice_len set l ≤ end) }
+    /// ensures place { IfErr result (λ error. place_of error < length indices.now) }
+    /// ensures in_range_before { IfErr result (λ error. InRangeBefore MAX_EID indices.now
+    ///     (place_of error)) }
+    /// ensures why { IfErr result (IsWhy MAX_EID indices.now) }
+    /// ensures apart { IfErr result (LiesApartIn (λ i j. i / 64 < j / 64) indices.now) }
+    /// ```
+    pub fn from_slice(alloc: Global, indices: &[Index]) -> Result<BitSet, BuildError> {
+        build::from_slice(BitSet::new(alloc), indices)
+    }
+
     /// The set whose words of layer 0 are these, at most as many as that layer may have: index `64 * p + b` is a member
     /// where bit `b` of word `p` stands. With `layer0_as_slice` it is how a set is saved and read again. It makes one
     /// request for memory, for these words and those over them; the error is want of it. The original has no such call.

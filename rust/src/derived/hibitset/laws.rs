@@ -6,7 +6,7 @@ use crate::support::rattle_std::prelude::*;
 
 use crate::derived::hibitset::set::BitSet;
 pub use crate::derived::hibitset_atomic::laws::{atomic_laws, world_laws};
-pub use crate::derived::hibitset_base::laws::virtual_laws;
+pub use crate::derived::hibitset_base::laws::{cover_laws, virtual_laws};
 use crate::derived::hibitset_base::util::{LAYERS, MAX_EID};
 
 /// The laws of all sets. The call does nothing, and its contract says them.

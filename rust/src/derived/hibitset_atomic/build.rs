@@ -125,4 +125,61 @@ impl AtomicBitSet {
             }
         }
     }
+
+    /// Adds the indices of a slice, each of which is to be below `ATOMIC_MAX_EID`.
+    ///
+    /// It stops at the first that is not, and if an allocation fails: then the set has its old members and the indices
+    /// before that one. The error has its place. An allocation can fail only for an index whose block of 4,096 indices
+    /// is not made, and no block is made but those of members.
+    ///
+    /// # Contract
+    ///
+    /// ```text
+    /// ensures added { OnOk result (AddsList (has self.old) (has self.new) indices.now) }
+    /// ensures in_range { OnOk result (InRangeBefore ATOMIC_MAX_EID indices.now
+    ///     (length indices.now)) }
+    /// ensures added_before { IfErr result (λ error. AddsList (has self.old) (has self.new)
+    ///     (take (place_of error) indices.now)) }
+    /// ensures place { IfErr result (λ error. place_of error < length indices.now) }
+    /// ensures in_range_before { IfErr result (λ error. InRangeBefore ATOMIC_MAX_EID indices.now
+    ///     (place_of error)) }
+    /// ensures why { IfErr result (IsWhy ATOMIC_MAX_EID indices.now) }
+    /// ensures lacks_room { IfErr result (LacksRoom (NeedsAllocation self.new) indices.now) }
+    /// ensures keeps { (i : ℕ) → NeedsAllocation self.new i → NeedsAllocation self.old i }
+    /// ensures most { (i : ℕ) → NeedsAllocation self.old i → SharesBlockWithNone self.new i
+    ///     → NeedsAllocation self.new i }
+    /// ```
+    pub fn extend_from_slice(&mut self, indices: &[Index]) -> Result<(), BuildError> {
+        build::extend_from_slice(self, indices)
+    }
+
+    /// A set of the indices of a slice, each of which is to be below `ATOMIC_MAX_EID`.
+    ///
+    /// It stops at the first that is not, and if an allocation fails; the error has its place. An allocation can fail
+    /// only for an index with none before it in the same 4,096 indices. Where there is no memory for the empty set
+    /// itself, the error is `Memory` at place 0, whatever the indices are.
+    ///
+    /// # Contract
+    ///
+    /// ```text
+    /// ensures members { IfOk result (λ set. (i : ℕ)
+    ///     → (has set i ≡ true) ↔ Contains indices.now i) }
+    /// ensures in_range { IfOk result (λ _. InRangeBefore ATOMIC_MAX_EID indices.now
+    ///     (length indices.now)) }
+    /// ensures most { IfOk result (λ set. (i : ℕ) → SharesBlockWithNone set i
+    ///     → NeedsAllocation set i) }
+    /// ensures place { IfErr result (λ error. (error ≡ Memory 0)
+    ///     ⊎ (place_of error < length indices.now)) }
+    /// ensures in_range_before { IfErr result (λ error. InRangeBefore ATOMIC_MAX_EID indices.now
+    ///     (place_of error)) }
+    /// ensures why { IfErr result (λ error. (error ≡ Memory 0)
+    ///     ⊎ IsWhy ATOMIC_MAX_EID indices.now error) }
+    /// ensures apart { IfErr result (LiesApartIn (λ i j. i / 4096 ≢ j / 4096) indices.now) }
+    /// ```
+    pub fn from_slice(alloc: Global, indices: &[Index]) -> Result<AtomicBitSet, BuildError> {
+        let Ok(set) = AtomicBitSet::new(alloc) else {
+            return Err(BuildError::Memory { place: 0 });
+        };
+        build::from_slice(set, indices)
+    }
 }

@@ -7,7 +7,7 @@
 //! interleaving, and every interleaving is one.
 //!
 //! What a world answers is said of its past, the list of events that it accepted. What holds of every past is the
-//! contract of [`world_laws`](crate::laws::world_laws).
+//! contract of [`world_laws`](crate::derived::hibitset_atomic::laws::world_laws).
 
 use crate::support::rattle_std::prelude::*;
 

@@ -35,3 +35,24 @@ use crate::derived::hibitset_base::virt::{BitSetAnd, BitSetNot, BitSetOr};
 ///     (record { 0 = record { 0 = a; 1 = b }; 1 = record { 0 = a; 1 = c } }) i }
 /// ```
 pub fn virtual_laws<A: BitSetLike, B: BitSetLike, C: BitSetLike>() {}
+
+/// The laws of the words that a set covers. The call does nothing, and its contract says them.
+///
+/// A set with exact summaries covers words if each of their bits is set in its own. By the clause `bound` of `iter` a
+/// walk over words that a set covers reads at most four words for each of its members, and the top. A set covers its own
+/// words (`own`). What it covers it covers still where bits are taken out, on either side of an intersection (`left`,
+/// `right`). So the bound holds of intersections and differences nested at will: of each set that is taken in.
+///
+/// # Contract
+///
+/// ```text
+/// ensures own { (n : ℕ) (holds : ℕ → Bool) (own word : ℕ → ℕ → ℕ) → CoversWords n holds own word
+///     → CoversWords n holds own own }
+/// ensures left { (n : ℕ) (holds : ℕ → Bool) (own word other : ℕ → ℕ → ℕ)
+///     → CoversWords n holds own word
+///     → CoversWords n holds own (λ l p. bit_and (word l p) (other l p)) }
+/// ensures right { (n : ℕ) (holds : ℕ → Bool) (own word other : ℕ → ℕ → ℕ)
+///     → CoversWords n holds own word
+///     → CoversWords n holds own (λ l p. bit_and (other l p) (word l p)) }
+/// ```
+pub fn cover_laws() {}

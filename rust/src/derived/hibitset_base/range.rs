@@ -46,7 +46,7 @@ impl BitSetLike for BitSetRange {
     fn layer4(&self) -> usize {
         bits_between(
             self.start as usize >> SHIFT4,
-            (self.end as usize + ((1 << SHIFT4) - 1)) >> SHIFT4,
+            (self.end as usize).div_ceil(1 << SHIFT4),
             0,
         )
     }
@@ -55,7 +55,7 @@ impl BitSetLike for BitSetRange {
     fn layer3(&self, i: usize) -> usize {
         bits_between(
             self.start as usize >> SHIFT3,
-            (self.end as usize + ((1 << SHIFT3) - 1)) >> SHIFT3,
+            (self.end as usize).div_ceil(1 << SHIFT3),
             i,
         )
     }
@@ -64,7 +64,7 @@ impl BitSetLike for BitSetRange {
     fn layer2(&self, i: usize) -> usize {
         bits_between(
             self.start as usize >> SHIFT2,
-            (self.end as usize + ((1 << SHIFT2) - 1)) >> SHIFT2,
+            (self.end as usize).div_ceil(1 << SHIFT2),
             i,
         )
     }
@@ -73,7 +73,7 @@ impl BitSetLike for BitSetRange {
     fn layer1(&self, i: usize) -> usize {
         bits_between(
             self.start as usize >> SHIFT1,
-            (self.end as usize + ((1 << SHIFT1) - 1)) >> SHIFT1,
+            (self.end as usize).div_ceil(1 << SHIFT1),
             i,
         )
     }

@@ -1,4 +1,5 @@
-//! A vector whose calls return an error if an allocation fails.
+//! A vector whose calls return an error if an allocation fails. The items are then as they were, but for those that
+//! `extend` has appended before.
 
 use super::alloc::{AllocError, AllocFailed, Global};
 use super::clone::TryClone;
@@ -11,11 +12,13 @@ use core::slice;
 pub struct Vec<T>(Inner<T>);
 
 impl<T> Vec<T> {
+    /// The empty vector. It does not allocate.
     #[inline]
     pub const fn new(_alloc: Global) -> Vec<T> {
         Vec(Inner::new())
     }
 
+    /// An empty vector with room for so many items.
     #[inline]
     pub fn with_capacity(alloc: Global, capacity: usize) -> Result<Vec<T>, AllocError> {
         let mut list = Vec::new(alloc);
@@ -34,36 +37,43 @@ impl<T> Vec<T> {
         Vec(list)
     }
 
+    /// The one allocator.
     #[inline]
     pub fn allocator(&self) -> &Global {
         &Global
     }
 
+    /// How many items there is room for.
     #[inline]
     pub fn capacity(&self) -> usize {
         self.0.capacity()
     }
 
+    /// The items.
     #[inline]
     pub fn as_slice(&self) -> &[T] {
         &self.0
     }
 
+    /// The items, to be written.
     #[inline]
     pub fn as_mut_slice(&mut self) -> &mut [T] {
         &mut self.0
     }
 
+    /// Makes room for so many more items, and for more beside them if it grows.
     #[inline]
     pub fn reserve(&mut self, more: usize) -> Result<(), AllocError> {
         self.0.try_reserve(more).map_err(|_| AllocError)
     }
 
+    /// Makes room for so many more items, and no more.
     #[inline]
     pub fn reserve_exact(&mut self, more: usize) -> Result<(), AllocError> {
         self.0.try_reserve_exact(more).map_err(|_| AllocError)
     }
 
+    /// Appends a value, or gives it back with the error.
     #[inline]
     pub fn push(&mut self, value: T) -> Result<(), AllocFailed<T>> {
         if self.0.len() == self.0.capacity() && self.0.try_reserve(1).is_err() {
@@ -79,21 +89,25 @@ impl<T> Vec<T> {
         self.0.push(value);
     }
 
+    /// Takes the last item off.
     #[inline]
     pub fn pop(&mut self) -> Option<T> {
         self.0.pop()
     }
 
+    /// Drops the items from an index on. The capacity stays.
     #[inline]
     pub fn truncate(&mut self, len: usize) {
         self.0.truncate(len);
     }
 
+    /// Drops all items. The capacity stays.
     #[inline]
     pub fn clear(&mut self) {
         self.0.clear();
     }
 
+    /// Appends the items of an iterator, one by one.
     #[inline]
     pub fn extend<I: IntoIterator<Item = T>>(&mut self, iter: I) -> Result<(), AllocError> {
         for value in iter {
@@ -102,6 +116,7 @@ impl<T> Vec<T> {
         Ok(())
     }
 
+    /// Moves all items of another vector behind its own.
     #[inline]
     pub fn append(&mut self, other: &mut Vec<T>) -> Result<(), AllocError> {
         self.reserve(other.0.len())?;
@@ -111,6 +126,7 @@ impl<T> Vec<T> {
 }
 
 impl<T: Clone> Vec<T> {
+    /// Appends copies of values.
     #[inline]
     pub fn extend_from_slice(&mut self, values: &[T]) -> Result<(), AllocError> {
         self.reserve(values.len())?;
@@ -118,6 +134,7 @@ impl<T: Clone> Vec<T> {
         Ok(())
     }
 
+    /// Makes the length so many items: drops the last ones, or appends copies of a value.
     #[inline]
     pub fn resize(&mut self, len: usize, value: T) -> Result<(), AllocError> {
         self.reserve(len.saturating_sub(self.0.len()))?;

@@ -270,6 +270,37 @@ fn reads_byte_by_byte(rt: HostRuntime) -> Result<(), Fail> {
     Ok(())
 }
 
+// Runs a script from readers that can't fail, and sees that no read is said to have failed.
+fn assert_no_read_fails(rt: &(impl Abort + AllocGlobal), script: &str, writes_left: u32) {
+    let mut writer = Taking::new(rt.alloc(), usize::MAX, writes_left, ErrorKind::Other);
+    let ended = run_text(rt.alloc(), &mut script.as_bytes(), &mut writer);
+    assert!(rt; ended != Ended::InputFailed);
+    let mut reader = EndingOnce {
+        bytes: script.as_bytes(),
+        rest: b"",
+        ended: false,
+    };
+    let ended = run_text(rt.alloc(), &mut reader, &mut writer);
+    assert!(rt; ended != Ended::InputFailed);
+}
+
+// All is done, a line is bad, or each write fails.
+#[test]
+fn no_read_fails_where_none_can(rt: HostRuntime) -> Result<(), Fail> {
+    let long = lines(rt.alloc(), "add h 16777215\n", 7000)?;
+    for script in [
+        "",
+        "add a 5\nlist a",
+        "add a 5\nlist\n",
+        "store",
+        long.as_str(),
+    ] {
+        assert_no_read_fails(&rt, script, 1000);
+        assert_no_read_fails(&rt, script, 0);
+    }
+    Ok(())
+}
+
 #[test]
 fn writes_three_bytes_at_a_time(rt: HostRuntime) {
     let script = b"add a 5\nadd a 16777215\nlist a\nsplit a 3\n";

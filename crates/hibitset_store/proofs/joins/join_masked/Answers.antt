@@ -8,7 +8,8 @@ use Rattle.hibitset_store.specs.Joins.{in_both, pairs, seen}
 use Rattle.hibitset_store.specs.Masks.{in_three, three_word}
 use Rattle.hibitset_store.specs.Walks.{MaskedSteps, masked_left}
 use Rattle.hibitset_store.proofs.JoinLemmas.{all-items, pairs-joined_within, pairs-length}
-use Rattle.hibitset_store.proofs.ReadBoundLemmas.{encloses-and, few_reads}
+use Rattle.hibitset_base.proofs.CoverLemmas.{covers-left}
+use Rattle.hibitset_store.proofs.ReadBoundLemmas.{few_reads}
 use Rattle.hibitset_store.proofs.joins.join_masked.Goals as goal
 
 pub returns-clause-pairs : goal.returns-clause-pairs
@@ -30,7 +31,7 @@ returns-clause-bound g c =
     let third = g.M.BitSetLike.word c.bitand-2.result.1 in
     let within = c.laws.ensures.intersection x y in
     let few = few_reads p q (has x) (has y) (words_ahead (three_word g.M.BitSetLike.word) c.iter.result) (λ i. rw (c.bitand-2.ensures.0, c.bitand.ensures.0) (c.mask.ensures.keys i)) (λ i. rw (c.bitand-2.ensures.0, c.bitand.ensures.1) (c.mask-2.ensures.keys i))
-    (c.iter.ensures.bound (has x) (word_of x) (encloses-and third within.0)) (c.iter.ensures.bound (has y) (word_of y) (encloses-and third within.1)) in
+    (c.iter.ensures.bound (has x) (word_of x) (covers-left third within.0)) (c.iter.ensures.bound (has y) (word_of y) (covers-left third within.1)) in
     omega (arith, few, c.iter.ensures.read)
 
 pub returns-clause-runs : goal.returns-clause-runs

@@ -19,13 +19,15 @@ use crate::support::rattle_std::cmp::min;
 use crate::support::rattle_std::thread::Threads;
 
 /// An estimate: `full` words of layer 0, other nonzero `words`, their `members`, and the cost of listing those
-/// (`listing`).
+/// (`listing`), under the `seen` bits of the top word, of which others are `left`.
 #[derive(Clone, Copy)]
 pub(super) struct Estimate {
     full: usize,
     words: usize,
     members: usize,
     listing: usize,
+    seen: usize,
+    left: usize,
 }
 
 // How many members a word has at least, all in all, where a fold gains by going over whole words.
@@ -35,6 +37,12 @@ impl Estimate {
     // About how many members there are.
     fn members(self) -> usize {
         self.full.saturating_mul(64).saturating_add(self.members)
+    }
+
+    // About how many there are in all, as if there were as many under each bit of the top word.
+    fn members_in_all(self) -> usize {
+        let bits = self.seen.saturating_add(self.left);
+        self.members().saturating_mul(bits) / self.seen.max(1)
     }
 
     // Returns whether a fold gains nothing by going over whole words.
@@ -48,6 +56,8 @@ const EMPTY: Estimate = Estimate {
     words: 0,
     members: 0,
     listing: 0,
+    seen: 0,
+    left: 0,
 };
 
 // How many members of a word count where it is listed. The others are written beside these.
@@ -63,8 +73,8 @@ fn listing_cost(members: usize) -> usize {
 }
 
 /// What a call has to do at each word of layer 0 with all bits set, and at each of the others, at each of their
-/// members, and for each unit of what it takes to list them; and from how much of it on threads save more than it takes
-/// to start them.
+/// members, and for each unit of what it takes to list them; from how much of it on threads save more than it takes to
+/// start them; and how many members take a hundred times as long as cutting a part does.
 #[derive(Clone, Copy)]
 pub(super) struct CostModel {
     full: usize,
@@ -72,6 +82,7 @@ pub(super) struct CostModel {
     member: usize,
     listing: usize,
     worth: usize,
+    members_per_part: usize,
 }
 
 // To count is to look at words, many of them in a row.
@@ -81,6 +92,7 @@ pub(super) const COUNT_COST: CostModel = CostModel {
     member: 0,
     listing: 0,
     worth: 700_000,
+    members_per_part: 1 << 20,
 };
 
 // To collect is to write down each member.
@@ -90,6 +102,7 @@ pub(super) const COLLECT_COST: CostModel = CostModel {
     member: 0,
     listing: 1,
     worth: 500_000,
+    members_per_part: 1 << 16,
 };
 
 // Where a word may take long, threads save time wherever they don't take longer to start than to go over the members.
@@ -99,6 +112,7 @@ pub(super) const READ_COST: CostModel = CostModel {
     member: 1,
     listing: 0,
     worth: 100_000,
+    members_per_part: 1 << 15,
 };
 
 // What a closure does may take any time.
@@ -108,6 +122,7 @@ pub(super) const CALL_COST: CostModel = CostModel {
     member: 0,
     listing: 0,
     worth: 0,
+    members_per_part: 1 << 15,
 };
 
 // What it takes to count.
@@ -156,6 +171,19 @@ pub(super) fn exceeds_cost(size: Estimate, work: CostModel) -> bool {
         >= work.worth
 }
 
+// How many parts a walk is cut into, at most, unless it is large. Each costs the thread that cuts them some hundred
+// nanoseconds.
+const USUAL_PARTS: usize = 512;
+
+// How many there are at most.
+const MAX_PARTS: usize = 4_096;
+
+/// Into how many parts a walk over a set of this size is cut at most: more than the usual number where the set is so
+/// large that cutting them takes less than a hundredth of the walk.
+pub(super) fn max_parts(size: Estimate, work: CostModel) -> usize {
+    (size.members_in_all() / work.members_per_part.max(1)).clamp(USUAL_PARTS, MAX_PARTS)
+}
+
 // The size of both.
 fn sum_of_estimates(size: Estimate, other: Estimate) -> Estimate {
     Estimate {
@@ -163,6 +191,8 @@ fn sum_of_estimates(size: Estimate, other: Estimate) -> Estimate {
         words: size.words.saturating_add(other.words),
         members: size.members.saturating_add(other.members),
         listing: size.listing.saturating_add(other.listing),
+        seen: size.seen.saturating_add(other.seen),
+        left: size.left.saturating_add(other.left),
     }
 }
 
@@ -174,7 +204,9 @@ pub(super) fn estimate_set<T: BitSetLike>(set: &T, work: CostModel, least: usize
     'bits: while left != 0 && !is_enough(size, work, least) {
         let position = take_bit(&mut left);
         size = sum_of_estimates(size, estimate_below(set, position));
+        size.seen = size.seen.saturating_add(1);
     }
+    size.left = left.count_ones() as usize;
     size
 }
 
@@ -210,9 +242,9 @@ fn estimate_subtree<T: BitSetLike>(set: &T, position: usize) -> Estimate {
     }
     let members = word.count_ones() as usize;
     Estimate {
-        full: 0,
         words,
         members: words.saturating_mul(members),
         listing: words.saturating_mul(listing_cost(members)),
+        ..EMPTY
     }
 }

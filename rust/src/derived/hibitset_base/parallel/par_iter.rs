@@ -5,9 +5,10 @@
 use crate::support::rattle_std::prelude::*;
 
 use super::cost::{
-    CALL_COST, cost_of_collect, cost_of_count, estimate_set, exceeds_cost, use_threads,
+    CALL_COST, CostModel, Estimate, cost_of_collect, cost_of_count, estimate_set, exceeds_cost,
+    max_parts, use_threads,
 };
-use super::run;
+use super::run::{self, Cuts};
 use crate::derived::hibitset_base::bulk::count::count_walk;
 use crate::derived::hibitset_base::bulk::fold::{fold_members, fold_walk, visit_walk};
 use crate::derived::hibitset_base::bulk::list::list_walk;
@@ -28,7 +29,7 @@ const MIN_LEN: usize = 4_096;
 /// set is where there is one processor. `for_each` and `fold` take threads from about 4,096 members on, whatever their
 /// closures do; where a closure does little, [`with_min_len`](BitParIter::with_min_len) asks for more. `count` and
 /// `collect` take them where there is more to do than threads take to start: from about 100,000 members on, or, where
-/// the set [has cheap words](BitSetLike::has_cheap_words), `count` from about 700,000 words with members
+/// the set [has cheap words](crate::derived::hibitset_base::like::BitSetLike::has_cheap_words), `count` from about 700,000 words with members
 /// on, and `collect` from about 60,000 to 170,000 of them on, by how many members each has; words with more than twelve
 /// members are listed nearly as fast as memory takes them, so they count for nothing. Nothing else depends on it. Each
 /// takes the handle that starts threads, and an allocator for the parts and what is collected, and is refused for
@@ -100,6 +101,15 @@ impl<T> BitParIter<T> {
 }
 
 impl<T: BitSetLike + Send + Sync> BitParIter<T> {
+    // Where the walk over a set of this size is cut, for a call that does such work.
+    fn cuts(&self, size: Estimate, work: CostModel) -> Cuts {
+        let BitParIter { layers, .. } = self;
+        Cuts {
+            layers: *layers,
+            max_parts: max_parts(size, work),
+        }
+    }
+
     /// How many members there are below `MAX_EID`.
     ///
     /// # Contract
@@ -113,7 +123,7 @@ impl<T: BitSetLike + Send + Sync> BitParIter<T> {
         if !use_threads(rt, size, work, self.min_len) {
             return Ok(count_walk(&self.set.iter()));
         }
-        run::count(rt, alloc, (&self.set).iter(), self.layers)
+        run::count(rt, alloc, (&self.set).iter(), self.cuts(size, work))
     }
 
     /// The members below `MAX_EID`, in ascending order.
@@ -129,15 +139,16 @@ impl<T: BitSetLike + Send + Sync> BitParIter<T> {
         alloc: Global,
     ) -> Result<Vec<Index>, AllocError> {
         let to_count = cost_of_count(&self.set);
+        let to_collect = cost_of_collect(&self.set);
         let size = estimate_set(&self.set, to_count, self.min_len);
-        if !use_threads(rt, size, cost_of_collect(&self.set), self.min_len) {
+        if !use_threads(rt, size, to_collect, self.min_len) {
             return list_walk(self.set.iter(), alloc);
         }
         run::collect(
             rt,
             alloc,
             (&self.set).iter(),
-            self.layers,
+            self.cuts(size, to_collect),
             exceeds_cost(size, to_count),
         )
     }
@@ -161,7 +172,7 @@ impl<T: BitSetLike + Send + Sync> BitParIter<T> {
             visit_walk(self.set.iter(), &f);
             return Ok(());
         }
-        run::for_each(rt, alloc, (&self.set).iter(), self.layers, f)
+        run::for_each(rt, alloc, (&self.set).iter(), self.cuts(size, CALL_COST), f)
     }
 
     /// The folds of one or more consecutive pieces of the ascending list of members, each from `init()`, combined from
@@ -190,7 +201,7 @@ impl<T: BitSetLike + Send + Sync> BitParIter<T> {
                 rt,
                 alloc,
                 (&self.set).iter(),
-                self.layers,
+                self.cuts(size, CALL_COST),
                 init,
                 step,
                 combine,

@@ -18,8 +18,13 @@ use crate::derived::hibitset_base::util::{Index, LAYERS};
 use crate::support::rattle_std::alloc::{AllocError, Global};
 use crate::support::rattle_std::thread::Threads;
 
-// How many parts there are at most. They are cut in one thread, and each costs it some hundred nanoseconds.
-const MAX_PARTS: usize = 512;
+/// Where a walk is cut into parts: in so many layers from the top one on, and into so many parts at most. They are cut in
+/// one thread.
+#[derive(Clone, Copy)]
+pub(crate) struct Cuts {
+    pub(crate) layers: u8,
+    pub(crate) max_parts: usize,
+}
 
 // Splits one part.
 fn split<'a, T: BitSetLike + Send + Sync>(
@@ -33,16 +38,17 @@ fn split<'a, T: BitSetLike + Send + Sync>(
     }
 }
 
-// Splits each part once from left to right, while there are fewer than `MAX_PARTS`.
+// Splits each part once from left to right, while there are fewer than `max_parts`.
 fn split_each_once<'a, T: BitSetLike + Send + Sync>(
     alloc: Global,
     parts: Vec<BitIter<&'a T>>,
     layers: u8,
+    max_parts: usize,
 ) -> Result<Vec<BitIter<&'a T>>, AllocError> {
     let mut total = parts.len();
     let mut next = Vec::new(alloc);
     for part in parts {
-        if total < MAX_PARTS {
+        if total < max_parts {
             let (first, second) = split(part, layers);
             next.push(first)?;
             if let Some(other) = second {
@@ -61,13 +67,14 @@ fn split_into_parts<'a, T: BitSetLike + Send + Sync>(
     alloc: Global,
     whole: BitIter<&'a T>,
     layers: u8,
+    max_parts: usize,
 ) -> Result<Vec<BitIter<&'a T>>, AllocError> {
     let mut parts = Vec::new(alloc);
     parts.push(whole)?;
     let mut before = 0;
-    while before < parts.len() && parts.len() < MAX_PARTS {
+    while before < parts.len() && parts.len() < max_parts {
         before = parts.len();
-        parts = split_each_once(alloc, parts, layers)?;
+        parts = split_each_once(alloc, parts, layers, max_parts)?;
     }
     Ok(parts)
 }
@@ -139,9 +146,9 @@ pub(crate) fn count<R: Threads + Sync, T: BitSetLike + Send + Sync>(
     rt: &R,
     alloc: Global,
     whole: BitIter<&'_ T>,
-    layers: u8,
+    cuts: Cuts,
 ) -> Result<usize, AllocError> {
-    let parts = split_into_parts(alloc, whole, layers)?;
+    let parts = split_into_parts(alloc, whole, cuts.layers, cuts.max_parts)?;
     let counts = counts(rt, alloc, parts.as_slice())?;
     Ok(sum_of_counts(counts.as_slice()))
 }
@@ -151,10 +158,10 @@ pub(crate) fn collect<R: Threads + Sync, T: BitSetLike + Send + Sync>(
     rt: &R,
     alloc: Global,
     whole: BitIter<&'_ T>,
-    layers: u8,
+    cuts: Cuts,
     is_large: bool,
 ) -> Result<Vec<Index>, AllocError> {
-    let parts = split_into_parts(alloc, whole, layers)?;
+    let parts = split_into_parts(alloc, whole, cuts.layers, cuts.max_parts)?;
     let counts = counts_by_size(rt, alloc, parts.as_slice(), is_large)?;
     let mut list = vec![in alloc; 0; sum_of_counts(counts.as_slice())]?;
     fill(
@@ -172,10 +179,10 @@ pub(crate) fn for_each<R: Threads + Sync, T: BitSetLike + Send + Sync, F: Fn(Ind
     rt: &R,
     alloc: Global,
     whole: BitIter<&'_ T>,
-    layers: u8,
+    cuts: Cuts,
     f: F,
 ) -> Result<(), AllocError> {
-    let parts = split_into_parts(alloc, whole, layers)?;
+    let parts = split_into_parts(alloc, whole, cuts.layers, cuts.max_parts)?;
     let visit = |part: &BitIter<&'_ T>| { visit_walk(split_again(part), &f) };
     map_parts(rt, alloc, parts.as_slice(), &visit)?;
     Ok(())
@@ -193,12 +200,12 @@ pub(crate) fn fold<
     rt: &R,
     alloc: Global,
     whole: BitIter<&'_ T>,
-    layers: u8,
+    cuts: Cuts,
     init: I,
     step: F,
     combine: C,
 ) -> Result<U, AllocError> {
-    let parts = split_into_parts(alloc, whole, layers)?;
+    let parts = split_into_parts(alloc, whole, cuts.layers, cuts.max_parts)?;
     let folds = fold_parts(rt, alloc, parts.as_slice(), &init, &step)?;
     match reduce(folds, &combine) {
         Some(result) => Ok(result),

@@ -7,4 +7,4 @@ invariant-loop-before g l = flat_map (items_left (λ s. g.T.BitSetLike.holds s.n
 
 -- a round in which nothing is split is the last
 abbrev pub decreases-loop-before : goal.decreases-loop-before
-decreases-loop-before g l = 4096 - l.before
+decreases-loop-before g l = l.fn.max_parts - l.before

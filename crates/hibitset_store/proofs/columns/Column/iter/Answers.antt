@@ -6,7 +6,8 @@ use Rattle.hibitset_base.specs.Walk.{items_left, words_ahead}
 use Rattle.hibitset_store.specs.Columns.{entry_seen, value_of}
 use Rattle.hibitset_store.specs.Walks.{IterSteps, entries_left}
 use Rattle.hibitset_store.proofs.JoinLemmas.{all-items, entries-length}
-use Rattle.hibitset_store.proofs.ReadBoundLemmas.{encloses-itself, few_reads_of}
+use Rattle.hibitset_base.proofs.CoverLemmas.{covers-own}
+use Rattle.hibitset_store.proofs.ReadBoundLemmas.{few_reads_of}
 use Rattle.hibitset_store.proofs.columns.Column.iter.Goals as goal
 
 pub returns-clause-bound : goal.returns-clause-bound
@@ -14,7 +15,7 @@ returns-clause-bound g c =
     let mask = c.mask.result.now in
     let within = c.laws.ensures.intersection mask mask in
     let few = few_reads_of (value_of c.args.self.now) (has mask) (words_ahead (λ set. word_of set.now) c.iter.result) c.mask.ensures.keys
-    (c.iter.ensures.bound (has mask) (word_of mask) (encloses-itself within.0)) in
+    (c.iter.ensures.bound (has mask) (word_of mask) (covers-own within.0)) in
     omega (arith, few, c.iter.ensures.read)
 
 pub returns-clause-runs : goal.returns-clause-runs

@@ -1,10 +1,11 @@
-use Rattle.hibitset_atomic.specs.Seats.{BelongsTo, IsKnown, reports_of}
-use Rattle.hibitset_atomic.proofs.ListLemmas.{has-from_contains}
+use Rattle.hibitset_atomic.proofs.SparedLemmas.{report_known, spared-still, spared-after}
 use Rattle.hibitset_atomic.proofs.shared.types.SharedBitSet.add_atomic.Goals as goal
 
--- a seat knows what it reported
 pub returns-clause-once : goal.returns-clause-once
-unfolding BelongsTo IsKnown reports_of
-returns-clause-once c = λ new there.
-    let known : IsKnown c.args.seat.now c.args.id = (c.requires.id, c.requires.came.2 c.args.id (has-from_contains _ c.args.id there)) in
-    (c.contains.ensures.no c.if-contains.false).1 (c.contains.ensures.known c.args.id known)
+returns-clause-once c _ reported = (c.contains.ensures.no c.if-contains.false).1 (c.contains.ensures.known c.args.id (report_known c.args.self.now c.args.seat.now c.args.id c.requires.came c.requires.id reported))
+
+pub returns-then-contains-clause-spared : goal.returns-then-contains-clause-spared
+returns-then-contains-clause-spared c = spared-still c.args.self.now c.args.seat.now c.contains.new.seat c.args.id c.contains.ensures.steps.1
+
+pub returns-clause-spared : goal.returns-clause-spared
+returns-clause-spared c = spared-after c.args.self.now c.args.seat.now c.contains.new.seat c.exchange.new.seat c.args.id c.contains.ensures.steps.1 c.contains.ensures.known c.exchange.ensures.spared

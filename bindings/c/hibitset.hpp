@@ -1,0 +1,130 @@
+/* SPDX-License-Identifier: Apache-2.0 */
+/*
+ * hibitset.hpp: a set of hibitset.h as a class, for C++11 and later. It frees its memory, and is moved, never copied in
+ * silence: clone() copies. The rules at the top of hibitset.h hold.
+ *
+ *     hibitset::set pages{5, 70000};
+ *     pages.add_range(10, 20);
+ *     for (std::uint32_t page : pages) { ... }
+ *
+ * A failed allocation throws std::bad_alloc, an index that is out of range std::out_of_range. The members are then as
+ * before, but for an addition of a list: the indices before the one that failed are added.
+ */
+#ifndef HIBITSET_HPP
+#define HIBITSET_HPP
+
+#include "hibitset.h"
+#include <cstddef>
+#include <cstdint>
+#include <initializer_list>
+#include <iterator>
+#include <new>
+#include <stdexcept>
+
+namespace hibitset {
+
+class set {
+public:
+    set() noexcept : set_(hibitset_new()) {}
+    set(std::initializer_list<std::uint32_t> indices) : set() { add(indices.begin(), indices.size()); }
+    set(set &&other) noexcept : set_(other.set_) { other.set_ = hibitset_new(); }
+    set &operator=(set &&other) noexcept {
+        if (this != &other) {
+            hibitset_free(&set_);
+            set_ = other.set_;
+            other.set_ = hibitset_new();
+        }
+        return *this;
+    }
+    set(const set &) = delete;
+    set &operator=(const set &) = delete;
+    ~set() { hibitset_free(&set_); }
+
+    set clone() const {
+        set copy;
+        check(hibitset_assign(&copy.set_, &set_));
+        return copy;
+    }
+
+    /* What hibitset.h takes: for each function that has no name here. */
+    hibitset_t *raw() noexcept { return &set_; }
+    const hibitset_t *raw() const noexcept { return &set_; }
+
+    /* Returns whether the index is new. */
+    bool add(std::uint32_t index) { return check(hibitset_add(&set_, index)) == HIBITSET_OK; }
+    void add(const std::uint32_t *indices, std::size_t len) {
+        std::size_t added;
+        check(hibitset_add_many(&set_, indices, len, &added));
+    }
+    void add_range(std::uint32_t start, std::uint32_t end) { check(hibitset_add_range(&set_, start, end)); }
+    void flip_range(std::uint32_t start, std::uint32_t end) { check(hibitset_flip_range(&set_, start, end)); }
+    /* Returns whether the index was a member. */
+    bool remove(std::uint32_t index) noexcept { return hibitset_remove(&set_, index); }
+    void remove_range(std::uint32_t start, std::uint32_t end) noexcept { hibitset_remove_range(&set_, start, end); }
+    void clear() noexcept { hibitset_clear(&set_); }
+
+    bool contains(std::uint32_t index) const noexcept { return hibitset_contains(&set_, index); }
+    std::size_t size() const noexcept { return hibitset_len(&set_); }
+    bool empty() const noexcept { return hibitset_is_empty(&set_); }
+
+    set &operator|=(const set &other) { return check(hibitset_or_assign(&set_, &other.set_)), *this; }
+    set &operator^=(const set &other) { return check(hibitset_xor_assign(&set_, &other.set_)), *this; }
+    set &operator&=(const set &other) noexcept { return hibitset_and_assign(&set_, &other.set_), *this; }
+    set &operator-=(const set &other) noexcept { return hibitset_andnot_assign(&set_, &other.set_), *this; }
+
+    friend bool operator==(const set &a, const set &b) noexcept { return hibitset_equals(&a.set_, &b.set_); }
+    friend bool operator!=(const set &a, const set &b) noexcept { return !(a == b); }
+
+    /* The members, ascending. While it is used, no function changes the set. */
+    class iterator {
+    public:
+        using iterator_category = std::input_iterator_tag;
+        using value_type = std::uint32_t;
+        using difference_type = std::ptrdiff_t;
+        using pointer = const std::uint32_t *;
+        using reference = std::uint32_t;
+
+        std::uint32_t operator*() const noexcept { return members_[at_]; }
+        iterator &operator++() noexcept {
+            const std::uint32_t next = members_[at_] + 1;
+            if (++at_ == count_) read(next);
+            return *this;
+        }
+        void operator++(int) noexcept { ++*this; }
+        friend bool operator==(const iterator &a, const iterator &b) noexcept {
+            return a.count_ == 0 || b.count_ == 0 ? a.count_ == b.count_ : *a == *b;
+        }
+        friend bool operator!=(const iterator &a, const iterator &b) noexcept { return !(a == b); }
+
+    private:
+        friend class set;
+        iterator() noexcept : set_(nullptr), at_(0), count_(0) {}
+        iterator(const hibitset_t *of, std::uint32_t start) noexcept : set_(of) { read(start); }
+        void read(std::uint32_t start) noexcept {
+            at_ = 0;
+            count_ = hibitset_next_many(set_, start, members_, sizeof members_ / sizeof *members_);
+        }
+
+        const hibitset_t *set_;
+        std::uint32_t members_[64];
+        std::size_t at_, count_; /* count_ is 0 past the last member */
+    };
+
+    iterator begin() const noexcept { return from(0); }
+    iterator end() const noexcept { return iterator(); }
+    /* Begins at the least member that is no less than `start`. */
+    iterator from(std::uint32_t start) const noexcept { return iterator(&set_, start); }
+
+private:
+    static hibitset_status check(hibitset_status status) {
+        if (status == HIBITSET_NO_MEMORY) throw std::bad_alloc();
+        if (status == HIBITSET_OUT_OF_RANGE) throw std::out_of_range(hibitset_status_text(status));
+        return status;
+    }
+
+    hibitset_t set_;
+};
+
+} // namespace hibitset
+
+#endif

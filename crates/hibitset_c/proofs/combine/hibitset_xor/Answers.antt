@@ -1,0 +1,14 @@
+use Rattle.hibitset_c.specs.Set.{has}
+use Rattle.hibitset_c.proofs.CombineLemmas.{xor_members, xor_ends}
+use Rattle.hibitset_c.proofs.combine.hibitset_xor.Goals as goal
+
+pub returns-clause-members : goal.returns-clause-members
+returns-clause-members c = λ ok. xor_members c.args.a.now c.args.b.now (has c.make_of.new.out) (c.make_of.ensures.members ok)
+
+pub returns-clause-len_max : goal.returns-clause-len_max
+returns-clause-len_max c = λ ok end ends.
+    let a = c.args.a.now in
+    let b = c.args.b.now in
+    let new = has c.make_of.new.out in
+    c.make_of.ensures.len_max ok end
+    (xor_ends a b new c.are_words.ensures c.are_words-2.ensures end ends (xor_members a b new (c.make_of.ensures.members ok)))

@@ -1,0 +1,61 @@
+"""The tables of modules in the READMEs of crates, which are made of the first sentences of the sources."""
+import re
+
+from .repository import LIBRARY
+from .sources import line_at, text_of
+
+MODULES = re.compile(r"^<!-- modules -->\n(.*?)^<!-- /modules -->$", re.M | re.S)
+
+
+def first_sentence(path):
+    """The first sentence of the lines //! at the head of a file."""
+    lines = []
+    for line in text_of(path).splitlines():
+        if not line.startswith("//! "):
+            break
+        lines.append(line[4:].strip())
+    found = re.match(r".*?[.](?=\s|$)", " ".join(lines))
+    return (found[0] if found else " ".join(lines)).replace("|", "\\|")
+
+
+def table_of_modules(crate):
+    rows = [
+        f"| `{path.relative_to(crate.folder)}` | {first_sentence(path)} |"
+        for path in crate.modules()
+        if path.name not in ("lib.rt", "main.rt")
+    ]
+    return "\n".join(["| module | what it is |", "|---|---|", *rows, ""])
+
+
+def wrong_modules(repository, page):
+    """The rows that a crate's table of modules lacks or has too many."""
+    if page not in repository.readmes:
+        return
+    text = text_of(page)
+    found = MODULES.search(text)
+    if not found:
+        if page.parent.name in LIBRARY:
+            yield 1, "has no table between <!-- modules --> and <!-- /modules -->"
+        return
+    line, wanted = line_at(text, found.start()), table_of_modules(repository.crate(page.parent.name))
+    yield from ((line, words) for words in differences(found[1].splitlines(), wanted.splitlines()))
+
+
+def differences(has, wants):
+    for row in wants:
+        if row not in has:
+            yield f"the table of modules lacks (docs.py --write puts it there): {row}"
+    for row in has:
+        if row not in wants:
+            yield f"the table of modules has what is not so: {row or 'an empty line'}"
+    if has != wants and sorted(has) == sorted(wants):
+        yield "the table of modules has another order"
+
+
+def write_modules(repository):
+    for page in repository.readmes:
+        text, table = text_of(page), table_of_modules(repository.crate(page.parent.name))
+        new = MODULES.sub(lambda _: f"<!-- modules -->\n{table}<!-- /modules -->", text)
+        if new != text:
+            page.write_text(new, encoding="utf-8")
+            print(f"docs.py: {repository.shown(page)}: its table of modules is written anew")

@@ -1,0 +1,99 @@
+#!/usr/bin/env python3
+"""run_contract.py [CRATE [FUNCTION]]: the prover must refuse the mutants of contract/.
+
+With CRATE it tries those of one crate, with FUNCTION those below the headings `## FUNCTION` or `## TYPE::FUNCTION`. Those
+marked `gate`, which `rt ci` tries, are left out where no function is named. It works in a copy of the repository, whose
+edits it makes of the tables. Behind each refusal it says what refused: a clause, a condition (what a call or an operation
+requires), an invariant (or a measure) of a loop, a limit of the prover, or the shape of a proof file, which says nothing of
+the contract: such a mutant has to become a twin.
+"""
+import re
+import subprocess
+import sys
+import tempfile
+from collections import Counter
+from pathlib import Path
+
+TOP = Path(__file__).resolve().parent.parent.parent
+sys.path.insert(0, str(TOP / "tests"))
+
+from checks.repository import Repository  # noqa: E402
+from mutants import edits, tables  # noqa: E402
+
+KINDS = (
+    (r"\(only by a limit of the prover", "a limit of the prover"),
+    (r"\(only because a proof file|: (?:note: )?(?:\./)?proofs/", "THE SHAPE of a proof file: write a twin"),
+    (r"clause-|ensures holds|_gives\b", "a clause"),
+    (r"requires holds", "a condition"),
+    (r"invariant|the loop ends|measure", "an invariant"),
+    (r"it is not proved that", "a condition"),
+)
+
+
+def refusal(line):
+    """What a line of `rt must-fail` says refused its edit; None where it says of none."""
+    found = re.search(r"must-fail \S+: refused, as it must be(.*)", line)
+    if not found:
+        return None
+    return next((kind for form, kind in KINDS if re.search(form, found[1])), "READ THE LINE")
+
+
+def chosen(mutants, function=None):
+    """Which of the mutants are to be tried."""
+    if not function:
+        return [mutant for mutant in mutants if not mutant.is_gate]
+    return [mutant for mutant in mutants if mutant.function == function or mutant.function.endswith(f"::{function}")]
+
+
+def copy(work):
+    """Copies the repository, as it stands, without what git ignores."""
+    listed = ["git", "ls-files", "-z", "--cached", "--others", "--exclude-standard"]
+    names = subprocess.run(listed, cwd=TOP, capture_output=True, text=True, check=True).stdout.split("\0")
+    there = "\0".join(name for name in names if name and (TOP / name).is_file())
+    packed = subprocess.run(["tar", "--null", "--files-from=-", "-cf", "-"], cwd=TOP, input=there.encode(), capture_output=True, check=True)
+    subprocess.run(["tar", "-xf", "-", "-C", work], input=packed.stdout, check=True)
+
+
+def write(work, name, mutants):
+    """Writes the edits of these mutants in the place of those that a crate of the copy has."""
+    repository = Repository(work)
+    crate, folder = repository.crate(name), work / "crates" / name / "must-fail"
+    traits = edits.traits_of(repository.crate(each) for each in repository.at_or_below(name))
+    folder.mkdir(exist_ok=True)
+    for old in folder.glob("*.edit"):
+        old.unlink()
+    for mutant in mutants:
+        (folder / f"{mutant.name}.edit").write_text(edits.edit_text(edits.pairs_of(mutant, crate, traits)), encoding="utf-8")
+
+
+def attempt(work, names):
+    """Runs `rt must-fail`, and says of each refusal what it was."""
+    counts = Counter()
+    ran = subprocess.Popen(["rt", "must-fail", *names], cwd=work, stdout=subprocess.PIPE, stderr=subprocess.STDOUT, text=True, errors="replace")
+    for line in ran.stdout:
+        kind = refusal(line)
+        counts[kind] += 1
+        print(line.rstrip("\n") + (f"\n    refused by {kind}" if kind else ""), flush=True)
+    said = ", ".join(f"{count} by {kind}" for kind, count in counts.most_common() if kind)
+    print(f"run_contract.py: refusals: {said or 'none'}")
+    return ran.wait()
+
+
+def main():
+    crate, function = (*sys.argv[1:3], None, None)[:2]
+    names = [crate] if crate else tables.crates()
+    if len(sys.argv) > 3 or not set(names) <= set(tables.crates()):
+        sys.exit(__doc__)
+    found = {name: chosen(tables.mutants_of(name), function) for name in names}
+    if not any(found.values()):
+        sys.exit(f"run_contract.py: no heading of {crate} is {function}")
+    with tempfile.TemporaryDirectory() as folder:
+        work = Path(folder)
+        copy(work)
+        for name, mutants in found.items():
+            write(work, name, mutants)
+        return attempt(work, names)
+
+
+if __name__ == "__main__":
+    sys.exit(main())

@@ -1,0 +1,154 @@
+"""Tables of mutants: what is read of them, what is made of them, and what is refused."""
+import unittest
+from pathlib import Path
+
+from checks import mutants as checks
+from mutants import edits, tables
+from mutants.run_contract import chosen, refusal, write
+
+from .fixture import InRepository
+
+TABLE = "tests/mutants/contract/low/set.mutants"
+PLAIN = "## Set::has\nhas_none\n    - self.word(id) == 1\n    + self.word(id) == 2\n"
+TWIN = "## Set::has\nhas_all: twin, gate\n    self.has(id);\n    true\n"
+OPERATOR = "## Set::bitand\nand_is_or: twin\n    for: Set\n    parts: result.1, result.0\n    -> Or<Self, T> { Or(self, rhs) }\n"
+
+
+def read(text):
+    return tables.Reader(Path("t.mutants"), "src/set.rt").read(text)
+
+
+class Tables(unittest.TestCase):
+    def refuses(self, text, words):
+        with self.assertRaises(tables.BadTable) as bad:
+            read(text)
+        self.assertIn(words, str(bad.exception))
+
+    def test_lines_that_go_and_come(self):
+        (mutant,) = read(PLAIN)
+        self.assertEqual(mutant.pairs, [("src/set.rt", "self.word(id) == 1", "self.word(id) == 2")])
+        self.assertEqual((mutant.name, mutant.function, mutant.is_twin), ("has_none", "Set::has", False))
+
+    def test_a_line_that_goes_on(self):
+        (mutant,) = read("## f\nm\n    - a\n    + b\n        c\n    file: src/other.rt\n    -   d\n    +\n")
+        self.assertEqual(mutant.pairs, [("src/set.rt", "a", "b c"), ("src/other.rt", "  d", "")])
+
+    def test_a_twin(self):
+        (mutant,) = read(TWIN)
+        self.assertEqual((mutant.body, mutant.is_twin, mutant.is_gate), (["self.has(id);", "true"], True, True))
+
+    def test_refused_forms(self):
+        self.refuses("m\n    - a\n    + b\n", "under no heading")
+        self.refuses("## f\nm: double\n", "is no NAME")
+        self.refuses("## f\nm\n    - a\n", "no line + behind it")
+        self.refuses("## f\nm\n    + a\n", "no line - before it")
+        self.refuses("## f\nm\n", "changes nothing")
+        self.refuses("## f\nm: twin\n    - a\n    + b\n", "twin without a body")
+        self.refuses("## f\nm\n    body()\n", "has a body and is none")
+        self.refuses("## f\nm\n    - a\n    - b\n    + c\n", "no line + behind it")
+        self.refuses("## f\nm\n    with: #[inline]\n    - a\n    + c\n", "has lines of a twin and is none")
+        self.refuses("    - a\n", "stands below no mutant")
+
+
+class Edits(InRepository):
+    def pairs(self, text):
+        repository = self.repository()
+        crate = repository.crate("low")
+        (mutant,) = read(text)
+        return edits.pairs_of(mutant, crate, edits.traits_of([crate]))
+
+    def test_a_twin_has_the_clauses_and_attributes_of_its_function(self):
+        ((_, old, new),) = self.pairs(TWIN)
+        clauses = "ensures found { IsTrue result } { self.has(id); true } #[tactic(auto)]"
+        self.assertEqual(new, f"pub fn has_twin(&self, id: usize) -> bool {clauses} {old}")
+
+    def test_a_twin_before_another_line(self):
+        ((_, old, new),) = self.pairs(TWIN.replace("gate\n", "gate\n    before: impl<T: Sets> BitAnd<T> for Set {\n"))
+        self.assertTrue(new.startswith("impl Set { pub fn has_twin"))
+        self.assertTrue(new.endswith("{ self.has(id); true } } impl<T: Sets> BitAnd<T> for Set {"))
+
+    def test_a_twin_before_a_part_of_a_line(self):
+        with self.assertRaises(edits.BadMutant):
+            self.pairs(TWIN.replace("gate\n", "gate\n    before: fn has(&self\n"))
+
+    def test_an_operator(self):
+        ((_, old, new),) = self.pairs(OPERATOR)
+        self.assertIn("type Output = Or<Self, T>; ghost bitand_gives = { λ set other result. (result.1 ≡ set)", new)
+        self.assertTrue(new.endswith("{ Or(self, rhs) } } impl<'a, T: Sets> BitAnd<T> for &'a mut Set {"))
+
+    def test_a_twin_of_no_function(self):
+        with self.assertRaises(edits.BadMutant):
+            self.pairs(TWIN.replace("Set::has", "Set::had"))
+
+
+class Checks(InRepository):
+    def faults(self, table, files=None):
+        repository = self.repository({TABLE: table, **(files or {})})
+        return self.said(checks.wrong_mutants(repository, checks.Mutants(repository)))
+
+    def test_what_is_right(self):
+        self.assertEqual(self.faults(PLAIN), "")
+
+    def test_what_cannot_be_applied(self):
+        self.assertIn("the old text stands 0 times", self.faults(PLAIN.replace("- self", "- this")))
+        self.assertIn("changes no line of Set::word", self.faults(PLAIN.replace("Set::has", "Set::word")))
+        self.assertIn("declares no Set::had", self.faults(PLAIN.replace("Set::has", "Set::had")))
+        self.assertIn("there is no function Set::had", self.faults(TWIN.replace("Set::has", "Set::had")))
+        self.assertIn("stands also in line", self.faults(PLAIN + PLAIN))
+
+    def test_clauses_that_a_mutant_restates(self):
+        text = "fn twin(&self) -> bool ensures found { IsTrue result } { true } fn word"
+        said = self.faults(PLAIN.replace("- self.word(id) == 1", "- fn word").replace("+ self.word(id) == 2", f"+ {text}").replace("Set::has", "Set::word"))
+        self.assertIn("has_none restates clauses", said)
+
+    def test_edits_of_the_gate(self):
+        self.assertIn("is not what its table makes", self.faults(TWIN))
+        stray = {"crates/low/must-fail/stray.edit": "file: src/set.rt\n"}
+        self.assertIn("is of no mutant", self.faults(PLAIN, stray))
+        self.assertIn("beside the tables", self.faults(PLAIN, {"tests/mutants/contract/low/m.edit": ""}))
+
+    def test_a_public_function_without_a_mutant(self):
+        repository = self.repository({TABLE: PLAIN.replace("Set::has", "Set"), "crates/hibitset/src/lib.rt": "//! Has.\npub fn f()\n    ensures { true }\n{\n}\n"})
+        self.assertIn("has no mutant, so write one: hibitset f", self.said(checks.wrong_untried(repository, checks.Mutants(repository))))
+
+    def test_a_function_of_the_list_that_has_a_mutant(self):
+        repository = self.repository({TABLE: PLAIN, "tests/mutants/without_mutant.txt": "# Words.\nlow has\n"})
+        self.assertIn("take it off the list", self.said(checks.wrong_untried(repository, checks.Mutants(repository))))
+
+    def test_patches(self):
+        head = "crate: low\nfails: tests::lost\n"
+        diff = "diff --git a/crates.txt b/crates.txt\n--- a/crates.txt\n+++ b/crates.txt\n@@ -1 +1 @@\n-high: std\n+low:\n"
+        repository = self.repository({"tests/mutants/tests/p.patch": head + diff})
+        said = self.said(checks.wrong_patches(repository))
+        self.assertIn("cannot be applied", said)
+        self.assertIn("low has no test tests::lost", said)
+
+
+class Tries(InRepository):
+    def test_which_are_tried(self):
+        mutants = read(PLAIN + TWIN)
+        self.assertEqual([mutant.name for mutant in chosen(mutants)], ["has_none"])
+        self.assertEqual([mutant.name for mutant in chosen(mutants, "has")], ["has_none", "has_all"])
+        self.assertEqual(chosen(mutants, "as"), [])
+
+    def test_their_edits(self):
+        repository = self.repository({"crates/low/must-fail/old.edit": "file: src/set.rt\n"})
+        write(repository.top, "low", read(PLAIN))
+        (edit,) = (repository.crates / "low" / "must-fail").iterdir()
+        self.assertEqual(edit.read_text(encoding="utf-8"), "file: src/set.rt\nold: self.word(id) == 1\nnew: self.word(id) == 2\n")
+
+
+class Refusals(unittest.TestCase):
+    def test_what_refused(self):
+        line = "rt: must-fail low/m.edit: refused, as it must be"
+        for words, kind in (
+            (": src/set.rt:8:5: error: it is not proved that what the function ensures holds when it returns", "a clause"),
+            (": src/set.rt:8:5: error: it is not proved that what `get` requires holds at this call", "a condition"),
+            (": src/set.rt:8:5: error: it is not proved that index 64 is below 5, the array's length", "a condition"),
+            (": src/set.rt:8:5: error: it is not proved that the invariant of the loop holds", "an invariant"),
+            (" (only because a proof file names what the edit took away)", "THE SHAPE of a proof file: write a twin"),
+            (": ./proofs/set/Answers.antt:3:1: error: wrong", "THE SHAPE of a proof file: write a twin"),
+            (" (only by a limit of the prover, which gave no verdict)", "a limit of the prover"),
+        ):
+            self.assertEqual(refusal(line + words), kind)
+        self.assertIsNone(refusal("rt: must-fail low/m.edit: NOT REFUSED: the crate is still proved"))

@@ -1,0 +1,111 @@
+"""The checks of pages, each with a page that it must refuse."""
+from checks import clauses, counts, heads, module_tables, pages, quotes
+
+from .fixture import InRepository
+
+README = "crates/low/README.md"
+RIGHT = """# low
+
+[a heading](#low), [crates](../../crates.txt), crates/low/src/set.rt, `src/set.rt`
+
+<!-- modules -->
+| module | what it is |
+|---|---|
+| `src/set.rt` | A set. |
+<!-- /modules -->
+
+| promise | clause |
+|---|---|
+| It has. | `Set::has`: `found` |
+
+```rust
+// crates/low/src/set.rt
+fn word(&self, id: usize) -> usize {
+    id
+}
+```
+
+```text
+fn Set::has(..)
+    ensures found { IsTrue result }
+```
+
+## What is only tested
+
+| promise | test |
+|---|---|
+| It is. | `low`: `tests::is` |
+"""
+TESTS = "//! Tests.\n#[test]\nfn is() {\n}\n"
+
+
+class Pages(InRepository):
+    def found(self, check, old="", new="", more=None):
+        files = {README: RIGHT.replace(old, new) if old else RIGHT, "crates/low/src/tests.rt": TESTS, **(more or {})}
+        repository = self.repository(files)
+        return self.said(check(repository, repository.crates / "low" / "README.md"))
+
+    def refuses(self, check, old, new, words):
+        """A check takes the right page, and refuses the one that has new words in the place of old ones."""
+        self.assertEqual(self.found(check), "")
+        self.assertIn(words, self.found(check, old, new))
+
+    def test_links(self):
+        self.refuses(pages.dead_links, "crates.txt)", "lost.txt)", "links to ../../lost.txt")
+        self.refuses(pages.dead_links, "(#low)", "(#high)", "no heading has the anchor #high")
+
+    def test_paths_and_files(self):
+        self.refuses(pages.dead_paths, "crates/low/src/set.rt,", "crates/low/src/lost.rt,", "names crates/low/src/lost.rt")
+        self.refuses(pages.dead_files, "`src/set.rt`\n", "`src/lost.rt`\n", "names src/lost.rt")
+
+    def test_tests(self):
+        self.refuses(pages.untested, "`tests::is`", "`tests::was`", "there is no tests::was in low")
+        self.refuses(pages.untested, "`tests::is`", "`tests` (`was`)", "there is no was in low")
+
+    def test_quotes(self):
+        self.refuses(quotes.misquoted, "    id\n", "    it\n", "does not stand so in crates/low/src/set.rt")
+        self.refuses(quotes.misquoted, "// crates/low/src/set.rt", "// crates/low/src/lost.rt", "quotes crates/low/src/lost.rt")
+        self.refuses(quotes.misquoted_clauses, "IsTrue", "IsFalse", "Set::has has no such clause")
+        self.refuses(quotes.misquoted_clauses, "fn Set::has", "fn Set::had", "no function Set::had")
+
+    def test_clauses(self):
+        self.refuses(clauses.wrong_cells, "`found` |", "`lost` |", "Set::has has no clause lost")
+        self.refuses(clauses.wrong_cells, "`Set::has`: `found` |", "`Set::had` |", "no function, type, record or definition Set::had")
+        self.refuses(clauses.wrong_cells, "`Set::has`: `found` |", "has |", "is not of the form")
+        self.assertIn("nothing has a clause lost", self.found(clauses.wrong_cells, "| promise | clause |\n|---|---|\n| It has. |", "| clause | promise |\n|---|---|\n| `lost` |"))
+
+    def test_functions_that_no_row_names(self):
+        source = "//! Sets.\npub fn f()\n    ensures { true }\n{\n}\n"
+        repository = self.repository({"crates/hibitset/src/lib.rt": source, "crates/hibitset/README.md": "# hibitset\n"})
+        self.assertIn("names f", self.said(clauses.unnamed_functions(repository)))
+
+    def test_tables_of_modules(self):
+        self.refuses(module_tables.wrong_modules, "| A set. |", "| Sets. |", "the table of modules lacks")
+        repository = self.repository({README: RIGHT.replace("| A set. |", "| Sets. |")})
+        with self.silence():
+            module_tables.write_modules(repository)
+        self.assertIn("| A set. |", (repository.top / README).read_text(encoding="utf-8"))
+
+
+class Repositories(InRepository):
+    def test_heads(self):
+        files = {"crates/low/src/set.rt": "pub struct Set;\n", "crates/low/specs/Sets.antt": "pub x : Bool\n", "bench/RESULTS.md": "# Some day\n"}
+        repository = self.repository(files)
+        said = self.said(heads.headless(repository))
+        self.assertIn("does not begin with //!", said)
+        self.assertIn("does not begin with --", said)
+        self.assertIn("does not say which commit", self.said(heads.wrong_results(repository)))
+
+    def test_numbers(self):
+        for said, value in (("1,398", 1398), ("64", 64), ("twelve", 12), ("Twenty-one", 21), ("thirty", 30), ("some", None)):
+            self.assertEqual(counts.number(said), value)
+
+    def test_counts(self):
+        repository = self.repository({"README.md": "low has two modules\n"})
+        one = ((r"low has (\S+) modules", "modules", lambda _: 1),)
+        self.assertIn("says two where there are 1 modules", self.said(counts.wrong_counts(repository, one)))
+        lists = {"README.md": "Three modules are about rows: `rows`, `lost`.", "crates/uses/src/rows.rt": "//! Rows.\n"}
+        said = self.said(counts.wrong_lists(self.repository(lists)))
+        self.assertIn("names lost, which is no module of uses", said)
+        self.assertIn("says Three modules where it names 2", said)
+        self.assertIn("no page says", self.said(counts.wrong_counts(repository, ((r"high has (\S+)", "modules", len),))))
