@@ -273,6 +273,8 @@ class Wanted:
         if at == self.walk_end:
             members = ["crate", "::", "beside", "::", "iterator_members", "!", "{", WALKS[self.name], "}", "}"]
             return self.counted("members", members)
+        if word == "match" and self.name == "hibitset_base/like" and after[0] == "layer":
+            return self.counted("condition", "crate :: beside :: check_layer ( layer ) ; match".split())
         if word == "{" and self.handle is not None:
             handle, self.handle = self.handle, None
             return ["{", "let", handle, "=", *"crate :: support :: rattle_std :: rt :: host ( ) ;".split()]

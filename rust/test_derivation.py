@@ -88,6 +88,12 @@ class Naming(unittest.TestCase):
         wanted = "impl<T: S> Iterator for BitIter<T> {\n    fn next() {}\n\n    crate::beside::iterator_members! { BitIter }\n}\n"
         self.assertEqual(derived(source, "hibitset_base/iter.rt"), wanted)
 
+    def test_a_condition(self):
+        source = "fn f(layer: usize) {\n    match layer {}\n}\n"
+        wanted = "fn f(layer: usize) {\n    crate::beside::check_layer(layer);\n    match layer {}\n}\n"
+        self.assertEqual(derived(source, "hibitset_base/like.rt"), wanted)
+        self.assertEqual(derived(source, "hibitset_base/iter.rt"), source)
+
     def test_the_runtime(self):
         source = "#[test]\nfn t(rt: HostRuntime) -> R {\n    f(rt)\n}\n"
         wanted = "#[test]\nfn t() -> R {\n    let rt = crate::support::rattle_std::rt::host();\n    f(rt)\n}\n"

@@ -38,6 +38,9 @@ OPEN_MODULES = {
 # Iterators whose impl has members by hand (beside/iterators.rs).
 ITERATORS = ("BitIter", "BitRevIter", "DrainBitIter")
 
+# Conditions (`requires`) of methods that users call and the face does not, by FILE and the first words of the body.
+CONDITIONS = {("hibitset_base/like.rt", "match", "layer"): "crate::beside::check_layer(layer);"}
+
 HEAD = f"use {SUPPORT}rattle_std::prelude::*;"
 
 
@@ -111,6 +114,13 @@ def opened_struct(source, at):
         field = source.next(source.until(field, ",", "{"))
         if source.text(source.last(field)) == "{":
             field = source.next(source.next(source.close(source.last(field))))
+
+
+def condition(source, at):
+    """A condition that Rattle proves at each call is checked in the first line of the body."""
+    check = CONDITIONS.get((source.name, source.text(at), source.text(source.next(at))))
+    if check is not None:
+        source.put(at, check + "\n" + source.indent(at) + source.text(at), "condition")
 
 
 def members(source, at):

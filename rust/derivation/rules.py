@@ -18,6 +18,7 @@ RULES = (
     "name",
     "visibility",
     "members",
+    "condition",
     "runtime",
     "head",
     "contract",
@@ -79,6 +80,7 @@ class Rules:
             naming.opened_module(source, at)
         elif word == "impl":
             naming.members(source, at)
+        naming.condition(source, at)
         naming.path(source, at, self.crates)
         naming.renamed(source, at)
         return at

@@ -77,8 +77,8 @@ pub use derived::hibitset_atomic::ATOMIC_MAX_EID;
 /// ---
 pub use derived::hibitset_base::BitParIter;
 /// Types of yours may have it: five words by position, and `contains`. Rust checks neither that a summary bit is set over
-/// each nonzero word, nor that the provided methods, which are final in the proved source, are left alone. A layer above 4
-/// acts as 4; [`BitSet`] and [`AtomicBitSet`] panic at one.
+/// each nonzero word, nor that the provided methods, which are final in the proved source, are left alone.
+/// [`get_from_layer`](BitSetLike::get_from_layer) panics at a layer above 4.
 ///
 /// ---
 pub use derived::hibitset_base::BitSetLike;

@@ -74,7 +74,10 @@ fn too_many_words_panic() {
 fn a_layer_above_the_top_panics() {
     let set = BitSet::from_iter([0]);
     assert!((0..5).all(|layer| set.get_from_layer(layer, 0) == 1));
-    assert!(catch_unwind(|| set.get_from_layer(5, 0)).is_err());
+    for layer in [5, usize::MAX] {
+        assert!(catch_unwind(|| set.get_from_layer(layer, 0)).is_err());
+        assert!(catch_unwind(|| (&set | !&set).get_from_layer(layer, 0)).is_err());
+    }
 }
 
 #[test]

@@ -10,16 +10,6 @@ macro_rules! words {
     ($set:ty) => {
         impl $crate::BitSetLike for $set {
             #[inline]
-            fn get_from_layer(&self, layer: usize, idx: usize) -> usize {
-                assert!(
-                    layer < $crate::LAYERS,
-                    "a set has {} layers, and none with number {layer}",
-                    $crate::LAYERS
-                );
-                $crate::BitSetLike::get_from_layer(&self.0, layer, idx)
-            }
-
-            #[inline]
             fn is_empty(&self) -> bool {
                 $crate::BitSetLike::is_empty(&self.0)
             }

@@ -460,6 +460,13 @@ forwarded! {
     /// ```
     select(at: usize) -> Option<Index>;
     /// Returns the greatest member before `end`.
+    ///
+    /// ```
+    /// use hibitset::BitSet;
+    ///
+    /// let set = BitSet::from([5, 70, 900]);
+    /// assert_eq!((set.last_before(900), set.last_before(5)), (Some(70), None));
+    /// ```
     last_before(end: Index) -> Option<Index>;
     /// Returns the words of layer 0. Index `64 * w + b` is a member if bit `b` of word `w` is set. Indices past the slice
     /// are no members.

@@ -38,6 +38,7 @@ pub trait BitSetLike {
     /// ```
     #[inline]
     fn get_from_layer(&self, layer: usize, idx: usize) -> usize {
+        crate::beside::check_layer(layer);
         match layer {
             0 => self.layer0(idx),
             1 => self.layer1(idx),
