@@ -2,6 +2,7 @@
 
 Versions   The version in VERSION is that of the header, of rust/Cargo.toml if it is there, of README, and of a heading of
            CHANGELOG.md.
+License    rust/LICENSE is LICENSE.
 Header     bindings/c/check.py finds no fault.
 Toolchains README names each toolchain of .ci/kit, and its logic.
 Packages   The Dockerfile installs what .ci/packages lists. That has a package for each command that tests/bindings.sh or tests/rust.sh asks for.
@@ -38,6 +39,12 @@ def wrong_versions(text=text_of):
         yield "CHANGELOG.md", f"has no heading for {version}"
     if f"This is version {version}." not in text("README.md"):
         yield "README.md", f"does not say that this is version {version}"
+
+
+def wrong_license(text=text_of):
+    """The license of the Cargo package, which is a copy: a package has no file from outside of its folder."""
+    if text("rust/LICENSE") != text("LICENSE"):
+        yield "rust/LICENSE", "is not LICENSE"
 
 
 def wrong_header():
@@ -216,5 +223,5 @@ def write_tables():
 
 def faults(repository=None):
     """All that is wrong, each as page, line and words."""
-    for found in (wrong_versions, wrong_header, wrong_kits, wrong_packages, wrong_tables, wrong_pictures):
+    for found in (wrong_versions, wrong_license, wrong_header, wrong_kits, wrong_packages, wrong_tables, wrong_pictures):
         yield from ((TOP / page, 1, words) for page, words in found())

@@ -39,6 +39,9 @@ class Faults(unittest.TestCase):
         texts["rust/Cargo.toml"] = '[package]\nversion = "0.1.0"\n'
         self.assertEqual(list(release.wrong_versions(texts.get)), [])
 
+    def test_license(self):
+        self.finds(release.wrong_license, "rust/LICENSE", "Apache", "Another", "is not LICENSE")
+
     def test_kits(self):
         self.finds(release.wrong_kits, ".ci/kit", "rattle-kit-", "other-kit-", "does not name `other-kit-")
         self.finds(release.wrong_kits, ".ci/kit", " logic ", " ", "is not what rt version prints")
