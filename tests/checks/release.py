@@ -6,7 +6,7 @@ License    rust/LICENSE is LICENSE.
 Header     bindings/c/check.py finds no fault.
 Toolchains README names each toolchain of .ci/kit, and its logic.
 Packages   The Dockerfile installs what .ci/packages lists. That has a package for each command that tests/bindings.sh or tests/rust.sh asks for.
-Speed      README's tables between <!-- speed --> and <!-- slower --> and their ends are those that bench/RESULTS.md gives.
+Speed      README's tables between <!-- speed -->, <!-- crate --> and <!-- slower --> and their ends are those that bench/RESULTS.md gives.
            Each row that is slower than the original is in one of them.
 Pictures   Those of docs/pictures are what draw.py draws. docs.py --write makes tables and pictures anew.
 """
@@ -124,6 +124,20 @@ SPEED = [
 # README's columns: what it says, and that of RESULTS.md.
 COLUMNS = [("here", "ours"), ("hibitset", "original"), ("fixedbitset", "fixedbitset"), ("CRoaring", "CRoaring"), ("`BTreeSet`", "BTreeSet")]
 
+# README's rows of the Rust crate, by the rows of the table `bindings`.
+CRATE = [
+    "contains, hit",
+    "contains, miss",
+    "add, 1M random below 2^24, from empty",
+    "add again what is there",
+    "remove, all of 1M random",
+    "iteration, half of 2^21",
+    "iteration, 1 %",
+    "iteration of a & b, 1 %",
+    "a == b, half of 2^21",
+    "a ^= b, in place, half of 2^21",
+]
+
 # What is slower than the original: what README says, and the rows that it is about, in the tables `results`, `order` and `shared`.
 SLOWER = [
     ("one value of a column, beside a flat vector", r"column (get|insert|remove)"),
@@ -155,6 +169,18 @@ def speed(results):
     return "\n".join(lines) + "\n"
 
 
+def crate(results):
+    """README's table of the Rust crate."""
+    rows = {row.name: row for row in rows_of("bindings", results)}
+    day, machine, commit = head_of("bindings", results)
+    lines = [f"The Rust crate and the original, compiled alike by one rustc, as `cargo` makes them: nanoseconds at {commit}, {day}, {machine}.", ""]
+    lines += ["|  | crate | original | ratio |", "|---|---:|---:|---:|"]
+    for name in CRATE:
+        cells = rows[name].cells
+        lines.append(f"| {name} | {with_commas(cells['ours'])} | {with_commas(cells['original'])} | {ratio_of(rows[name]):.2f} |")
+    return "\n".join(lines) + "\n"
+
+
 def ratios(results):
     """The names and ratios of the rows that have one, of the tables that README's is made of."""
     for table in SLOWER_TABLES:
@@ -176,7 +202,7 @@ def unlisted(results):
             yield "tests/checks/release.py", f"SLOWER has no row for {name}: {ratio}"
 
 
-TABLES = {"speed": speed, "slower": slower}
+TABLES = {"speed": speed, "crate": crate, "slower": slower}
 
 
 def with_tables(page, results):
