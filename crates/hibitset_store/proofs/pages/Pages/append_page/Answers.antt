@@ -1,7 +1,7 @@
 use Rattle.std.proofs.Common.{◌+◌, refl, sym, ◌∙◌, arith}
 use Rattle.std.specs.Vec.{with_item}
 use Rattle.hibitset_store.specs.declared.pages.TheConstants.{PAGE}
-use Rattle.hibitset_store.proofs.NewPageLemmas.{PageTableInvariant-equal, PageTableInvariant-made, PageTableInvariant-made_next, value_at-made, value_at-made_next}
+use Rattle.hibitset_store.proofs.NewPageLemmas.{made-here, PageTableInvariant-equal, PageTableInvariant-made, PageTableInvariant-made_next, value_at-made, value_at-made_next}
 use Rattle.hibitset_store.proofs.PageLemmas.{few_slots, value_at-equal}
 use Rattle.hibitset_store.proofs.pages.Pages.append_page.Goals as goal
 
@@ -25,3 +25,6 @@ returns-else-start-page-clause-same g c = value_at-made c.args.self.now (record 
 
 pub returns-else-start-page-clause-laid_out : goal.returns-else-start-page-clause-laid_out
 returns-else-start-page-clause-laid_out g c = PageTableInvariant-made c.args.self.now _ c.args.page c.len-start.result (c.len-start.ensures ∙ c.args.self.now.slots.ok.0) c.requires.laid_out c.requires.within c.requires.behind c.requires.none refl refl c.add_slots.ensures.same c.in_ok-add_slots.ensures.added
+
+pub returns-else-start-page-clause-made : goal.returns-else-start-page-clause-made
+returns-else-start-page-clause-made g c = made-here c.args.self.now (record { starts = with_item c.args.self.now.starts c.args.page c.len-start.result; slots = c.add_slots.new.slots; in_order = c.args.self.now.in_order }) c.args.page c.len-start.result (c.len-start.ensures ∙ c.args.self.now.slots.ok.0) c.requires.laid_out c.requires.within c.requires.behind c.requires.none refl refl c.add_slots.ensures.same c.in_ok-add_slots.ensures.added
