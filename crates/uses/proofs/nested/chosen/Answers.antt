@@ -1,10 +1,10 @@
-use Rattle.std.proofs.Common.{◌≤◌, ◌*◌, length, arith}
+use Rattle.std.proofs.Common.{◌+◌, ◌*◌, ◌≤◌, length, arith}
 use Rattle.hibitset_base.specs.Members.{members_below}
 use Rattle.hibitset_base.specs.Virtual.{not_word}
 use Rattle.hibitset_base.specs.Walk.{words_ahead}
 use Rattle.hibitset_base.specs.declared.util.TheConstants.{LAYERS, MAX_EID}
 use Rattle.hibitset.specs.BitSet.{has, word_of}
-use Rattle.uses.specs.Nested.{words_chosen}
+use Rattle.uses.specs.Nested.{words_chosen, budget_of_three}
 use Rattle.uses.proofs.nested.chosen.Goals as goal
 
 pub returns-clause-few : goal.returns-clause-few
@@ -24,4 +24,6 @@ returns-clause-few c =
     let few_x : length words ≤ 4 * length (members_below MAX_EID (has x)) = (starts.bound (has x) (word_of x) first).few in
     let few_y : length words ≤ 4 * length (members_below MAX_EID (has y)) = (starts.bound (has y) (word_of y) second).few in
     let few_z : length words ≤ 4 * length (members_below MAX_EID (has z)) = (starts.bound (has z) (word_of z) third).few in
-    rw (c.bitand.ensures.0, c.bitand.ensures.1, c.sub.ensures.0, c.bitand-2.ensures.0, c.bitand-2.ensures.1) at (omega (arith, few_x, few_y, few_z, starts.read))
+    let few : 1 + length words ≤ budget_of_three x y z = omega (arith, few_x, few_y, few_z) in
+    let here = rw (c.bitand-2.ensures.0, c.bitand-2.ensures.1, c.sub.ensures.0, c.bitand.ensures.0, c.bitand.ensures.1) at few in
+    omega (arith, here, starts.read)
