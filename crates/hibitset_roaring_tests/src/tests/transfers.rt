@@ -105,7 +105,7 @@ fn a_reader_gives_little_and_breaks(rt: HostRuntime) -> Result<(), Fail> {
     Ok(())
 }
 
-// Gives its bytes, at most so many a read, and can't fail.
+// Gives its bytes, at most `most` a read, and can't fail.
 #[derive(Drop)]
 struct Giving<'a> {
     bytes: &'a [u8],
@@ -131,10 +131,13 @@ fn reader_fails(alloc: Global, bytes: &[u8], most: usize, end: usize) -> bool {
 fn a_reader_that_cannot_fail_is_never_said_to(rt: HostRuntime) -> Result<(), Fail> {
     let alloc = rt.alloc();
     let stream = write(alloc, &array_and_bits(alloc)?)?;
+    let Some(cut) = stream.as_slice().get(..8_192) else {
+        panic!(rt; "a short stream");
+    };
     for most in [1, 8_191, 8_192, usize::MAX] {
         assert!(rt; !reader_fails(alloc, &stream, most, KEYS));
         assert!(rt; !reader_fails(alloc, &stream, most, 0));
-        assert!(rt; !reader_fails(alloc, &stream[..8_192], most, KEYS));
+        assert!(rt; !reader_fails(alloc, cut, most, KEYS));
     }
     Ok(())
 }
