@@ -1,5 +1,5 @@
 //! Walks in parts, by several threads.
-ghost use Rattle.std.specs.Prelude.{◌≡◌, ◌-◌, ◌^◌, ◌≤◌, length, IfOk};
+ghost use Rattle.std.specs.Prelude.{◌≡◌, ◌-◌, ◌^◌, ◌<◌, ◌≤◌, length, IfOk};
 ghost use Rattle.hibitset_base.specs.Members.{members_below};
 ghost use Rattle.hibitset_base.specs.declared.util.TheConstants.{LAYERS, MAX_EID};
 
@@ -171,23 +171,29 @@ fn folds_count_their_pieces(rt: HostRuntime) -> Result<(), Fail> {
     Ok(())
 }
 
+// Sees that a fold over so many members, in a row, goes over so many pieces.
+fn assert_pieces(
+    rt: &(impl Abort + Threads + Sync),
+    alloc: Global,
+    members: Index,
+    pieces: u64,
+) -> Result<(), AllocError>
+    requires { members ≤ MAX_EID }
+{
+    let mut many = BitSet::new(alloc);
+    many.add_range(0, members)?;
+    assert!(rt; pieces_of(rt, alloc, &many, 4)? == pieces);
+    Ok(())
+}
+
 // A large set is cut into a piece for each 32,768 members, up to 4,096.
 #[test]
 fn folds_count_the_pieces_of_large_sets(rt: HostRuntime) -> Result<(), Fail> {
     let is_cut = available_parallelism(&rt)?.get() > 1;
-    for (members, parts) in [
-        (33_554_432u32, 1_024),
-        (134_217_728, 4_096),
-        (150_994_944, 4_096),
-    ] {
-        let wanted = if is_cut { parts } else { 1 };
-        let mut many = BitSet::new(rt.alloc());
-        many.add_range(0, members)?;
-        assert!(rt;
-            pieces_of(&rt, rt.alloc(), &many, 4)? == wanted,
-            "{members} members"
-        );
-    }
+    let (some, most) = if is_cut { (1_024, 4_096) } else { (1, 1) };
+    assert_pieces(&rt, rt.alloc(), 33_554_432, some)?;
+    assert_pieces(&rt, rt.alloc(), 134_217_728, most)?;
+    assert_pieces(&rt, rt.alloc(), 150_994_944, most)?;
     Ok(())
 }
 
