@@ -21,7 +21,6 @@ table() { # SCRIPT WORD..: one script, and how long it took
 mkdir -p "$here/out"
 table run.sh "$original" "$repeats" "$milliseconds"
 table threads.sh "$original"
-table bindings.sh "$original" "$repeats" "$milliseconds"
 table roaring.sh "$repeats" "$milliseconds"
 "$here/../tests/docs.py" --write
 commit=$(git -C "$here/.." rev-parse --short=12 HEAD)

@@ -152,11 +152,23 @@ sources() {
     compile hibitset 2015 "$work/original/lib.rs" --extern "atom=$work/libatom.rlib"
 }
 
-# driver ORIGINAL FOLDER: compiles the original and the driver into FOLDER/bench, over FOLDER/libhibitset_bench.a, with the peers that `with_peers` names.
+# derived FOLDER: compiles the crate of rust/ and the kernels over it into FOLDER/derived, and says in `with_derived` how the driver gets them.
+derived() {
+    (
+        work=$1/derived
+        mkdir -p "$work"
+        compile hibitset 2021 "$here/../rust/src/lib.rs" --cfg 'feature="std"' -C metadata=derived
+        compile kernels_derived 2021 "$here/driver/original.rs" --extern "hibitset=$work/libhibitset.rlib"
+    )
+    with_derived="--cfg derived -L $1/derived --extern kernels_derived=$1/derived/libkernels_derived.rlib"
+}
+
+# driver ORIGINAL FOLDER: compiles the original and the driver into FOLDER/bench, over FOLDER/libhibitset_bench.a, with the peers that `with_peers` names and the crate of rust/.
 driver() {
     sources "$1" "$2"
+    derived "$2"
     # shellcheck disable=SC2086
-    program "$work" "$here/driver/main.rs" ${with_peers:-} --extern "hibitset=$work/libhibitset.rlib"
+    program "$work" "$here/driver/main.rs" ${with_peers:-} $with_derived --extern "hibitset=$work/libhibitset.rlib"
 }
 
 # program FOLDER MAIN WORD..: compiles the driver with the root MAIN into FOLDER/bench, over FOLDER/libhibitset_bench.a; rustc gets these words.

@@ -19,7 +19,7 @@ def rows_of(table, results):
     columns, part, unit = [], "", ""
     for line in block[1].splitlines() if block else []:
         cells = cells_of(line) if line.startswith("|") else []
-        if "ours" in cells:
+        if {"ours", "crate"} & set(cells):
             columns = cells[1:]
         elif cells and (heading := re.fullmatch(r"\*\*(.*?) \((.*)\)\*\*", cells[0])):
             part, unit = heading[1], heading[2].removeprefix("ns per ")
@@ -28,7 +28,7 @@ def rows_of(table, results):
 
 
 def ratio_of(row):
-    """Our time as part of the original's, or None."""
+    """The time as part of the original's, of the crate where the table has it and else of ours, or None."""
     found = re.match(r"-?[\d.]+", row.cells.get("ratio", ""))
     return float(found[0]) if found else None
 

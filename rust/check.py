@@ -44,12 +44,6 @@ UNSEEN = {
 }
 SEEN_FUNCTIONS = {"hibitset_run/main": "main"}
 PARTS = {"hibitset_base/iter", "hibitset_base/drain"}
-SEEN_MODULES = {
-    "hibitset_base/lib": {"rev_cursor"},
-    "hibitset_atomic/lib": {"layers"},
-    "hibitset_atomic/shared": {"layout", "types"},
-}
-SEEN_FIELDS = {"hibitset_base/parallel/par_iter": "BitParIter"}
 WALKS = {"hibitset_base/iter": "BitIter", "hibitset_base/rev_iter": "BitRevIter", "hibitset_base/drain": "DrainBitIter"}
 APART = re.compile(r"fn drop \( self \) \{ let \w+ \{ [\w :,]+ \} = self ; (?:drop \( \w+ \) ; )*\}")
 
@@ -206,7 +200,7 @@ class Wanted:
         self.words, self.lines, comments = source
         self.made, self.from_line, self.clauses = [], [], []
         self.counts, self.places = Counter(), [0] * (len(self.words) + 1)
-        self.in_derive = self.fields = range(0)
+        self.in_derive = range(0)
         self.walk_end, self.handle = -1, None
         self.read_on()
         own = f"](crate::derived::{self.crate}::"
@@ -238,13 +232,10 @@ class Wanted:
         return at + 1
 
     def look_ahead(self, at):
-        """Notes where a derive, the fields of a struct or the impl of a walk end."""
+        """Notes where a derive or the impl of a walk ends."""
         words = self.words
         if words[at : at + 3] == ["#", "[", "derive"]:
             self.in_derive = range(at, past(words, at + 1))
-        if words[at] == "struct" and words[at + 1] == SEEN_FIELDS.get(self.name):
-            opening = words.index("{", at)
-            self.fields = range(opening + 1, past(words, opening) - 1)
         if words[at] == "impl" and "{" in words[at:]:
             opening = words.index("{", at)
             head = " ".join(words[at:opening])
@@ -264,12 +255,8 @@ class Wanted:
             return self.counted("visibility", CRATE_ONLY)
         if word == "new" and before == "fn" and self.words[at - 2] == "pub" and self.name in PARTS:
             return self.counted("name", ["of_parts"])
-        if word == "mod" and before not in ("pub", ")") and after[0] in SEEN_MODULES.get(self.name, ()):
-            return self.counted("visibility", CRATE_ONLY + ["mod"])
         if word == "fn" and before != "pub" and after[0] == SEEN_FUNCTIONS.get(self.name):
             return self.counted("visibility", CRATE_ONLY + ["fn"])
-        if at in self.fields and before in ("{", ",") and word != "pub":
-            return self.counted("visibility", CRATE_ONLY + [word])
         if at == self.walk_end:
             members = ["crate", "::", "beside", "::", "iterator_members", "!", "{", WALKS[self.name], "}", "}"]
             return self.counted("members", members)

@@ -77,11 +77,6 @@ class Naming(unittest.TestCase):
     def test_visibility(self):
         self.assertEqual(derived("pub fn new() {}\n", "hibitset_base/iter.rt"), "pub(crate) fn of_parts() {}\n")
         self.assertEqual(derived("pub fn new() {}\n", "hibitset_base/like.rt"), "pub fn new() {}\n")
-        for source in ("mod layers;\n", "pub(crate) mod layers;\n"):
-            self.assertEqual(derived(source, "hibitset_atomic/lib.rt"), "pub(crate) mod layers;\n")
-        source = "pub struct BitParIter<T> {\n    set: T,\n    pub(crate) min_len: usize,\n    ghost a: { b },\n}\n"
-        wanted = "pub struct BitParIter<T> {\n    pub(crate) set: T,\n    pub(crate) min_len: usize,\n}\n"
-        self.assertEqual(derived(source, "hibitset_base/parallel/par_iter.rt"), wanted)
 
     def test_members(self):
         source = "impl<T: S> Iterator for BitIter<T> {\n    fn next() {}\n}\n"

@@ -8,7 +8,7 @@ const KEYS: usize = 100_000 >> SMALLER;
 
 macro_rules! both {
     ($ours:ident, $original:ident, $($list:expr),*) => {
-        Both { ours: Box::new(|times| ours::$ours($($list,)* times)), original: Box::new(|times| original::$original($($list,)* times)) }
+        Both { ours: Box::new(|times| ours::$ours($($list,)* times)), original: Box::new(|times| original::$original($($list,)* times)), derived: None }
     };
 }
 

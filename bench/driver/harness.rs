@@ -43,11 +43,23 @@ impl Numbers {
 
 pub type Kernel<'a> = Box<dyn Fn(usize) -> u64 + 'a>;
 
-/// One piece of work as our crate does it and as the original does it.
+/// One piece of work as our library does it, as the original does it, and as the crate of rust/ does it, where the driver has that.
 pub struct Both<'a> {
     pub ours: Kernel<'a>,
     pub original: Kernel<'a>,
+    pub derived: Option<Kernel<'a>>,
 }
+
+impl<'a> Both<'a> {
+    fn all(self) -> Vec<Kernel<'a>> {
+        [self.ours, self.original].into_iter().chain(self.derived).collect()
+    }
+}
+
+/// The place of each contender in a row's work.
+const OURS: usize = 0;
+const ORIGINAL: usize = 1;
+const DERIVED: usize = 2;
 
 /// What a peer's answer is compared with: the original's for one turn, or for the set that it ends with. Where the original
 /// has no answer, it is compared with ours.
@@ -64,7 +76,7 @@ pub struct Row<'a> {
     ops: f64,
     aim: Option<f64>,
     answer: Answer,
-    /// Ours, and the original's where it has the work.
+    /// Ours, the original's where it has the work, and then that of the crate of rust/.
     work: Vec<Kernel<'a>>,
     /// As many, or none.
     copy: Vec<Kernel<'a>>,
@@ -73,7 +85,7 @@ pub struct Row<'a> {
 
 impl<'a> Row<'a> {
     pub fn new(name: impl Into<String>, ops: usize, aim: f64, work: Both<'a>) -> Row<'a> {
-        let work = vec![work.ours, work.original];
+        let work = work.all();
         Row { name: name.into(), ops: ops.max(1) as f64, aim: Some(aim), answer: Answer::Turn, work, copy: Vec::new(), peers: Vec::new() }
     }
     /// Work that the original does not have.
@@ -82,7 +94,7 @@ impl<'a> Row<'a> {
     }
     /// Each turn of the work makes a copy first, as this does.
     pub fn on_copies(mut self, copy: Both<'a>) -> Row<'a> {
-        self.copy = vec![copy.ours, copy.original];
+        self.copy = copy.all();
         self
     }
     /// The same of work that the original does not have.
@@ -103,7 +115,7 @@ impl<'a> Row<'a> {
     /// Has each kernel's turns counted, and gives the line that the script fills with what was counted.
     fn counted(&self, place: usize) -> String {
         for (kernels, what) in [(&self.work, "work"), (&self.copy, "copy")] {
-            for (kernel, who) in kernels.iter().zip(["ours", "original"]) {
+            for (kernel, who) in kernels.iter().zip(["ours", "original", "derived"]) {
                 for turns in [1, 1 + TURNS] {
                     counted(&format!("{} {who} {what} {turns}", self.key(place)), || kernel(turns));
                 }
@@ -201,7 +213,17 @@ fn shown(ns: f64) -> String {
     }
 }
 
+/// A ratio, with a star where it is above its aim.
+fn with_star(ratio: Option<f64>, aim: Option<f64>) -> String {
+    match (ratio, aim) {
+        (Some(ratio), Some(aim)) => format!("{ratio:.2}{}", if ratio > aim { " *" } else { "" }),
+        _ => "-".to_string(),
+    }
+}
+
 pub struct Bench {
+    /// Whether the crate of rust/ has columns.
+    derived: bool,
     peers: Vec<&'static str>,
     repeats: usize,
     wanted: Duration,
@@ -211,8 +233,8 @@ pub struct Bench {
 }
 
 impl Bench {
-    pub fn new(peers: &[&'static str], repeats: usize, wanted: Duration, only: &str) -> Bench {
-        Bench { peers: peers.to_vec(), repeats, wanted, only: only.to_string(), table: Vec::new(), notes: Vec::new() }
+    pub fn new(derived: bool, peers: &[&'static str], repeats: usize, wanted: Duration, only: &str) -> Bench {
+        Bench { derived, peers: peers.to_vec(), repeats, wanted, only: only.to_string(), table: Vec::new(), notes: Vec::new() }
     }
 
     pub fn run(&mut self, row: Row) {
@@ -224,19 +246,21 @@ impl Bench {
             return;
         }
         let Row { name, ops, aim, answer, work, copy, mut peers } = row;
-        let judge = &work[work.len() - 1];
+        let judge = work.get(ORIGINAL).unwrap_or(&work[OURS]);
         let expected = match answer {
             Answer::Turn => judge(2).wrapping_sub(judge(1)),
             Answer::Last => judge(0),
         };
-        assert_eq!(work[0](0), judge(0), "{name}: another answer than the original's");
+        for kernel in &work {
+            assert_eq!(kernel(0), judge(0), "{name}: another answer than the original's");
+        }
         let turns: Vec<usize> = work.iter().enumerate().map(|(who, kernel)| match copy.get(who) {
             Some(copy) => turns_on_copies(kernel, copy, self.wanted),
             None => turns_for(kernel, self.wanted),
         }).collect();
         let sums: Vec<u64> = work.iter().zip(&turns).map(|(kernel, turns)| kernel(1 + turns)).collect();
-        if work.len() > 1 {
-            assert_eq!(work[0](1 + turns[1]), sums[1], "{name}: another answer than the original's");
+        for (kernel, who) in work.iter().zip(0..).filter(|(_, who)| *who != ORIGINAL && work.len() > 1) {
+            assert_eq!(kernel(1 + turns[ORIGINAL]), sums[ORIGINAL], "{name}: contender {who} has another answer than the original");
         }
         let mut times: Vec<Vec<f64>> = work.iter().map(|_| Vec::new()).collect();
         let mut peer_times: Vec<Vec<f64>> = peers.iter().map(|_| Vec::new()).collect();
@@ -263,21 +287,27 @@ impl Bench {
                 }
             }
         }
-        let ratio = times.get(1).map(|others| median_ratio(&times[0], others));
+        let ratio = |who: usize| Some(median_ratio(times.get(who)?, times.get(ORIGINAL)?));
+        let ratios = [ratio(OURS), ratio(DERIVED)];
         let medians: Vec<f64> = times.iter_mut().map(|times| median(times)).collect();
         let cells: String = self.peers.iter().map(|peer| {
             let at = peers.iter().position(|(who, _)| who == peer).filter(|at| !peer_times[*at].is_empty());
             at.map_or(" - |".to_string(), |at| format!(" {} |", shown(median(&mut peer_times[at]))))
         }).collect();
-        let line = match (&medians[..], aim, ratio) {
-            ([ours, original], Some(aim), Some(ratio)) => {
-                let miss = if ratio > aim { " *" } else { "" };
-                format!("| {name} | {} | {} | {ratio:.2}{miss} | {aim:.2} |{cells}", shown(*ours), shown(*original))
-            }
-            _ => format!("| {name} | {} | - | - | - |{cells}", shown(medians[0])),
+        let time = |who: usize| medians.get(who).map_or("-".to_string(), |time| shown(*time));
+        let [ours, derived] = ratios.map(|ratio| with_star(ratio, aim));
+        let aim = aim.map_or("-".to_string(), |aim| format!("{aim:.2}"));
+        let line = if self.derived {
+            format!("| {name} | {} | {} | {derived} | {} | {ours} | {aim} |{cells}", time(DERIVED), time(ORIGINAL), time(OURS))
+        } else {
+            format!("| {name} | {} | {} | {ours} | {aim} |{cells}", time(OURS), time(ORIGINAL))
         };
         eprintln!("{line}");
         self.table.push(line);
+    }
+
+    fn columns(&self) -> &[&'static str] {
+        if self.derived { &["crate", "original", "ratio", "Rattle", "its ratio", "aim"] } else { &["ours", "original", "ratio", "aim"] }
     }
 
     /// A line below the table.
@@ -287,7 +317,7 @@ impl Bench {
 
     /// A heading between rows.
     pub fn part(&mut self, title: &str) {
-        let others = if counts() { 6 } else { 4 + self.peers.len() };
+        let others = if counts() { 8 } else { self.columns().len() + self.peers.len() };
         let title = if counts() { title.replace("(ns per", "(per") } else { title.to_string() };
         self.table.push(format!("| **{title}** |{}", " |".repeat(others)));
     }
@@ -298,7 +328,8 @@ impl Bench {
             return;
         }
         let peers: String = self.peers.iter().map(|peer| format!(" {peer} |")).collect();
-        println!("| workload | ours | original | ratio | aim |{peers}\n|---{}|", "|---:".repeat(4 + self.peers.len()));
+        let columns = self.columns();
+        println!("| workload | {} |{peers}\n|---{}|", columns.join(" | "), "|---:".repeat(columns.len() + self.peers.len()));
         self.table.iter().for_each(|line| println!("{line}"));
         self.notes.iter().for_each(|line| println!("\n{line}"));
     }

@@ -14,7 +14,7 @@ mod wide;
 use std::collections::{BTreeSet, HashSet};
 use std::time::Duration;
 
-use harness::{counts, timed, Answer, Bench, Both, Numbers, Row, SMALLER};
+use harness::{counts, timed, Answer, Bench, Both, Kernel, Numbers, Row, SMALLER};
 use peers::{sum, Peers, END};
 
 #[cfg(fixedbitset)]
@@ -41,9 +41,25 @@ impl Sample {
     }
 }
 
+/// A kernel over the crate of rust/, where the driver is compiled with it.
+macro_rules! derived {
+    ($kernel:expr) => {{
+        let mut kernel: Option<Kernel> = None;
+        #[cfg(derived)]
+        {
+            kernel = Some(Box::new($kernel));
+        }
+        kernel
+    }};
+}
+
 macro_rules! both {
     ($kernel:ident, $($list:expr),*) => {
-        Both { ours: Box::new(|times| ours::$kernel($($list,)* times)), original: Box::new(|times| original::$kernel($($list,)* times)) }
+        Both {
+            ours: Box::new(|times| ours::$kernel($($list,)* times)),
+            original: Box::new(|times| original::$kernel($($list,)* times)),
+            derived: derived!(|times| kernels_derived::$kernel($($list,)* times)),
+        }
     };
 }
 
@@ -53,6 +69,7 @@ macro_rules! each {
         Both {
             ours: Box::new(|times| $lists.iter().map(|ids| ours::$kernel(ids, times)).fold(0, u64::wrapping_add)),
             original: Box::new(|times| $lists.iter().map(|ids| original::$kernel(ids, times)).fold(0, u64::wrapping_add)),
+            derived: derived!(|times| $lists.iter().map(|ids| kernels_derived::$kernel(ids, times)).fold(0, u64::wrapping_add)),
         }
     };
 }
@@ -337,6 +354,15 @@ fn ranges_and_words(bench: &mut Bench, half: &Sample, other: &Sample) {
             there + set.contains(70_001) as u64
         })
     });
+    peer!(row, roaring, "CRoaring", || {
+        let mut set = Roaring::of(&[]);
+        timed(|| {
+            set.add_range(70_001, 170_001);
+            let there = set.contains(70_001) as u64;
+            set.remove_range(70_001, 170_001);
+            there + set.contains(70_001) as u64
+        })
+    });
     bench.run(row);
     let (x, y) = (&half.ids[..], &other.ids[..]);
     let of = format!("{} and {}", half.name, other.name);
@@ -460,7 +486,7 @@ fn main() {
     let number = |at: usize, default: u64| args.get(at).map_or(default, |n| n.parse().expect("a number"));
     let (repeats, wanted) = if counts() { (0, Duration::ZERO) } else { (number(1, 9) as usize, Duration::from_millis(number(2, 20))) };
     let only = args.get(if counts() { 2 } else { 3 }).map_or("", String::as_str);
-    let mut bench = Bench::new(&peers::names(), repeats, wanted, only);
+    let mut bench = Bench::new(cfg!(derived), &peers::names(), repeats, wanted, only);
 
     let end = (END >> SMALLER) as u32;
     let mut numbers = Numbers(1);
@@ -532,7 +558,7 @@ fn main() {
     builds(&mut bench, [("1M random", &random), ("1M ascending", &ascending)]);
     atomics(&mut bench, &random, &absent, &ascending, &[(&dense, 0.4), (&half, 0.6), (&ten, 0.6), (&one, 0.6), (&few, 0.6)]);
     wide::rows(&mut bench);
-    let mut values = Bench::new(&["HashMap"], repeats, wanted, only);
+    let mut values = Bench::new(false, &["HashMap"], repeats, wanted, only);
     columns::rows(&mut values);
     bench.print();
     if !counts() {

@@ -22,6 +22,8 @@ unsafe extern "C" {
     fn roaring_bitmap_rank(set: Bitmap, value: u32) -> u64;
     fn roaring_bitmap_select(set: Bitmap, at: u32, value: *mut u32) -> bool;
     fn roaring_bitmap_range_cardinality(set: Bitmap, start: u64, end: u64) -> u64;
+    fn roaring_bitmap_add_range_closed(set: Bitmap, first: u32, last: u32);
+    fn roaring_bitmap_remove_range_closed(set: Bitmap, first: u32, last: u32);
     fn roaring_bitmap_flip_inplace(set: Bitmap, start: u64, end: u64);
     fn roaring_bitmap_to_uint32_array(set: Bitmap, list: *mut u32);
     fn roaring_bitmap_equals(a: Bitmap, b: Bitmap) -> bool;
@@ -127,6 +129,12 @@ impl Roaring {
     }
     pub fn len_range(&self, start: u32, end: u32) -> u64 {
         unsafe { roaring_bitmap_range_cardinality(self.0, start as u64, end as u64) }
+    }
+    pub fn add_range(&mut self, start: u32, end: u32) {
+        unsafe { roaring_bitmap_add_range_closed(self.0, start, end - 1) }
+    }
+    pub fn remove_range(&mut self, start: u32, end: u32) {
+        unsafe { roaring_bitmap_remove_range_closed(self.0, start, end - 1) }
     }
     pub fn flip_range(&mut self, start: u32, end: u32) {
         unsafe { roaring_bitmap_flip_inplace(self.0, start as u64, end as u64) }

@@ -24,17 +24,6 @@ HIDDEN_FUNCTIONS = {
 # Private functions that code by hand calls: the program's `main`.
 OPEN_FUNCTIONS = {("hibitset_run/main.rt", "main")}
 
-# Structs whose private fields the code of beside/ reads.
-OPEN_STRUCTS = {("hibitset_base/parallel/par_iter.rt", "BitParIter")}
-
-# Private modules whose items the code of beside/ reads.
-OPEN_MODULES = {
-    ("hibitset_base/lib.rt", "rev_cursor"),
-    ("hibitset_atomic/lib.rt", "layers"),
-    ("hibitset_atomic/shared.rt", "layout"),
-    ("hibitset_atomic/shared.rt", "types"),
-}
-
 # Iterators whose impl has members by hand (beside/iterators.rs).
 ITERATORS = ("BitIter", "BitRevIter", "DrainBitIter")
 
@@ -93,27 +82,6 @@ def opened_function(source, at):
     """A private function that code by hand calls becomes `pub(crate)`."""
     if (source.name, source.text(source.next(at))) in OPEN_FUNCTIONS:
         source.put(at, "pub(crate) fn", "visibility")
-
-
-def opened_module(source, at):
-    """A private module that the code beside reads becomes `pub(crate)`."""
-    if (source.name, source.text(source.next(at))) in OPEN_MODULES and source.text(source.last(at)) not in ("pub", ")"):
-        source.put(at, "pub(crate) mod", "visibility")
-
-
-def opened_struct(source, at):
-    """The fields of a struct that the code beside reads become `pub(crate)`."""
-    name = source.next(at)
-    if (source.name, source.text(name)) not in OPEN_STRUCTS:
-        return
-    opening = source.until(name, "{")
-    field = source.next(opening)
-    while field < source.close(opening):
-        if source.text(field) not in ("ghost", "pub"):
-            source.put(field, f"pub(crate) {source.text(field)}", "visibility")
-        field = source.next(source.until(field, ",", "{"))
-        if source.text(source.last(field)) == "{":
-            field = source.next(source.next(source.close(source.last(field))))
 
 
 def condition(source, at):

@@ -74,11 +74,7 @@ class Rules:
             source.fail(at, "a proof in code")
         if word == "fn":
             return self.function(at)
-        if word == "struct":
-            naming.opened_struct(source, at)
-        elif word == "mod":
-            naming.opened_module(source, at)
-        elif word == "impl":
+        if word == "impl":
             naming.members(source, at)
         naming.condition(source, at)
         naming.path(source, at, self.crates)

@@ -5,7 +5,7 @@ pub mod atomic;
 mod blocks;
 mod build;
 pub mod laws;
-mod layers;
+pub(crate) mod layers;
 pub mod ops;
 pub mod shared;
 pub mod steps;

@@ -30,9 +30,9 @@ use std::snapshot::Snapshot;
 
 mod atomic_ops;
 mod divide;
-mod layout;
+pub(crate) mod layout;
 pub mod rule;
-mod types;
+pub(crate) mod types;
 pub mod view;
 pub mod walk;
 

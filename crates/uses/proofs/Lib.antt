@@ -1,4 +1,5 @@
 mod BudgetLemmas
 mod FreeRunLemmas
+pub mod RangeLemmas
 mod WeightLemmas
 mod WorkerLemmas

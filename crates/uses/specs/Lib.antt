@@ -1,6 +1,7 @@
 pub mod Budget
 pub mod Filter
 pub mod Ids
+pub mod Lists
 pub mod Results
 pub mod Pages
 pub mod Ready

@@ -1,11 +1,12 @@
 //! Sets made of lists and of ranges, and extended by lists.
-ghost use Rattle.std.specs.Prelude.{◌≡◌, ℕ, ◌+◌, ◌-◌, ◌*◌, ◌/◌, ◌^◌, ◌<◌, ◌≤◌, ◌↔◌, ◌⊎◌, true, length, take, IfOk, IfErr, IsOk, OnOk, Contains};
+ghost use Rattle.std.specs.Prelude.{◌≡◌, ℕ, ◌+◌, ◌-◌, ◌*◌, ◌/◌, ◌^◌, ◌<◌, ◌≤◌, ◌↔◌, ◌⊎◌, true, length, take, IfOk, IfErr, OnOk, Contains};
 ghost use Rattle.hibitset_base.specs.Slices.{place_of, InRangeBefore, IsWhy, LacksRoom, LiesApartIn};
+ghost use Rattle.uses.specs.Lists.{IsWhyFrom, BeginsWord};
 ghost use Rattle.hibitset_base.specs.declared.util.TheConstants.{LAYERS, MAX_EID};
 ghost use Rattle.hibitset.specs.BitSet.{has, slice_len};
 
 use hibitset::{BitSet, BuildError, Index};
-use std::alloc::{AllocError, Global};
+use std::alloc::Global;
 
 /// The set of the indices of a list, with no more words in a layer than they need. Where one is refused, the error
 /// tells its place: it is the first out of range, or one for which there was no memory, and then its word lies past
@@ -23,19 +24,21 @@ pub fn set_of(alloc: Global, list: &[Index]) -> Result<BitSet, BuildError>
     BitSet::from_slice(alloc, list)
 }
 
-/// The set of the indices from `start` on and below `end`, with no more words in a layer than those below `end` need. It
-/// fails only if an allocation does, and not at all where there is no index.
-pub fn set_of_range(alloc: Global, start: Index, end: Index) -> Result<BitSet, AllocError>
-    requires { end ≤ MAX_EID }
+/// The set of the indices from `start` on and below `end`, with no more words in a layer than those below `end` need.
+/// Where one is refused, the error tells its place: it is the first out of range, or one for which there was no memory,
+/// and then it is `start`, or the first index of a word.
+pub fn set_of_range(alloc: Global, start: Index, end: Index) -> Result<BitSet, BuildError>
     ensures members { IfOk result (λ set. (i : ℕ)
         → (has set i ≡ true) ↔ ((start ≤ i) × (i < end))) }
-    ensures short { IfOk result (λ set. (l : ℕ) → l < LAYERS - 1
-        → slice_len set l ≤ (end - 1) / 64 ^ (l + 1) + 1) }
-    ensures succeeds { end ≤ start → IsOk result }
+    ensures short { IfOk result (λ set. (l : ℕ) → l < LAYERS - 1 → (n : ℕ) → end ≤ 64 ^ (l + 1) * n
+        → slice_len set l ≤ n) }
+    ensures in_range { IfOk result (λ _. start < end → end ≤ MAX_EID) }
+    ensures place { IfErr result (λ error. start + place_of error < end) }
+    ensures before { IfErr result (λ error. (k : ℕ) → k < place_of error → start + k < MAX_EID) }
+    ensures why { IfErr result (IsWhyFrom MAX_EID start) }
+    ensures word { IfErr result (BeginsWord start) }
 {
-    let mut set = BitSet::new(alloc);
-    set.add_range(start, end)?;
-    Ok(set)
+    BitSet::from_indices(alloc, start..end)
 }
 
 /// Adds the indices of a list to a set. Where one is refused, those before it are added: it is the first out of range,

@@ -1,6 +1,6 @@
 //! Operators over a complement.
 ghost use Rattle.std.specs.Prelude.{◌≡◌};
-ghost use Rattle.hibitset_base.specs.Connectives.{IsComplement, IsDifference, IsSymmetricDifference, IsIntersection, IsUnion};
+ghost use Rattle.hibitset_base.specs.Connectives.{GivesComplement, GivesDifference, GivesIntersection, GivesSymmetricDifference, GivesUnion};
 ghost use Rattle.hibitset_base.specs.Walk.{StartsAtTop};
 
 use crate::iter::BitIter;
@@ -12,9 +12,8 @@ use std::ops::{BitAnd, BitOr, BitXor, Not, Sub};
 impl<A: BitSetLike> Not for BitSetNot<A> {
     type Output = BitSetNot<Self>;
 
-    ghost not_gives = { λ set result. (result.0 ≡ set)
-        × IsComplement (⟦<Self as BitSetLike>⟧.holds set)
-        (⟦<Self::Output as BitSetLike>⟧.holds result) };
+    ghost not_gives = { GivesComplement ⟦<Self as BitSetLike>⟧.holds
+        ⟦<Self::Output as BitSetLike>⟧.holds };
 
     #[inline]
     fn not(self) -> BitSetNot<Self> {
@@ -25,9 +24,8 @@ impl<A: BitSetLike> Not for BitSetNot<A> {
 impl<A: BitSetLike, T: BitSetLike> BitAnd<T> for BitSetNot<A> {
     type Output = BitSetAnd<Self, T>;
 
-    ghost bitand_gives = { λ set other result. (result.0 ≡ set) × (result.1 ≡ other)
-        × IsIntersection (⟦<Self as BitSetLike>⟧.holds set) (T.holds other)
-        (⟦<Self::Output as BitSetLike>⟧.holds result) };
+    ghost bitand_gives = { GivesIntersection ⟦<Self as BitSetLike>⟧.holds T.holds
+        ⟦<Self::Output as BitSetLike>⟧.holds };
 
     #[inline]
     fn bitand(self, rhs: T) -> BitSetAnd<Self, T> {
@@ -38,9 +36,8 @@ impl<A: BitSetLike, T: BitSetLike> BitAnd<T> for BitSetNot<A> {
 impl<A: BitSetLike, T: BitSetLike> BitOr<T> for BitSetNot<A> {
     type Output = BitSetOr<Self, T>;
 
-    ghost bitor_gives = { λ set other result. (result.0 ≡ set) × (result.1 ≡ other)
-        × IsUnion (⟦<Self as BitSetLike>⟧.holds set) (T.holds other)
-        (⟦<Self::Output as BitSetLike>⟧.holds result) };
+    ghost bitor_gives = { GivesUnion ⟦<Self as BitSetLike>⟧.holds T.holds
+        ⟦<Self::Output as BitSetLike>⟧.holds };
 
     #[inline]
     fn bitor(self, rhs: T) -> BitSetOr<Self, T> {
@@ -51,9 +48,8 @@ impl<A: BitSetLike, T: BitSetLike> BitOr<T> for BitSetNot<A> {
 impl<A: BitSetLike, T: BitSetLike> BitXor<T> for BitSetNot<A> {
     type Output = BitSetXor<Self, T>;
 
-    ghost bitxor_gives = { λ set other result. (result.0 ≡ set) × (result.1 ≡ other)
-        × IsSymmetricDifference (⟦<Self as BitSetLike>⟧.holds set) (T.holds other)
-        (⟦<Self::Output as BitSetLike>⟧.holds result) };
+    ghost bitxor_gives = { GivesSymmetricDifference ⟦<Self as BitSetLike>⟧.holds T.holds
+        ⟦<Self::Output as BitSetLike>⟧.holds };
 
     #[inline]
     fn bitxor(self, rhs: T) -> BitSetXor<Self, T> {
@@ -64,9 +60,8 @@ impl<A: BitSetLike, T: BitSetLike> BitXor<T> for BitSetNot<A> {
 impl<A: BitSetLike, T: BitSetLike> Sub<T> for BitSetNot<A> {
     type Output = BitSetAnd<Self, BitSetNot<T>>;
 
-    ghost sub_gives = { λ set other result. (result.0 ≡ set) × (result.1.0 ≡ other)
-        × IsDifference (⟦<Self as BitSetLike>⟧.holds set) (T.holds other)
-        (⟦<Self::Output as BitSetLike>⟧.holds result) };
+    ghost sub_gives = { GivesDifference ⟦<Self as BitSetLike>⟧.holds T.holds
+        ⟦<Self::Output as BitSetLike>⟧.holds };
 
     #[inline]
     fn sub(self, rhs: T) -> BitSetAnd<Self, BitSetNot<T>> {
@@ -91,9 +86,8 @@ impl<A: BitSetLike> IntoIterator for BitSetNot<A> {
 impl<'a, A: BitSetLike> Not for &'a BitSetNot<A> {
     type Output = BitSetNot<Self>;
 
-    ghost not_gives = { λ set result. (result.0 ≡ set)
-        × IsComplement (⟦<Self as BitSetLike>⟧.holds set)
-        (⟦<Self::Output as BitSetLike>⟧.holds result) };
+    ghost not_gives = { GivesComplement ⟦<Self as BitSetLike>⟧.holds
+        ⟦<Self::Output as BitSetLike>⟧.holds };
 
     #[inline]
     fn not(self) -> BitSetNot<Self> {
@@ -104,9 +98,8 @@ impl<'a, A: BitSetLike> Not for &'a BitSetNot<A> {
 impl<'a, A: BitSetLike, T: BitSetLike> BitAnd<T> for &'a BitSetNot<A> {
     type Output = BitSetAnd<Self, T>;
 
-    ghost bitand_gives = { λ set other result. (result.0 ≡ set) × (result.1 ≡ other)
-        × IsIntersection (⟦<Self as BitSetLike>⟧.holds set) (T.holds other)
-        (⟦<Self::Output as BitSetLike>⟧.holds result) };
+    ghost bitand_gives = { GivesIntersection ⟦<Self as BitSetLike>⟧.holds T.holds
+        ⟦<Self::Output as BitSetLike>⟧.holds };
 
     #[inline]
     fn bitand(self, rhs: T) -> BitSetAnd<Self, T> {
@@ -117,9 +110,8 @@ impl<'a, A: BitSetLike, T: BitSetLike> BitAnd<T> for &'a BitSetNot<A> {
 impl<'a, A: BitSetLike, T: BitSetLike> BitOr<T> for &'a BitSetNot<A> {
     type Output = BitSetOr<Self, T>;
 
-    ghost bitor_gives = { λ set other result. (result.0 ≡ set) × (result.1 ≡ other)
-        × IsUnion (⟦<Self as BitSetLike>⟧.holds set) (T.holds other)
-        (⟦<Self::Output as BitSetLike>⟧.holds result) };
+    ghost bitor_gives = { GivesUnion ⟦<Self as BitSetLike>⟧.holds T.holds
+        ⟦<Self::Output as BitSetLike>⟧.holds };
 
     #[inline]
     fn bitor(self, rhs: T) -> BitSetOr<Self, T> {
@@ -130,9 +122,8 @@ impl<'a, A: BitSetLike, T: BitSetLike> BitOr<T> for &'a BitSetNot<A> {
 impl<'a, A: BitSetLike, T: BitSetLike> BitXor<T> for &'a BitSetNot<A> {
     type Output = BitSetXor<Self, T>;
 
-    ghost bitxor_gives = { λ set other result. (result.0 ≡ set) × (result.1 ≡ other)
-        × IsSymmetricDifference (⟦<Self as BitSetLike>⟧.holds set) (T.holds other)
-        (⟦<Self::Output as BitSetLike>⟧.holds result) };
+    ghost bitxor_gives = { GivesSymmetricDifference ⟦<Self as BitSetLike>⟧.holds T.holds
+        ⟦<Self::Output as BitSetLike>⟧.holds };
 
     #[inline]
     fn bitxor(self, rhs: T) -> BitSetXor<Self, T> {
@@ -143,9 +134,8 @@ impl<'a, A: BitSetLike, T: BitSetLike> BitXor<T> for &'a BitSetNot<A> {
 impl<'a, A: BitSetLike, T: BitSetLike> Sub<T> for &'a BitSetNot<A> {
     type Output = BitSetAnd<Self, BitSetNot<T>>;
 
-    ghost sub_gives = { λ set other result. (result.0 ≡ set) × (result.1.0 ≡ other)
-        × IsDifference (⟦<Self as BitSetLike>⟧.holds set) (T.holds other)
-        (⟦<Self::Output as BitSetLike>⟧.holds result) };
+    ghost sub_gives = { GivesDifference ⟦<Self as BitSetLike>⟧.holds T.holds
+        ⟦<Self::Output as BitSetLike>⟧.holds };
 
     #[inline]
     fn sub(self, rhs: T) -> BitSetAnd<Self, BitSetNot<T>> {

@@ -205,14 +205,22 @@ fn set_of_a_list(rt: HostRuntime) -> Result<(), Fail> {
     Ok(())
 }
 
-fn of_range(alloc: Global) -> Result<BitSet, AllocError> {
+fn of_range(alloc: Global) -> Result<BitSet, BuildError> {
     lists::set_of_range(alloc, 62, 1_000)
 }
 
-// allocates: 1, 152 bytes: uses::set_of_range
+// allocates: 3, 296 bytes: uses::set_of_range
 #[test]
 fn set_of_a_range(rt: HostRuntime) -> Result<(), Fail> {
-    let set = retried!(&rt, of_range(rt.alloc()));
+    let made = tried!(&rt, of_range(rt.alloc()));
+    let set = match made {
+        Ok(set) => set,
+        Err(BuildError::Memory { place }) => {
+            assert!(rt; place == 0 || place % 64 == 2);
+            of_range(rt.alloc())?
+        }
+        Err(_) => panic!(rt; "out of range"),
+    };
     assert!(rt; set.len() == 938 && set.contains(62) && set.contains(999));
     Ok(())
 }

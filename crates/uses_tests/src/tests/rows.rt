@@ -77,6 +77,20 @@ fn sets_of_ranges(rt: HostRuntime) -> Result<(), Fail> {
         set_of_range(rt.alloc(), 1_073_741_822, 1_073_741_824)?.len(),
         2
     );
+    assert_eq!(rt;
+        set_of_range(rt.alloc(), 1_073_741_822, 1_073_741_826).err(),
+        Some(BuildError::OutOfRange {
+            place: 2,
+            index: 1_073_741_824
+        })
+    );
+    assert_eq!(rt;
+        set_of_range(rt.alloc(), 1_073_741_824, 4_294_967_295).err(),
+        Some(BuildError::OutOfRange {
+            place: 0,
+            index: 1_073_741_824
+        })
+    );
     Ok(())
 }
 

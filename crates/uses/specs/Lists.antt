@@ -1,0 +1,15 @@
+-- Why a range was not taken into a set.
+use Rattle.std.specs.Prelude.{◌≡◌, ◌⊎◌, ℕ, ◌+◌, ◌%◌, ◌<◌, ◌≤◌}
+use Rattle.hibitset_base.specs.declared.build.BuildError.{BuildError}
+use Rattle.hibitset_base.specs.declared.build.BuildError.TheVariants.{OutOfRange, Memory}
+
+-- Of the indices from a start on, the one at the place is out of range, or it lies in range and there was no memory for
+-- it.
+abbrev pub IsWhyFrom : ℕ → ℕ → BuildError → Type 0
+IsWhyFrom range start (OutOfRange place index) = (index ≡ start + place) × (range ≤ index)
+IsWhyFrom range start (Memory place) = start + place < range
+
+-- if an allocation failed, the index is the first of all, or the first of a word
+abbrev pub BeginsWord : ℕ → BuildError → Type 0
+BeginsWord start (OutOfRange place index) = Unit {0}
+BeginsWord start (Memory place) = (place ≡ 0) ⊎ ((start + place) % 64 ≡ 0)
