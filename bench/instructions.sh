@@ -1,5 +1,5 @@
 #!/bin/sh
-# instructions.sh ORIGINAL [WORDS]: counts the instructions and the branches of each kernel of run.sh, of ours and of the original's, and prints a table of what an item takes. Another run with the same words on the same machine gives the same digits.
+# instructions.sh ORIGINAL [WORDS]: counts the instructions and the branches of each kernel of run.sh, of ours, of the original's and of the crate's, and prints a table of what an item takes. Another run with the same words on the same machine gives the same digits.
 # ORIGINAL: the folder of the original crate. WORDS: the rows whose names have them, alone. Two turns of a kernel count, beyond a first one; copies that a turn works on are taken off, as in run.sh.
 # LIB: the static library, if it is not to be built, or a checkout of another commit, whose library is built.
 # It needs rt, rustc, objcopy and valgrind (of Debian: apt-get install valgrind).
@@ -33,7 +33,7 @@ done >"$work/counts.txt"
 
 printf '%s; %s; %s, %s; %s; %s.\n\n' "$(date -u +%Y-%m-%d)" "$(machine)" "$(rt version)" "$(rustc --version)" \
     "$(commit_of "$([ -d "${LIB:-}" ] && echo "$LIB" || echo "$here/..")")" "$(valgrind --version)"
-printf '| an item takes | instructions | original | ratio | branches | original | ratio |\n|---|---:|---:|---:|---:|---:|---:|\n'
+printf '| an item takes | instructions | original | ratio | crate | branches | original | ratio | crate |\n|---|---:|---:|---:|---:|---:|---:|---:|---:|\n'
 awk -F '\t' '
     function counted(key, who, what, column) { # of the turns beyond the first
         return count[key " " who " " what " 3" FS column] - count[key " " who " " what " 1" FS column]
@@ -55,7 +55,8 @@ awk -F '\t' '
         for (column = 1; column <= 2; column++) {
             ours = taken($1, "ours", $2, column)
             theirs = has[$1 " original"] ? taken($1, "original", $2, column) : 0
-            line = line sprintf(" %s | %s | %s |", number(ours), number(theirs), ratio(ours, theirs))
+            crate = has[$1 " derived"] ? taken($1, "derived", $2, column) : 0
+            line = line sprintf(" %s | %s | %s | %s |", number(ours), number(theirs), ratio(ours, theirs), number(crate))
         }
         if (head) print head
         head = ""

@@ -9,10 +9,11 @@ mkdir -p "$work"
 lib=$(library "${1:-$here/..}" "$work/library")
 cp "$lib" "$work/libhibitset_bench.a"
 peers "$work"
+derived "$work"
 cp "$here"/driver/*.rs "$work"
 printf 'pub use crate::ours::*;\npub use crate::ours::column_join as column_join_by_one_mask;\n' >"$work/original.rs"
 # The flags are words.
 # shellcheck disable=SC2086
-program "$work" "$work/main.rs" --cfg smallest ${with_peers:-}
+program "$work" "$work/main.rs" --cfg smallest ${with_peers:-} $with_derived
 MALLOC_MMAP_THRESHOLD_=1000000000 MALLOC_TRIM_THRESHOLD_=10000000000 "$work/bench" 1 0 >"$work/result.txt" 2>"$work/log.txt" || { tail -n 5 "$work/log.txt" >&2; exit 1; }
 printf 'rows.sh: %s rows, each with the same answers by all contenders\n' "$(grep -c '^|' "$work/log.txt")"

@@ -122,21 +122,7 @@ SPEED = [
 ]
 
 # README's columns: what it says, and that of RESULTS.md.
-COLUMNS = [("here", "ours"), ("hibitset", "original"), ("fixedbitset", "fixedbitset"), ("CRoaring", "CRoaring"), ("`BTreeSet`", "BTreeSet")]
-
-# README's rows of the Rust crate, by the rows of the table `bindings`.
-CRATE = [
-    "contains, hit",
-    "contains, miss",
-    "add, 1M random below 2^24, from empty",
-    "add again what is there",
-    "remove, all of 1M random",
-    "iteration, half of 2^21",
-    "iteration, 1 %",
-    "iteration of a & b, 1 %",
-    "a == b, half of 2^21",
-    "a ^= b, in place, half of 2^21",
-]
+COLUMNS = [("crate", "crate"), ("Rattle", "Rattle"), ("hibitset", "original"), ("fixedbitset", "fixedbitset"), ("CRoaring", "CRoaring"), ("`BTreeSet`", "BTreeSet")]
 
 # What is slower than the original: what README says, and the rows that it is about, in the tables `results`, `order` and `shared`.
 SLOWER = [
@@ -169,18 +155,6 @@ def speed(results):
     return "\n".join(lines) + "\n"
 
 
-def crate(results):
-    """README's table of the Rust crate."""
-    rows = {row.name: row for row in rows_of("bindings", results)}
-    day, machine, commit = head_of("bindings", results)
-    lines = [f"The Rust crate and the original, compiled alike by one rustc, as `cargo` makes them: nanoseconds at {commit}, {day}, {machine}.", ""]
-    lines += ["|  | crate | original | ratio |", "|---|---:|---:|---:|"]
-    for name in CRATE:
-        cells = rows[name].cells
-        lines.append(f"| {name} | {with_commas(cells['ours'])} | {with_commas(cells['original'])} | {ratio_of(rows[name]):.2f} |")
-    return "\n".join(lines) + "\n"
-
-
 def ratios(results):
     """The names and ratios of the rows that have one, of the tables that README's is made of."""
     for table in SLOWER_TABLES:
@@ -202,7 +176,7 @@ def unlisted(results):
             yield "tests/checks/release.py", f"SLOWER has no row for {name}: {ratio}"
 
 
-TABLES = {"speed": speed, "crate": crate, "slower": slower}
+TABLES = {"speed": speed, "slower": slower}
 
 
 def with_tables(page, results):

@@ -1,9 +1,9 @@
-//! Sets made of the items of an iterator, or extended by them, and sets made of words.
+//! Sets made of the items of an iterator or of a slice, or extended by them, and sets made of words.
 #![tactic(auto, unfolding(crate::specs::BitSet::has, crate::specs::BitSet::word_of, crate::specs::Layers::room_for))]
 
 ghost use Rattle.std.specs.Prelude.{◌≡◌, ℕ, ◌-◌, ◌*◌, ◌/◌, ◌^◌, ◌<◌, ◌≤◌, ◌||◌, ◌↔◌, Bool, true, false, [], get_or, length, take, Contains, slice_index_or, vec_capacity, OnOk, OnErr, IfOk, IfErr, IsOk};
 ghost use Rattle.std.specs.Iterator.{IsFiniteIterable};
-ghost use Rattle.hibitset_base.specs.Slices.{AddsList, place_of, InRangeBefore, IsWhy, LacksRoom, LiesApartIn};
+ghost use Rattle.hibitset_base.specs.Slices.{AddsList, place_of, InRangeBefore, IsRefusalIn, LacksRoom, LiesApartIn};
 ghost use Rattle.hibitset_base.specs.Words.{SummariesExactEverywhere, word_at};
 ghost use Rattle.hibitset_base.specs.declared.util.TheConstants.{LAYERS, MAX_EID};
 ghost use Rattle.hibitset.specs.BitSet.{has, word_of, slice_len};
@@ -134,7 +134,7 @@ impl BitSet {
         ensures place { IfErr result (λ error. place_of error < length indices.now) }
         ensures in_range_before { IfErr result (λ error. InRangeBefore MAX_EID indices.now
             (place_of error)) }
-        ensures why { IfErr result (IsWhy MAX_EID indices.now) }
+        ensures why { IfErr result (IsRefusalIn MAX_EID indices.now) }
         ensures lacks_room { IfErr result (LacksRoom (λ i. slice_len self.new 0 ≤ i / 64)
             indices.now) }
         ensures len_min { slice_len self.old 0 ≤ slice_len self.new 0 }
@@ -162,7 +162,7 @@ impl BitSet {
         ensures place { IfErr result (λ error. place_of error < length indices.now) }
         ensures in_range_before { IfErr result (λ error. InRangeBefore MAX_EID indices.now
             (place_of error)) }
-        ensures why { IfErr result (IsWhy MAX_EID indices.now) }
+        ensures why { IfErr result (IsRefusalIn MAX_EID indices.now) }
         ensures apart { IfErr result (LiesApartIn (λ i j. i / 64 < j / 64) indices.now) }
     {
         build::from_slice(BitSet::new(alloc), indices)

@@ -1,10 +1,10 @@
-//! Atomic sets made of the items of an iterator, or extended by them.
+//! Atomic sets made of the items of an iterator or of a slice, or extended by them.
 #![tactic(auto, unfolding(crate::specs::AtomicBitSet::has, crate::specs::AtomicBitSet::word_of))]
 
 ghost use Rattle.std.specs.Prelude.{◌≡◌, ◌≢◌, ℕ, ◌/◌, ◌<◌, ◌≤◌, ◌⊎◌, ◌||◌, ◌↔◌, Bool, true, false, OnOk, OnErr, IfOk, IfErr, length, take, Contains};
 ghost use Rattle.std.specs.Iterator.{IsFiniteIterable};
 ghost use Rattle.hibitset_base.specs.declared.build.BuildError.TheVariants.{Memory};
-ghost use Rattle.hibitset_base.specs.Slices.{AddsList, place_of, InRangeBefore, IsWhy, LacksRoom, LiesApartIn};
+ghost use Rattle.hibitset_base.specs.Slices.{AddsList, place_of, InRangeBefore, IsRefusalIn, LacksRoom, LiesApartIn};
 ghost use Rattle.hibitset_atomic.specs.declared.atomic.TheConstants.{ATOMIC_MAX_EID};
 ghost use Rattle.hibitset_atomic.specs.AtomicBitSet.{has, SharesBlockWithNone, NeedsAllocation, block_apart};
 ghost use Rattle.hibitset_atomic.specs.Extension.{Refuses, TakesAll, StopsAtRefused};
@@ -137,7 +137,7 @@ impl AtomicBitSet {
         ensures place { IfErr result (λ error. place_of error < length indices.now) }
         ensures in_range_before { IfErr result (λ error. InRangeBefore ATOMIC_MAX_EID indices.now
             (place_of error)) }
-        ensures why { IfErr result (IsWhy ATOMIC_MAX_EID indices.now) }
+        ensures why { IfErr result (IsRefusalIn ATOMIC_MAX_EID indices.now) }
         ensures lacks_room { IfErr result (LacksRoom (NeedsAllocation self.new) indices.now) }
         ensures keeps { (i : ℕ) → NeedsAllocation self.new i → NeedsAllocation self.old i }
         ensures most { (i : ℕ) → NeedsAllocation self.old i → SharesBlockWithNone self.new i
@@ -163,7 +163,7 @@ impl AtomicBitSet {
         ensures in_range_before { IfErr result (λ error. InRangeBefore ATOMIC_MAX_EID indices.now
             (place_of error)) }
         ensures why { IfErr result (λ error. (error ≡ Memory 0)
-            ⊎ IsWhy ATOMIC_MAX_EID indices.now error) }
+            ⊎ IsRefusalIn ATOMIC_MAX_EID indices.now error) }
         ensures apart { IfErr result (LiesApartIn (λ i j. i / 4096 ≢ j / 4096) indices.now) }
     {
         let Ok(set) = AtomicBitSet::new(alloc) else {

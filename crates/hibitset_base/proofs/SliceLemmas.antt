@@ -17,7 +17,7 @@ use Rattle.std.proofs.lemmas.List.Elements.{Contains-append_right, Contains-appe
 use Rattle.hibitset_base.specs.Extension.{AddsItemsBelow, IsRefusalBelow, TakesAllBelow, StopsAtRefusedBelow, RefusesBelow}
 use Rattle.hibitset_base.specs.declared.build.BuildError.{BuildError}
 use Rattle.hibitset_base.specs.declared.build.BuildError.TheVariants.{OutOfRange, Memory}
-use Rattle.hibitset_base.specs.Slices.{AddsList, place_of, InRangeBefore, IsWhy, LacksRoom, LiesApartIn}
+use Rattle.hibitset_base.specs.Slices.{AddsList, place_of, InRangeBefore, IsRefusalIn, LacksRoom, LiesApartIn}
 
 -- the numbers of items
 abbrev numbers : List (Bor ℕ) → List ℕ
@@ -146,7 +146,7 @@ module _ (range : ℕ) (lacks : ℕ → Type 0) (list : List ℕ) (items : List 
   pub before_range : (error : BuildError) → IsRefusalBelow range lacks error (length items) refused → All (λ x. x.now < range) items → InRangeBefore range list (place_of error)
   before_range error h all = rw (place_is error h, stops.whole) (in_range range items (refused ∷ stops.rest) all)
 
-  pub why : (error : BuildError) → IsRefusalBelow range lacks error (length items) refused → IsWhy range list error
+  pub why : (error : BuildError) → IsRefusalBelow range lacks error (length items) refused → IsRefusalIn range list error
   why (OutOfRange place index) h = (h.1 ∙ sym (item_at (OutOfRange place index) h), rw h.1 h.2)
   why (Memory place) h = rw (item_at (Memory place) h) h.1
 
@@ -181,7 +181,7 @@ pub record StoppedIn (range : ℕ) (lacks : ℕ → Type 0) (list : List ℕ) (o
   pub some : AddsList old new (take (place_of error) list)
   pub place : place_of error < length list
   pub before : InRangeBefore range list (place_of error)
-  pub why : IsWhy range list error
+  pub why : IsRefusalIn range list error
   pub lacking : LacksRoom lacks list error
 
 pub stopped_in : (range : ℕ) (lacks : ℕ → Type 0) (slice : Bor (List ℕ)) (old new : ℕ → Bool) (error : BuildError) → StopsAtRefusedBelow range Begins iter_steps (λ x. x.now) slice old new lacks error → StoppedIn range lacks slice.now old new error
@@ -199,7 +199,7 @@ stopped_in range lacks slice old new error h =
 pub record RefusedIn (range : ℕ) (apart : ℕ → ℕ → Type 0) (list : List ℕ) (error : BuildError) : Type 0 where
   pub place : place_of error < length list
   pub before : InRangeBefore range list (place_of error)
-  pub why : IsWhy range list error
+  pub why : IsRefusalIn range list error
   pub lies_apart : LiesApartIn apart list error
 
 pub refused_in : (range : ℕ) (apart : ℕ → ℕ → Type 0) (slice : Bor (List ℕ)) (error : BuildError) → RefusesBelow range Begins iter_steps (λ x. x.now) slice apart error → RefusedIn range apart slice.now error

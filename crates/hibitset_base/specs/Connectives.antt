@@ -54,7 +54,7 @@ module _ {A : Type 0} where
 
     abbrev pub GivesSymmetricDifference : (A → ℕ → Bool) → (B → ℕ → Bool) → (BitSetXor A B → ℕ → Bool) → A → B → BitSetXor A B → Type 0
     GivesSymmetricDifference a b c set other result =
-      (result.0 ≡ set) × (result.1 ≡ other) × IsSymmetricDifference (a set) (b other) (c result)
+        (result.0 ≡ set) × (result.1 ≡ other) × IsSymmetricDifference (a set) (b other) (c result)
 
     abbrev pub GivesDifference : (A → ℕ → Bool) → (B → ℕ → Bool) → (BitSetAnd A (BitSetNot B) → ℕ → Bool) → A → B → BitSetAnd A (BitSetNot B) → Type 0
     GivesDifference a b c set other result = (result.0 ≡ set) × (result.1.0 ≡ other) × IsDifference (a set) (b other) (c result)

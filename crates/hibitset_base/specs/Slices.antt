@@ -17,9 +17,9 @@ abbrev pub InRangeBefore : ℕ → List ℕ → ℕ → Type 0
 InRangeBefore range list place = (k : ℕ) → k < place → slice_index list k < range
 
 -- The index at the place is out of range, or it lies in range and there was no memory for it.
-abbrev pub IsWhy : ℕ → List ℕ → BuildError → Type 0
-IsWhy range list (OutOfRange place index) = (index ≡ slice_index list place) × (range ≤ index)
-IsWhy range list (Memory place) = slice_index list place < range
+abbrev pub IsRefusalIn : ℕ → List ℕ → BuildError → Type 0
+IsRefusalIn range list (OutOfRange place index) = (index ≡ slice_index list place) × (range ≤ index)
+IsRefusalIn range list (Memory place) = slice_index list place < range
 
 -- if an allocation failed, the set has no room for the index
 abbrev pub LacksRoom : (ℕ → Type 0) → List ℕ → BuildError → Type 0

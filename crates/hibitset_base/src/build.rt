@@ -1,8 +1,8 @@
-//! Sets made of the items of an iterator, or extended by them: one text for every set that keeps its words.
+//! Sets made of the items of an iterator or of a slice, or extended by them: one text for every set that keeps its words.
 ghost use Rattle.std.specs.Prelude.{◌≡◌, ℕ, ◌<◌, ◌≤◌, ◌==◌, ◌||◌, ◌↔◌, true, false, Some, OnOk, OnErr, IfOk, IfErr, Contains, length, take};
 ghost use Rattle.std.specs.Iterator.{IsFiniteIterable};
 ghost use Rattle.hibitset_base.specs.Extension.{IsRefusalBelow, LiesApart, RefusesBelow, TakesAllBelow, StopsAtRefusedBelow, text_of};
-ghost use Rattle.hibitset_base.specs.Slices.{AddsList, place_of, InRangeBefore, IsWhy, LacksRoom, LiesApartIn};
+ghost use Rattle.hibitset_base.specs.Slices.{AddsList, place_of, InRangeBefore, IsRefusalIn, LacksRoom, LiesApartIn};
 
 use crate::like::BitSetLike;
 use crate::util::Index;
@@ -10,7 +10,7 @@ use std::alloc::AllocError;
 use std::error::Error;
 use std::fmt;
 
-/// Why an item of an iterator was not added.
+/// Why an item of an iterator, or an index of a slice, was not added.
 ///
 /// Places count the items from 0, and stay at `usize::MAX` once there.
 #[derive(Clone, Copy, Debug, PartialEq, Eq)]
@@ -194,7 +194,7 @@ pub fn extend_from_slice<T: FallibleInsert>(
     ensures place { IfErr result (λ error. place_of error < length indices.now) }
     ensures in_range_before { IfErr result (λ error. InRangeBefore T.RANGE indices.now
         (place_of error)) }
-    ensures why { IfErr result (IsWhy T.RANGE indices.now) }
+    ensures why { IfErr result (IsRefusalIn T.RANGE indices.now) }
     ensures lacks_room { IfErr result (LacksRoom (T.needs_allocation set.new) indices.now) }
     ensures keeps { (j : ℕ) → T.needs_allocation set.new j → T.needs_allocation set.old j }
     ensures most { (j : ℕ) → T.needs_allocation set.old j
@@ -216,7 +216,7 @@ pub fn from_slice<T: FallibleInsert>(set: T, indices: &[Index]) -> Result<T, Bui
     ensures place { IfErr result (λ error. place_of error < length indices.now) }
     ensures in_range_before { IfErr result (λ error. InRangeBefore T.RANGE indices.now
         (place_of error)) }
-    ensures why { IfErr result (IsWhy T.RANGE indices.now) }
+    ensures why { IfErr result (IsRefusalIn T.RANGE indices.now) }
     ensures apart { IfErr result (LiesApartIn T.need_separate_room indices.now) }
 {
     from_index_refs(set, indices)

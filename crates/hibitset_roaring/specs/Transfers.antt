@@ -42,11 +42,11 @@ IsFromReason bytes end from.TooLong = longest_below end < length bytes
 IsFromReason bytes end (from.Malformed m) = IsFault bytes end m.fault m.at
 
 -- No interruption is handed on.
-abbrev pub IsRetried : ReadFromError → Type 0
-IsRetried (from.Io e) = error_kind e ≢ Interrupted
-IsRetried from.Memory = ⊤
-IsRetried from.TooLong = ⊤
-IsRetried (from.Malformed m) = ⊤
+abbrev pub IsNoInterruption : ReadFromError → Type 0
+IsNoInterruption (from.Io e) = error_kind e ≢ Interrupted
+IsNoInterruption from.Memory = ⊤
+IsNoInterruption from.TooLong = ⊤
+IsNoInterruption (from.Malformed m) = ⊤
 
 -- why not all bytes of a reader were read
 abbrev pub IsInputReason : Option (List ℕ) → ℕ → ReadFromError → Type 0

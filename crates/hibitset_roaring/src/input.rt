@@ -4,7 +4,7 @@ ghost use Rattle.std.specs.Prelude.{◌≡◌, ℕ, ◌+◌, ◌*◌, ◌≤◌,
 ghost use Rattle.std.specs.Io.KnownBytes.{Consumes, IsAtEnd};
 ghost use Rattle.hibitset.specs.BitSet.{has, slice_len};
 ghost use Rattle.hibitset_roaring.specs.Format.{holds, IsStream, HasKeysBelow};
-ghost use Rattle.hibitset_roaring.specs.Transfers.{GivesFront, longest_below, IsOutside, IsFromReason, IsInputReason, IsRetried};
+ghost use Rattle.hibitset_roaring.specs.Transfers.{GivesFront, longest_below, IsOutside, IsFromReason, IsInputReason, IsNoInterruption};
 ghost use Rattle.hibitset_roaring.specs.declared.header.TheConstants.{KEYS};
 ghost use Rattle.hibitset_roaring.specs.declared.layout.TheConstants.{CONTAINER_WORDS};
 ghost use Rattle.hibitset_roaring.specs.declared.input.TheConstants.{CHUNK};
@@ -55,7 +55,7 @@ pub fn read_from<R: Read>(
         (λ bytes. IsStream bytes → HasKeysBelow bytes end → IsOutside error)) }
     ensures front { GivesFront (longest_below end + CHUNK) (R.remaining reader.old)
         (R.remaining reader.new) }
-    ensures retried { IfErr result IsRetried }
+    ensures not_interrupted { IfErr result IsNoInterruption }
 {
     let bytes = read_all(alloc, reader, LONGEST_START + LONGEST_CONTAINER * end)?;
     Ok(read_below(alloc, &bytes, end)?)
@@ -68,7 +68,7 @@ fn read_all<R: Read>(alloc: Global, reader: &mut R, most: usize) -> Result<Vec<u
     ensures end { OnOk result (IsAtEnd (R.remaining reader.new)) }
     ensures reason { IfErr result (IsInputReason (R.remaining reader.old) most) }
     ensures front { GivesFront (most + CHUNK) (R.remaining reader.old) (R.remaining reader.new) }
-    ensures retried { IfErr result IsRetried }
+    ensures not_interrupted { IfErr result IsNoInterruption }
 {
     let mut input = Vec::new(alloc);
     'rounds: for _round in 0..u64::MAX {
@@ -90,7 +90,7 @@ fn read_some<R: Read>(reader: &mut R, input: &mut Vec<u8>) -> Result<bool, ReadF
     ensures end { IfOk result (λ ended. IsTrue ended → IsAtEnd (R.remaining reader.new)) }
     ensures reason { IfErr result IsOutside }
     ensures front { GivesFront CHUNK (R.remaining reader.old) (R.remaining reader.new) }
-    ensures retried { IfErr result IsRetried }
+    ensures not_interrupted { IfErr result IsNoInterruption }
 {
     let mut chunk = [0; CHUNK];
     match reader.read(&mut chunk) {

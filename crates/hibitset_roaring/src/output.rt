@@ -27,7 +27,7 @@ pub fn write_into<W: Write>(alloc: Global, set: &BitSet, writer: &mut W) -> io::
         (W.contents writer.new)) }
     ensures err { OnErr result ((bytes : List ℕ) → IsPlainStream (has set.now) bytes
         → WritesFront (W.contents writer.old) (W.contents writer.new) bytes) }
-    ensures retried { IfErr result (λ e. error_kind e ≢ ErrorKind.Interrupted) }
+    ensures not_interrupted { IfErr result (λ e. error_kind e ≢ ErrorKind.Interrupted) }
 {
     let bytes = write(alloc, set)?;
     put_bytes(writer, &bytes)
@@ -40,7 +40,7 @@ fn put_bytes<W: Write>(writer: &mut W, bytes: &[u8]) -> io::Result<()>
     ensures ok { OnOk result (Appends (W.contents writer.old) (W.contents writer.new) bytes.now) }
     ensures err { OnErr result (WritesFront (W.contents writer.old) (W.contents writer.new)
         bytes.now) }
-    ensures retried { IfErr result (λ e. error_kind e ≢ ErrorKind.Interrupted) }
+    ensures not_interrupted { IfErr result (λ e. error_kind e ≢ ErrorKind.Interrupted) }
 {
     let mut rest = bytes;
     'rounds: for _round in 0..u64::MAX {
@@ -60,7 +60,7 @@ fn put_some<W: Write>(writer: &mut W, bytes: &[u8]) -> io::Result<usize>
     ensures written { MatchResult result
         (λ count. Appends (W.contents writer.old) (W.contents writer.new) (take count bytes.now))
         (λ _. Keeps (W.contents writer.old) (W.contents writer.new)) }
-    ensures retried { IfErr result (λ e. error_kind e ≢ ErrorKind.Interrupted) }
+    ensures not_interrupted { IfErr result (λ e. error_kind e ≢ ErrorKind.Interrupted) }
 {
     match writer.write(bytes) {
         Ok(0) => Err(ErrorKind::WriteZero.into()),

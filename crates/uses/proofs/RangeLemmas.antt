@@ -18,7 +18,7 @@ use Rattle.hibitset_base.specs.Extension.{AddsItemsBelow, IsRefusalBelow, TakesA
 use Rattle.hibitset_base.specs.declared.build.BuildError.{BuildError}
 use Rattle.hibitset_base.specs.declared.build.BuildError.TheVariants.{OutOfRange, Memory}
 use Rattle.hibitset_base.specs.Slices.{place_of}
-use Rattle.uses.specs.Lists.{IsWhyFrom, BeginsWord}
+use Rattle.uses.specs.Lists.{IsRefusalFrom, BeginsWord}
 
 -- where a refusal tells the count of the items before it as its place
 place_counts : (range : ℕ) (lacks : ℕ → Type 0) (count item : ℕ) → count < 2 ^ 64 → (error : BuildError) → IsRefusalBelow range lacks error count item → place_of error ≡ count
@@ -119,11 +119,11 @@ takes_range range start end new h =
 pub record RangeRefused (range start end : ℕ) (error : BuildError) : Type 0 where
   pub place : start + place_of error < end
   pub before : (k : ℕ) → k < place_of error → start + k < range
-  pub why : IsWhyFrom range start error
+  pub why : IsRefusalFrom range start error
   pub word : BeginsWord start error
 
 module _ (range : ℕ) (lacks : ℕ → Type 0) (start count item : ℕ) (item_is : item ≡ start + count) (fits : count < 2 ^ 64) where
-  why_from : (error : BuildError) → IsRefusalBelow range lacks error count item → IsWhyFrom range start error
+  why_from : (error : BuildError) → IsRefusalBelow range lacks error count item → IsRefusalFrom range start error
   why_from (OutOfRange place index) h = let at : place ≡ count = place_counts range lacks count item fits (OutOfRange place index) h in (omega (arith, at, item_is, h.1), omega (arith, h.1, h.2))
   why_from (Memory place) h = let at : place ≡ count = place_counts range lacks count item fits (Memory place) h in omega (arith, at, item_is, h.1)
 

@@ -5,9 +5,9 @@ use Rattle.hibitset_base.specs.declared.build.BuildError.TheVariants.{OutOfRange
 
 -- Of the indices from a start on, the one at the place is out of range, or it lies in range and there was no memory for
 -- it.
-abbrev pub IsWhyFrom : ℕ → ℕ → BuildError → Type 0
-IsWhyFrom range start (OutOfRange place index) = (index ≡ start + place) × (range ≤ index)
-IsWhyFrom range start (Memory place) = start + place < range
+abbrev pub IsRefusalFrom : ℕ → ℕ → BuildError → Type 0
+IsRefusalFrom range start (OutOfRange place index) = (index ≡ start + place) × (range ≤ index)
+IsRefusalFrom range start (Memory place) = start + place < range
 
 -- if an allocation failed, the index is the first of all, or the first of a word
 abbrev pub BeginsWord : ℕ → BuildError → Type 0

@@ -1,7 +1,7 @@
 //! Sets made of lists and of ranges, and extended by lists.
 ghost use Rattle.std.specs.Prelude.{◌≡◌, ℕ, ◌+◌, ◌-◌, ◌*◌, ◌/◌, ◌^◌, ◌<◌, ◌≤◌, ◌↔◌, ◌⊎◌, true, length, take, IfOk, IfErr, OnOk, Contains};
-ghost use Rattle.hibitset_base.specs.Slices.{place_of, InRangeBefore, IsWhy, LacksRoom, LiesApartIn};
-ghost use Rattle.uses.specs.Lists.{IsWhyFrom, BeginsWord};
+ghost use Rattle.hibitset_base.specs.Slices.{place_of, InRangeBefore, IsRefusalIn, LacksRoom, LiesApartIn};
+ghost use Rattle.uses.specs.Lists.{IsRefusalFrom, BeginsWord};
 ghost use Rattle.hibitset_base.specs.declared.util.TheConstants.{LAYERS, MAX_EID};
 ghost use Rattle.hibitset.specs.BitSet.{has, slice_len};
 
@@ -18,7 +18,7 @@ pub fn set_of(alloc: Global, list: &[Index]) -> Result<BitSet, BuildError>
     ensures in_range { IfOk result (λ _. InRangeBefore MAX_EID list.now (length list.now)) }
     ensures place { IfErr result (λ error. place_of error < length list.now) }
     ensures before { IfErr result (λ error. InRangeBefore MAX_EID list.now (place_of error)) }
-    ensures why { IfErr result (IsWhy MAX_EID list.now) }
+    ensures why { IfErr result (IsRefusalIn MAX_EID list.now) }
     ensures apart { IfErr result (LiesApartIn (λ i j. i / 64 < j / 64) list.now) }
 {
     BitSet::from_slice(alloc, list)
@@ -35,7 +35,7 @@ pub fn set_of_range(alloc: Global, start: Index, end: Index) -> Result<BitSet, B
     ensures in_range { IfOk result (λ _. start < end → end ≤ MAX_EID) }
     ensures place { IfErr result (λ error. start + place_of error < end) }
     ensures before { IfErr result (λ error. (k : ℕ) → k < place_of error → start + k < MAX_EID) }
-    ensures why { IfErr result (IsWhyFrom MAX_EID start) }
+    ensures why { IfErr result (IsRefusalFrom MAX_EID start) }
     ensures word { IfErr result (BeginsWord start) }
 {
     BitSet::from_indices(alloc, start..end)
@@ -52,7 +52,7 @@ pub fn add_all(set: &mut BitSet, list: &[Index]) -> Result<(), BuildError>
         ⊎ Contains (take (place_of error) list.now) i)) }
     ensures place { IfErr result (λ error. place_of error < length list.now) }
     ensures before { IfErr result (λ error. InRangeBefore MAX_EID list.now (place_of error)) }
-    ensures why { IfErr result (IsWhy MAX_EID list.now) }
+    ensures why { IfErr result (IsRefusalIn MAX_EID list.now) }
     ensures lacks { IfErr result (LacksRoom (λ i. slice_len set.new 0 ≤ i / 64) list.now) }
 {
     set.extend_from_slice(list)

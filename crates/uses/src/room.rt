@@ -9,7 +9,7 @@ use hibitset::{AtomicBitSet, BitSet, Index};
 use std::alloc::{AllocError, Global};
 
 /// Adds an index for which the set has a word, and returns whether it was there. It can't fail, and the set has as many
-/// words as before.
+/// words of layer 0 as before.
 pub fn add_without_growth(set: &mut BitSet, id: Index) -> bool
     requires id { id < MAX_EID }
     requires room { id / 64 < slice_len set.old 0 }
@@ -20,7 +20,7 @@ pub fn add_without_growth(set: &mut BitSet, id: Index) -> bool
     set.add(id).unwrap()
 }
 
-/// A copy with one index more, for which the set has a word. The copy has as many words.
+/// A copy with one index more, for which the set has a word. The copy has as many words of layer 0.
 pub fn with_one_more(set: &BitSet, id: Index) -> Result<BitSet, AllocError>
     requires id { id < MAX_EID }
     requires room { id / 64 < slice_len set.now 0 }

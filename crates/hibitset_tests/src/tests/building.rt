@@ -37,7 +37,13 @@ fn slices(rt: HostRuntime) -> Result<(), Fail> {
     set.extend_from_slice(&[70, 3])?;
     assert_members(&rt, &set, &[3, 9, 70, 16777216])?;
     set.extend_from_slice(&[])?;
-    assert!(rt; set.extend_from_slice(&[8, 1073741824, 4]).is_err());
+    assert!(rt;
+        set.extend_from_slice(&[8, 1073741824, 4])
+            == Err(BuildError::OutOfRange {
+                place: 1,
+                index: 1073741824
+            })
+    );
     assert_members(&rt, &set, &[3, 8, 9, 70, 16777216])?;
     assert!(rt; BitSet::from_slice(rt.alloc(), &ITEMS) == Err(REFUSED));
     Ok(())

@@ -3,7 +3,7 @@ ghost use Rattle.std.specs.Prelude.{◌≡◌, ◌≢◌, ℕ, ◌/◌, ◌<◌,
 ghost use Rattle.hibitset_base.specs.declared.build.BuildError.TheVariants.{Memory};
 ghost use Rattle.hibitset_atomic.specs.declared.atomic.TheConstants.{ATOMIC_MAX_EID};
 ghost use Rattle.hibitset_atomic.specs.AtomicBitSet.{has, NeedsAllocation};
-ghost use Rattle.hibitset_base.specs.Slices.{place_of, InRangeBefore, IsWhy, LacksRoom, LiesApartIn};
+ghost use Rattle.hibitset_base.specs.Slices.{place_of, InRangeBefore, IsRefusalIn, LacksRoom, LiesApartIn};
 
 use hibitset::{AtomicBitSet, BitSetLike, BuildError, Index};
 use std::alloc::Global;
@@ -17,7 +17,7 @@ fn set_of(alloc: Global, list: &[Index]) -> Result<AtomicBitSet, BuildError>
     ensures place { IfErr result (λ error. (error ≡ Memory 0) ⊎ (place_of error < length list.now)) }
     ensures before { IfErr result (λ error. InRangeBefore ATOMIC_MAX_EID list.now
         (place_of error)) }
-    ensures why { IfErr result (λ error. (error ≡ Memory 0) ⊎ IsWhy ATOMIC_MAX_EID list.now error) }
+    ensures why { IfErr result (λ error. (error ≡ Memory 0) ⊎ IsRefusalIn ATOMIC_MAX_EID list.now error) }
     ensures apart { IfErr result (LiesApartIn (λ i j. i / 4096 ≢ j / 4096) list.now) }
 {
     AtomicBitSet::from_slice(alloc, list)
@@ -31,7 +31,7 @@ fn add_all(set: &mut AtomicBitSet, list: &[Index]) -> Result<(), BuildError>
     ensures some { IfErr result (λ error. (i : ℕ)
         → (has set.new i ≡ true) ↔ ((has set.old i ≡ true)
         ⊎ Contains (take (place_of error) list.now) i)) }
-    ensures why { IfErr result (IsWhy ATOMIC_MAX_EID list.now) }
+    ensures why { IfErr result (IsRefusalIn ATOMIC_MAX_EID list.now) }
     ensures lacks { IfErr result (LacksRoom (NeedsAllocation set.new) list.now) }
 {
     set.extend_from_slice(list)
