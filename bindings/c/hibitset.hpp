@@ -16,6 +16,7 @@
 #include "hibitset.h"
 #include <cstddef>
 #include <cstdint>
+#include <functional>
 #include <initializer_list>
 #include <iterator>
 #include <new>
@@ -64,6 +65,16 @@ public:
     void clear() noexcept { hibitset_clear(&set_); }
 
     bool contains(std::uint32_t index) const noexcept { return hibitset_contains(&set_, index); }
+    /* Writes for each of `len` indices whether it is a member, 1 or 0, into `found`, until `found_len` bytes are
+     * written, and returns how many. What lies behind them in `found` stays. */
+    std::size_t contains_many(const std::uint32_t *indices, std::size_t len, std::uint8_t *found,
+                              std::size_t found_len) const noexcept {
+        return hibitset_contains_many(&set_, indices, len, found, found_len);
+    }
+    /* Fills `buffer` with the words of the set from position `start` on, 0 for each that is past hibitset_words. */
+    void copy_words(std::size_t start, std::uint64_t *buffer, std::size_t len) const noexcept {
+        hibitset_copy_words(&set_, start, buffer, len);
+    }
     std::size_t size() const noexcept { return hibitset_len(&set_); }
     bool empty() const noexcept { return hibitset_is_empty(&set_); }
 
@@ -71,6 +82,18 @@ public:
     set &operator^=(const set &other) { return check(hibitset_xor_assign(&set_, &other.set_)), *this; }
     set &operator&=(const set &other) noexcept { return hibitset_and_assign(&set_, &other.set_), *this; }
     set &operator-=(const set &other) noexcept { return hibitset_andnot_assign(&set_, &other.set_), *this; }
+
+    /* Each of these makes a set of members of `a` and `b`, which may be one set. Its capacity ends with the word of its
+     * last member. */
+
+    /* The members that both have. */
+    friend set operator&(const set &a, const set &b) { return made_by(hibitset_and, a, b); }
+    /* The members that at least one of the two has. */
+    friend set operator|(const set &a, const set &b) { return made_by(hibitset_or, a, b); }
+    /* The members that one of the two has alone. */
+    friend set operator^(const set &a, const set &b) { return made_by(hibitset_xor, a, b); }
+    /* The members that `a` has and `b` lacks. */
+    friend set operator-(const set &a, const set &b) { return made_by(hibitset_andnot, a, b); }
 
     friend bool operator==(const set &a, const set &b) noexcept { return hibitset_equals(&a.set_, &b.set_); }
     friend bool operator!=(const set &a, const set &b) noexcept { return !(a == b); }
@@ -116,6 +139,12 @@ public:
     iterator from(std::uint32_t start) const noexcept { return iterator(&set_, start); }
 
 private:
+    static set made_by(decltype(hibitset_and) *call, const set &a, const set &b) {
+        set made;
+        check(call(&a.set_, &b.set_, &made.set_));
+        return made;
+    }
+
     static hibitset_status check(hibitset_status status) {
         if (status == HIBITSET_NO_MEMORY) throw std::bad_alloc();
         if (status == HIBITSET_OUT_OF_RANGE) throw std::out_of_range(hibitset_status_text(status));
@@ -126,5 +155,17 @@ private:
 };
 
 } // namespace hibitset
+
+namespace std {
+
+/* A hash of the members: sets with the same members have the same, whatever their capacity. */
+template <> struct hash<hibitset::set> {
+    using argument_type = hibitset::set;
+    using result_type = size_t;
+
+    size_t operator()(const hibitset::set &of) const noexcept { return hibitset_hash(of.raw()); }
+};
+
+} // namespace std
 
 #endif

@@ -7,6 +7,7 @@ extern "C" {
 #include <numeric>
 #include <set>
 #include <type_traits>
+#include <unordered_set>
 #include <utility>
 #include <vector>
 
@@ -74,6 +75,129 @@ static void assignments(void) {
     check_members(a, {1, 2, 3, 70000});
 }
 
+/* The indices of the two that `chosen` is true of: whether the one has it, and whether the other has it. */
+template <class F>
+static std::set<uint32_t> those_of(const std::set<uint32_t> &a, const std::set<uint32_t> &b, F chosen) {
+    std::set<uint32_t> found;
+    for (const std::set<uint32_t> *of : {&a, &b}) {
+        for (uint32_t index : *of) {
+            if (chosen(a.count(index) == 1, b.count(index) == 1)) found.insert(index);
+        }
+    }
+    return found;
+}
+
+/* A set that was just made of two: it has no word past its last member. */
+static void check_made(const set &made, const std::set<uint32_t> &model) {
+    check_members(made, model);
+    CHECK(hibitset_capacity(made.raw()) == (model.empty() ? 0 : (*model.rbegin() / 64 + 1) * 64));
+}
+
+/* The sets that are made of two, beside std::set. The two stay. */
+static void check_two(const set &a, const std::set<uint32_t> &x, const set &b, const std::set<uint32_t> &y) {
+    check_made(a & b, those_of(x, y, [](bool in_a, bool in_b) { return in_a && in_b; }));
+    check_made(a | b, those_of(x, y, [](bool in_a, bool in_b) { return in_a || in_b; }));
+    check_made(a ^ b, those_of(x, y, [](bool in_a, bool in_b) { return in_a != in_b; }));
+    check_made(a - b, those_of(x, y, [](bool in_a, bool in_b) { return in_a && !in_b; }));
+    check_members(a, x);
+    check_members(b, y);
+}
+
+static std::set<uint32_t> random_members(void) {
+    std::set<uint32_t> found;
+    const uint32_t bound = 1 + random_below(20000);
+    for (uint32_t count = random_below(300); count > 0; count--) found.insert(random_below(bound));
+    return found;
+}
+
+static set of_members(const std::set<uint32_t> &model) {
+    set made;
+    for (uint32_t index : model) made.add(index);
+    return made;
+}
+
+static void sets_of_two(void) {
+    for (int turn = 0; turn < 200; turn++) {
+        const std::set<uint32_t> x = random_members(), y = random_members();
+        const set a = of_members(x), b = of_members(y);
+        check_two(a, x, b, y);
+        check_two(a, x, a, x);
+        check_two(a, x, {}, {});
+        check_two({}, {}, a, x);
+        CHECK(((a & b) | (a - b)) == a && ((a ^ b) ^ b) == a);
+    }
+    check_two({}, {}, {}, {});
+    set a{1, 2, 3}, b{2, 70000};
+    a = a - b;
+    check_members(a, {1, 3});
+    a = a | a;
+    check_members(a, {1, 3});
+    b = a ^ b;
+    check_members(b, {1, 2, 3, 70000});
+}
+
+/* Lists and buffers of each length. What lies behind the written bytes stays. */
+static void contains_many(void) {
+    const set some{5, 64, 70000}, none;
+    const uint32_t list[] = {70000, 6, 5, HIBITSET_MAX_EID, UINT32_MAX, 5, 64};
+    for (const set *of : {&some, &none}) {
+        for (size_t len = 0; len <= 7; len++) {
+            for (size_t room = 0; room <= 9; room++) {
+                std::vector<uint8_t> found(10, 7);
+                const size_t count = std::min(len, room);
+                CHECK(of->contains_many(list, len, found.data(), room) == count);
+                for (size_t at = 0; at < 10; at++) CHECK(found[at] == (at < count ? of->contains(list[at]) : 7));
+            }
+        }
+        uint8_t found = 7;
+        CHECK(of->contains_many(nullptr, 0, &found, 1) == 0 && found == 7);
+        CHECK(of->contains_many(list, 7, nullptr, 0) == 0);
+    }
+}
+
+/* Bit by bit. What lies behind the buffer stays. */
+static void check_words(const set &of, size_t start, size_t len) {
+    std::vector<uint64_t> buffer(len + 1, 7);
+    of.copy_words(start, buffer.data(), len);
+    for (size_t bit = 0; bit < 64 * len; bit++) {
+        const size_t index = 64 * start + bit;
+        CHECK((buffer[bit / 64] >> bit % 64 & 1) == (index < HIBITSET_MAX_EID && of.contains((uint32_t)index)));
+    }
+    CHECK(buffer[len] == 7);
+}
+
+static void copy_words(void) {
+    const set some{0, 63, 64, 6500, 19999}, none;
+    const size_t starts[] = {0, 1, 100, 400, HIBITSET_MAX_WORDS}, lens[] = {0, 1, 2, 60, 500};
+    for (const set *of : {&some, &none}) {
+        for (size_t start : starts) {
+            for (size_t len : lens) check_words(*of, start, len);
+        }
+        uint64_t word = 7;
+        of->copy_words(0, nullptr, 0);
+        of->copy_words(SIZE_MAX, &word, 1);
+        CHECK(word == 0);
+    }
+}
+
+/* Sets with the same members have the same hash, also with other capacities and when they were moved. */
+static void hashes(void) {
+    const std::hash<set> hash{};
+    static_assert(noexcept(hash(std::declval<set>())), "a hash throws nothing");
+    const set a{1, 70000};
+    set b{70000, 1 << 20};
+    CHECK(hash(a) != hash(b));
+    b.remove(1 << 20);
+    b.add(1);
+    CHECK(a == b && hash(a) == hash(b) && hash(a) == hash(a.clone()));
+    const size_t before = hash(b);
+    const set moved = std::move(b);
+    CHECK(hash(moved) == before && hash(b) == hash(set{}) && hash(a - a) == hash(set{}));
+    std::unordered_set<set> sets;
+    CHECK(sets.insert(a.clone()).second && !sets.insert(moved.clone()).second && sets.insert(set{}).second);
+    CHECK(sets.size() == 2 && sets.count(moved) == 1 && sets.count(b) == 1 && sets.count(set{1}) == 0);
+}
+
 static void moves(void) {
     set a{1, 2, 3};
     set b = std::move(a);
@@ -131,12 +255,21 @@ static void exceptions(void) {
     failing(a, [&](set &x) { x |= far; });
     failing(a, [&](set &x) { x ^= far; });
     failing(a, [&](set &x) { x = far.clone(); });
+    failing(a, [&](set &x) { x = x & far; });
+    failing(a, [&](set &x) { x = x | far; });
+    failing(a, [&](set &x) { x = x ^ far; });
+    failing(a, [&](set &x) { x = far - x; });
+    check_members(far, {1 << 20});
     failing({}, [](set &) { set{1, 2}; });
 }
 
 int main() {
     random_calls();
     assignments();
+    sets_of_two();
+    contains_many();
+    copy_words();
+    hashes();
     moves();
     exceptions();
     const set one{7};
