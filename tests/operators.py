@@ -16,7 +16,7 @@ COLUMNS = 100
 HEAD = Template("""\
 $about
 ghost use Rattle.std.specs.Prelude.{◌≡◌};
-ghost use Rattle.hibitset_base.specs.Connectives.{GivesComplement, GivesDifference, GivesIntersection, GivesSymmetricDifference, GivesUnion};
+ghost use Rattle.hibitset_base.specs.Connectives.{IsComplement, IsDifference, IsSymmetricDifference, IsIntersection, IsUnion};
 ghost use Rattle.hibitset_base.specs.Walk.{StartsAtTop};
 $uses
 use std::ops::{BitAnd, BitOr, BitXor, Not, Sub};
@@ -26,7 +26,8 @@ OPERATOR = Template("""
 impl$generics $trait for $type {
     type Output = $output;
 
-    ghost ${name}_gives = { $fact };
+    ghost ${name}_gives = { λ $arguments result. $parts
+$fact };
 
     #[inline]
     fn $name($parameters) -> $output {
@@ -50,14 +51,14 @@ impl$generics IntoIterator for $type {
 }
 """)
 
-# Trait, function, fact, output, body.
+# Trait, function, fact, output, body, and the part of the result that is the other operand.
 BINARY = (
-    ("BitAnd", "bitand", "GivesIntersection", "BitSetAnd<Self, T>", "BitSetAnd(self, rhs)"),
-    ("BitOr", "bitor", "GivesUnion", "BitSetOr<Self, T>", "BitSetOr(self, rhs)"),
-    ("BitXor", "bitxor", "GivesSymmetricDifference", "BitSetXor<Self, T>", "BitSetXor(self, rhs)"),
-    ("Sub", "sub", "GivesDifference", "BitSetAnd<Self, BitSetNot<T>>", "BitSetAnd(self, BitSetNot(rhs))"),
+    ("BitAnd", "bitand", "IsIntersection", "BitSetAnd<Self, T>", "BitSetAnd(self, rhs)", "result.1"),
+    ("BitOr", "bitor", "IsUnion", "BitSetOr<Self, T>", "BitSetOr(self, rhs)", "result.1"),
+    ("BitXor", "bitxor", "IsSymmetricDifference", "BitSetXor<Self, T>", "BitSetXor(self, rhs)", "result.1"),
+    ("Sub", "sub", "IsDifference", "BitSetAnd<Self, BitSetNot<T>>", "BitSetAnd(self, BitSetNot(rhs))", "result.1.0"),
 )
-RESULT = "⟦<Self::Output as BitSetLike>⟧.holds"
+RESULT = "(⟦<Self::Output as BitSetLike>⟧.holds result)"
 OWN_WORDS = "⟦<Self as BitSetLike>⟧.holds\n        ⟦<Self as BitSetLike>⟧.word"
 
 
@@ -90,7 +91,7 @@ class Source:
 def virtual(file, about, type_name, generics=(), more="", listed="BitSetAnd, BitSetNot, BitSetOr, BitSetXor"):
     """The file of a virtual set, whose impl says which words it has."""
     uses = f"\nuse crate::iter::BitIter;\nuse crate::like::BitSetLike;\n{more}use crate::util::Index;\nuse crate::virt::{{{listed}}};"
-    members = "⟦<Self as BitSetLike>⟧.holds"
+    members = "(⟦<Self as BitSetLike>⟧.holds set)"
     bounds = tuple(f"{name}: BitSetLike" for name in generics)
     full = f"{type_name}<{', '.join(generics)}>" if generics else type_name
     owned = Operand(full, bounds, members, OWN_WORDS)
@@ -114,8 +115,8 @@ def stored(crate, about, type_name, module, words):
         *(f"use hibitset_base::{name};" for name in ("iter::BitIter", "like::BitSetLike", "util::Index")),
         "use hibitset_base::virt::{BitSetAnd, BitSetNot, BitSetOr, BitSetXor};",
     )
-    owned = Operand(type_name, (), "has", f"has {words}", f"BitIter<{type_name}>")
-    reference = Operand(f"&'a {type_name}", ("'a",), "(λ set. has set.now)", f"(λ set. has set.now) (λ set. {words} set.now)")
+    owned = Operand(type_name, (), "(has set)", f"has {words}", f"BitIter<{type_name}>")
+    reference = Operand(f"&'a {type_name}", ("'a",), "(has set.now)", f"(λ set. has set.now) (λ set. {words} set.now)")
     return Source(f"{crate}/src/ops.rt", "\n".join(lines), "\n".join(uses), owned, reference)
 
 
@@ -131,23 +132,25 @@ SOURCES = (
 )
 
 
-def fact(name, relation, *members):
-    """What an operator gives, in two lines where it is too long for one."""
-    said = " ".join([relation, *members])
-    line = f"    ghost {name}_gives = {{ {said} {RESULT} }};"
-    return f"{said} {RESULT}" if len(line) <= COLUMNS else f"{said}\n        {RESULT}"
+def fact(relation):
+    """The line of a fact, in two where it is too long for one."""
+    line = f"        × {relation} {RESULT}"
+    return line if len(f"{line} }};") <= COLUMNS else f"        × {relation}\n        {RESULT}"
 
 
 def complement(operand):
-    said = {"name": "not", "parameters": "self", "fact": fact("not", "GivesComplement", operand.members)}
+    said = {"name": "not", "arguments": "set", "parameters": "self", "parts": "(result.0 ≡ set)"}
     shape = {"trait": "Not", "output": "BitSetNot<Self>", "body": "BitSetNot(self)"}
-    return OPERATOR.substitute(said, **shape, generics=operand.impl(), type=operand.type)
+    relation = fact(f"IsComplement {operand.members}")
+    return OPERATOR.substitute(said, **shape, generics=operand.impl(), type=operand.type, fact=relation)
 
 
-def binary(operand, trait, name, relation, output, body):
-    said = {"name": name, "parameters": "self, rhs: T", "fact": fact(name, relation, operand.members, "T.holds")}
+def binary(operand, trait, name, word, output, body, other):
+    parts = f"(result.0 ≡ set) × ({other} ≡ other)"
+    said = {"name": name, "arguments": "set other", "parameters": "self, rhs: T", "parts": parts}
     shape = {"trait": f"{trait}<T>", "output": output, "body": body}
-    return OPERATOR.substitute(said, **shape, generics=operand.impl("T: BitSetLike"), type=operand.type)
+    relation = fact(f"{word} {operand.members} (T.holds other)")
+    return OPERATOR.substitute(said, **shape, generics=operand.impl("T: BitSetLike"), type=operand.type, fact=relation)
 
 
 def impls(operand):

@@ -151,7 +151,7 @@ def speed(results):
     lines += ["|  | per | " + " | ".join(shown for shown, _ in COLUMNS) + " |", "|---|---|" + "---:|" * len(COLUMNS)]
     for shown, name in SPEED:
         row = rows[name]
-        lines.append(f"| {shown} | {row.unit} | " + " | ".join(with_commas(row.cells[column]) for _, column in COLUMNS) + " |")
+        lines.append(f"| {shown} | {row.unit} | " + " | ".join(with_commas(row.cells.get(column, "-")) for _, column in COLUMNS) + " |")
     return "\n".join(lines) + "\n"
 
 

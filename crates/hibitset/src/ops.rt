@@ -4,7 +4,7 @@
 //! They are written out, for the set and for a reference to it: the toolchain refuses impls that a macro of the
 //! repository writes.
 ghost use Rattle.std.specs.Prelude.{◌≡◌};
-ghost use Rattle.hibitset_base.specs.Connectives.{GivesComplement, GivesDifference, GivesIntersection, GivesSymmetricDifference, GivesUnion};
+ghost use Rattle.hibitset_base.specs.Connectives.{IsComplement, IsDifference, IsSymmetricDifference, IsIntersection, IsUnion};
 ghost use Rattle.hibitset_base.specs.Walk.{StartsAtTop};
 ghost use Rattle.hibitset.specs.BitSet.{has, word_of};
 
@@ -18,7 +18,8 @@ use std::ops::{BitAnd, BitOr, BitXor, Not, Sub};
 impl Not for BitSet {
     type Output = BitSetNot<Self>;
 
-    ghost not_gives = { GivesComplement has ⟦<Self::Output as BitSetLike>⟧.holds };
+    ghost not_gives = { λ set result. (result.0 ≡ set)
+        × IsComplement (has set) (⟦<Self::Output as BitSetLike>⟧.holds result) };
 
     #[inline]
     fn not(self) -> BitSetNot<Self> {
@@ -29,7 +30,8 @@ impl Not for BitSet {
 impl<T: BitSetLike> BitAnd<T> for BitSet {
     type Output = BitSetAnd<Self, T>;
 
-    ghost bitand_gives = { GivesIntersection has T.holds ⟦<Self::Output as BitSetLike>⟧.holds };
+    ghost bitand_gives = { λ set other result. (result.0 ≡ set) × (result.1 ≡ other)
+        × IsIntersection (has set) (T.holds other) (⟦<Self::Output as BitSetLike>⟧.holds result) };
 
     #[inline]
     fn bitand(self, rhs: T) -> BitSetAnd<Self, T> {
@@ -40,7 +42,8 @@ impl<T: BitSetLike> BitAnd<T> for BitSet {
 impl<T: BitSetLike> BitOr<T> for BitSet {
     type Output = BitSetOr<Self, T>;
 
-    ghost bitor_gives = { GivesUnion has T.holds ⟦<Self::Output as BitSetLike>⟧.holds };
+    ghost bitor_gives = { λ set other result. (result.0 ≡ set) × (result.1 ≡ other)
+        × IsUnion (has set) (T.holds other) (⟦<Self::Output as BitSetLike>⟧.holds result) };
 
     #[inline]
     fn bitor(self, rhs: T) -> BitSetOr<Self, T> {
@@ -51,8 +54,9 @@ impl<T: BitSetLike> BitOr<T> for BitSet {
 impl<T: BitSetLike> BitXor<T> for BitSet {
     type Output = BitSetXor<Self, T>;
 
-    ghost bitxor_gives = { GivesSymmetricDifference has T.holds
-        ⟦<Self::Output as BitSetLike>⟧.holds };
+    ghost bitxor_gives = { λ set other result. (result.0 ≡ set) × (result.1 ≡ other)
+        × IsSymmetricDifference (has set) (T.holds other)
+        (⟦<Self::Output as BitSetLike>⟧.holds result) };
 
     #[inline]
     fn bitxor(self, rhs: T) -> BitSetXor<Self, T> {
@@ -63,7 +67,8 @@ impl<T: BitSetLike> BitXor<T> for BitSet {
 impl<T: BitSetLike> Sub<T> for BitSet {
     type Output = BitSetAnd<Self, BitSetNot<T>>;
 
-    ghost sub_gives = { GivesDifference has T.holds ⟦<Self::Output as BitSetLike>⟧.holds };
+    ghost sub_gives = { λ set other result. (result.0 ≡ set) × (result.1.0 ≡ other)
+        × IsDifference (has set) (T.holds other) (⟦<Self::Output as BitSetLike>⟧.holds result) };
 
     #[inline]
     fn sub(self, rhs: T) -> BitSetAnd<Self, BitSetNot<T>> {
@@ -87,7 +92,8 @@ impl IntoIterator for BitSet {
 impl<'a> Not for &'a BitSet {
     type Output = BitSetNot<Self>;
 
-    ghost not_gives = { GivesComplement (λ set. has set.now) ⟦<Self::Output as BitSetLike>⟧.holds };
+    ghost not_gives = { λ set result. (result.0 ≡ set)
+        × IsComplement (has set.now) (⟦<Self::Output as BitSetLike>⟧.holds result) };
 
     #[inline]
     fn not(self) -> BitSetNot<Self> {
@@ -98,8 +104,9 @@ impl<'a> Not for &'a BitSet {
 impl<'a, T: BitSetLike> BitAnd<T> for &'a BitSet {
     type Output = BitSetAnd<Self, T>;
 
-    ghost bitand_gives = { GivesIntersection (λ set. has set.now) T.holds
-        ⟦<Self::Output as BitSetLike>⟧.holds };
+    ghost bitand_gives = { λ set other result. (result.0 ≡ set) × (result.1 ≡ other)
+        × IsIntersection (has set.now) (T.holds other)
+        (⟦<Self::Output as BitSetLike>⟧.holds result) };
 
     #[inline]
     fn bitand(self, rhs: T) -> BitSetAnd<Self, T> {
@@ -110,8 +117,8 @@ impl<'a, T: BitSetLike> BitAnd<T> for &'a BitSet {
 impl<'a, T: BitSetLike> BitOr<T> for &'a BitSet {
     type Output = BitSetOr<Self, T>;
 
-    ghost bitor_gives = { GivesUnion (λ set. has set.now) T.holds
-        ⟦<Self::Output as BitSetLike>⟧.holds };
+    ghost bitor_gives = { λ set other result. (result.0 ≡ set) × (result.1 ≡ other)
+        × IsUnion (has set.now) (T.holds other) (⟦<Self::Output as BitSetLike>⟧.holds result) };
 
     #[inline]
     fn bitor(self, rhs: T) -> BitSetOr<Self, T> {
@@ -122,8 +129,9 @@ impl<'a, T: BitSetLike> BitOr<T> for &'a BitSet {
 impl<'a, T: BitSetLike> BitXor<T> for &'a BitSet {
     type Output = BitSetXor<Self, T>;
 
-    ghost bitxor_gives = { GivesSymmetricDifference (λ set. has set.now) T.holds
-        ⟦<Self::Output as BitSetLike>⟧.holds };
+    ghost bitxor_gives = { λ set other result. (result.0 ≡ set) × (result.1 ≡ other)
+        × IsSymmetricDifference (has set.now) (T.holds other)
+        (⟦<Self::Output as BitSetLike>⟧.holds result) };
 
     #[inline]
     fn bitxor(self, rhs: T) -> BitSetXor<Self, T> {
@@ -134,8 +142,9 @@ impl<'a, T: BitSetLike> BitXor<T> for &'a BitSet {
 impl<'a, T: BitSetLike> Sub<T> for &'a BitSet {
     type Output = BitSetAnd<Self, BitSetNot<T>>;
 
-    ghost sub_gives = { GivesDifference (λ set. has set.now) T.holds
-        ⟦<Self::Output as BitSetLike>⟧.holds };
+    ghost sub_gives = { λ set other result. (result.0 ≡ set) × (result.1.0 ≡ other)
+        × IsDifference (has set.now) (T.holds other)
+        (⟦<Self::Output as BitSetLike>⟧.holds result) };
 
     #[inline]
     fn sub(self, rhs: T) -> BitSetAnd<Self, BitSetNot<T>> {

@@ -1,17 +1,14 @@
 -- What a set takes of a slice, where it takes what its iterator gives.
-use Rattle.std.proofs.Common.{◌≡◌, ◌⊎◌, ◌↔◌, inl, inr, ℕ, zero, suc, ◌+◌, ◌-◌, ◌/◌, ◌^◌, ◌<◌, ◌≤◌, Bool, true, false, ◌==◌, ◌||◌, List, [], ◌∷◌, ◌++◌, map, length, take, slice_index, get_or, Contains, Some, refl, sym, ap, subst, ◌∙◌, arith, eq-eqb, ne_eqb, length-append, append-nil}
+use Rattle.std.proofs.Common.{◌≡◌, ◌↔◌, inl, inr, ℕ, ◌+◌, ◌-◌, ◌^◌, ◌<◌, Bool, true, false, ◌==◌, ◌||◌, List, [], ◌∷◌, ◌++◌, map, length, take, slice_index, get_or, Contains, Some, refl, sym, ap, subst, ◌∙◌, arith, eq-eqb, ne_eqb, length-append, append-nil}
 use Rattle.std.specs.Borrow.{Bor}
 use Rattle.std.specs.List.{All, list_any}
 use Rattle.std.specs.Iterator.{Yields, YieldsThen, Drains}
 use Rattle.std.specs.Iterator.Adapters.{IterYieldsInOrder}
 use Rattle.std.specs.Slice.Iter.{iter_rest, iter_steps}
 use Rattle.std.specs.declared.slice.Iter.{Iter}
-use Rattle.std.specs.declared.ops.Range.{Range}
-use Rattle.std.proofs.iter.Yields.{nat_range_steps}
 use Rattle.std.proofs.Math.Seq.{take-append_seam, get_or-append_seam}
-use Rattle.std.proofs.lemmas.Bool.{cases_eq, or_cases, eqb-true}
+use Rattle.std.proofs.lemmas.Bool.{cases_eq, or_cases}
 use Rattle.hibitset_base.proofs.ErrorLemmas.{or_true}
-use Rattle.std.proofs.lemmas.List.Folds.{list_any_at, Any-from_list_any}
 use Rattle.std.proofs.lemmas.List.{length-map, get_or_append_left}
 use Rattle.std.proofs.lemmas.List.Elements.{Contains-append_right, Contains-append_cases, All-get_or, All-map}
 use Rattle.hibitset_base.specs.Extension.{AddsItemsBelow, IsRefusalBelow, TakesAllBelow, StopsAtRefusedBelow, RefusesBelow}
@@ -81,7 +78,7 @@ in_range range items rest all k below =
     rw (get_or_append_left (numbers items) rest 0 k here) (All-get_or (λ n. n < range) (numbers items) k 0 here (All-map (λ n. n < range) (λ x. x.now) items all))
 
 -- where a refusal tells the count of the items before it as its place
-place_counts : (range : ℕ) (lacks : ℕ → Type 0) (count item : ℕ) → count < 2 ^ 64 → (error : BuildError) → IsRefusalBelow range lacks error count item → place_of error ≡ count
+pub place_counts : (range : ℕ) (lacks : ℕ → Type 0) (count item : ℕ) → count < 2 ^ 64 → (error : BuildError) → IsRefusalBelow range lacks error count item → place_of error ≡ count
 place_counts range lacks count item fits (OutOfRange place index) h = h.0 ∙ omega (arith, fits)
 place_counts range lacks count item fits (Memory place) h = h.0 ∙ omega (arith, fits)
 

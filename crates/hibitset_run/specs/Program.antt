@@ -69,7 +69,7 @@ abbrev pub is_store : List (List ℕ) → Bool
 is_store [] = false
 is_store (line ∷ lines) = bytes_eq line (codes "store")
 
--- How the program ends: a first line `store` makes the others those of a store.
+-- How a script that was read ends: a first line `store` makes the others those of a store.
 abbrev pub EndsScript : List (List ℕ) → Ended → Option (List ℕ) → Option (List ℕ) → Type 0
 EndsScript [] ended old new = Ends [] ended old new
 EndsScript (line ∷ lines) ended old new = MatchBool (bytes_eq line (codes "store")) (StoreEnds lines ended old new) (Ends (line ∷ lines) ended old new)

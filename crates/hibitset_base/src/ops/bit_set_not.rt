@@ -1,6 +1,6 @@
 //! Operators over a complement.
 ghost use Rattle.std.specs.Prelude.{◌≡◌};
-ghost use Rattle.hibitset_base.specs.Connectives.{GivesComplement, GivesDifference, GivesIntersection, GivesSymmetricDifference, GivesUnion};
+ghost use Rattle.hibitset_base.specs.Connectives.{IsComplement, IsDifference, IsSymmetricDifference, IsIntersection, IsUnion};
 ghost use Rattle.hibitset_base.specs.Walk.{StartsAtTop};
 
 use crate::iter::BitIter;
@@ -12,8 +12,9 @@ use std::ops::{BitAnd, BitOr, BitXor, Not, Sub};
 impl<A: BitSetLike> Not for BitSetNot<A> {
     type Output = BitSetNot<Self>;
 
-    ghost not_gives = { GivesComplement ⟦<Self as BitSetLike>⟧.holds
-        ⟦<Self::Output as BitSetLike>⟧.holds };
+    ghost not_gives = { λ set result. (result.0 ≡ set)
+        × IsComplement (⟦<Self as BitSetLike>⟧.holds set)
+        (⟦<Self::Output as BitSetLike>⟧.holds result) };
 
     #[inline]
     fn not(self) -> BitSetNot<Self> {
@@ -24,8 +25,9 @@ impl<A: BitSetLike> Not for BitSetNot<A> {
 impl<A: BitSetLike, T: BitSetLike> BitAnd<T> for BitSetNot<A> {
     type Output = BitSetAnd<Self, T>;
 
-    ghost bitand_gives = { GivesIntersection ⟦<Self as BitSetLike>⟧.holds T.holds
-        ⟦<Self::Output as BitSetLike>⟧.holds };
+    ghost bitand_gives = { λ set other result. (result.0 ≡ set) × (result.1 ≡ other)
+        × IsIntersection (⟦<Self as BitSetLike>⟧.holds set) (T.holds other)
+        (⟦<Self::Output as BitSetLike>⟧.holds result) };
 
     #[inline]
     fn bitand(self, rhs: T) -> BitSetAnd<Self, T> {
@@ -36,8 +38,9 @@ impl<A: BitSetLike, T: BitSetLike> BitAnd<T> for BitSetNot<A> {
 impl<A: BitSetLike, T: BitSetLike> BitOr<T> for BitSetNot<A> {
     type Output = BitSetOr<Self, T>;
 
-    ghost bitor_gives = { GivesUnion ⟦<Self as BitSetLike>⟧.holds T.holds
-        ⟦<Self::Output as BitSetLike>⟧.holds };
+    ghost bitor_gives = { λ set other result. (result.0 ≡ set) × (result.1 ≡ other)
+        × IsUnion (⟦<Self as BitSetLike>⟧.holds set) (T.holds other)
+        (⟦<Self::Output as BitSetLike>⟧.holds result) };
 
     #[inline]
     fn bitor(self, rhs: T) -> BitSetOr<Self, T> {
@@ -48,8 +51,9 @@ impl<A: BitSetLike, T: BitSetLike> BitOr<T> for BitSetNot<A> {
 impl<A: BitSetLike, T: BitSetLike> BitXor<T> for BitSetNot<A> {
     type Output = BitSetXor<Self, T>;
 
-    ghost bitxor_gives = { GivesSymmetricDifference ⟦<Self as BitSetLike>⟧.holds T.holds
-        ⟦<Self::Output as BitSetLike>⟧.holds };
+    ghost bitxor_gives = { λ set other result. (result.0 ≡ set) × (result.1 ≡ other)
+        × IsSymmetricDifference (⟦<Self as BitSetLike>⟧.holds set) (T.holds other)
+        (⟦<Self::Output as BitSetLike>⟧.holds result) };
 
     #[inline]
     fn bitxor(self, rhs: T) -> BitSetXor<Self, T> {
@@ -60,8 +64,9 @@ impl<A: BitSetLike, T: BitSetLike> BitXor<T> for BitSetNot<A> {
 impl<A: BitSetLike, T: BitSetLike> Sub<T> for BitSetNot<A> {
     type Output = BitSetAnd<Self, BitSetNot<T>>;
 
-    ghost sub_gives = { GivesDifference ⟦<Self as BitSetLike>⟧.holds T.holds
-        ⟦<Self::Output as BitSetLike>⟧.holds };
+    ghost sub_gives = { λ set other result. (result.0 ≡ set) × (result.1.0 ≡ other)
+        × IsDifference (⟦<Self as BitSetLike>⟧.holds set) (T.holds other)
+        (⟦<Self::Output as BitSetLike>⟧.holds result) };
 
     #[inline]
     fn sub(self, rhs: T) -> BitSetAnd<Self, BitSetNot<T>> {
@@ -86,8 +91,9 @@ impl<A: BitSetLike> IntoIterator for BitSetNot<A> {
 impl<'a, A: BitSetLike> Not for &'a BitSetNot<A> {
     type Output = BitSetNot<Self>;
 
-    ghost not_gives = { GivesComplement ⟦<Self as BitSetLike>⟧.holds
-        ⟦<Self::Output as BitSetLike>⟧.holds };
+    ghost not_gives = { λ set result. (result.0 ≡ set)
+        × IsComplement (⟦<Self as BitSetLike>⟧.holds set)
+        (⟦<Self::Output as BitSetLike>⟧.holds result) };
 
     #[inline]
     fn not(self) -> BitSetNot<Self> {
@@ -98,8 +104,9 @@ impl<'a, A: BitSetLike> Not for &'a BitSetNot<A> {
 impl<'a, A: BitSetLike, T: BitSetLike> BitAnd<T> for &'a BitSetNot<A> {
     type Output = BitSetAnd<Self, T>;
 
-    ghost bitand_gives = { GivesIntersection ⟦<Self as BitSetLike>⟧.holds T.holds
-        ⟦<Self::Output as BitSetLike>⟧.holds };
+    ghost bitand_gives = { λ set other result. (result.0 ≡ set) × (result.1 ≡ other)
+        × IsIntersection (⟦<Self as BitSetLike>⟧.holds set) (T.holds other)
+        (⟦<Self::Output as BitSetLike>⟧.holds result) };
 
     #[inline]
     fn bitand(self, rhs: T) -> BitSetAnd<Self, T> {
@@ -110,8 +117,9 @@ impl<'a, A: BitSetLike, T: BitSetLike> BitAnd<T> for &'a BitSetNot<A> {
 impl<'a, A: BitSetLike, T: BitSetLike> BitOr<T> for &'a BitSetNot<A> {
     type Output = BitSetOr<Self, T>;
 
-    ghost bitor_gives = { GivesUnion ⟦<Self as BitSetLike>⟧.holds T.holds
-        ⟦<Self::Output as BitSetLike>⟧.holds };
+    ghost bitor_gives = { λ set other result. (result.0 ≡ set) × (result.1 ≡ other)
+        × IsUnion (⟦<Self as BitSetLike>⟧.holds set) (T.holds other)
+        (⟦<Self::Output as BitSetLike>⟧.holds result) };
 
     #[inline]
     fn bitor(self, rhs: T) -> BitSetOr<Self, T> {
@@ -122,8 +130,9 @@ impl<'a, A: BitSetLike, T: BitSetLike> BitOr<T> for &'a BitSetNot<A> {
 impl<'a, A: BitSetLike, T: BitSetLike> BitXor<T> for &'a BitSetNot<A> {
     type Output = BitSetXor<Self, T>;
 
-    ghost bitxor_gives = { GivesSymmetricDifference ⟦<Self as BitSetLike>⟧.holds T.holds
-        ⟦<Self::Output as BitSetLike>⟧.holds };
+    ghost bitxor_gives = { λ set other result. (result.0 ≡ set) × (result.1 ≡ other)
+        × IsSymmetricDifference (⟦<Self as BitSetLike>⟧.holds set) (T.holds other)
+        (⟦<Self::Output as BitSetLike>⟧.holds result) };
 
     #[inline]
     fn bitxor(self, rhs: T) -> BitSetXor<Self, T> {
@@ -134,8 +143,9 @@ impl<'a, A: BitSetLike, T: BitSetLike> BitXor<T> for &'a BitSetNot<A> {
 impl<'a, A: BitSetLike, T: BitSetLike> Sub<T> for &'a BitSetNot<A> {
     type Output = BitSetAnd<Self, BitSetNot<T>>;
 
-    ghost sub_gives = { GivesDifference ⟦<Self as BitSetLike>⟧.holds T.holds
-        ⟦<Self::Output as BitSetLike>⟧.holds };
+    ghost sub_gives = { λ set other result. (result.0 ≡ set) × (result.1.0 ≡ other)
+        × IsDifference (⟦<Self as BitSetLike>⟧.holds set) (T.holds other)
+        (⟦<Self::Output as BitSetLike>⟧.holds result) };
 
     #[inline]
     fn sub(self, rhs: T) -> BitSetAnd<Self, BitSetNot<T>> {

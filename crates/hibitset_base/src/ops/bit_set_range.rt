@@ -1,6 +1,6 @@
 //! Operators over a range of numbers.
 ghost use Rattle.std.specs.Prelude.{◌≡◌};
-ghost use Rattle.hibitset_base.specs.Connectives.{GivesComplement, GivesDifference, GivesIntersection, GivesSymmetricDifference, GivesUnion};
+ghost use Rattle.hibitset_base.specs.Connectives.{IsComplement, IsDifference, IsSymmetricDifference, IsIntersection, IsUnion};
 ghost use Rattle.hibitset_base.specs.Walk.{StartsAtTop};
 
 use crate::iter::BitIter;
@@ -13,8 +13,9 @@ use std::ops::{BitAnd, BitOr, BitXor, Not, Sub};
 impl Not for BitSetRange {
     type Output = BitSetNot<Self>;
 
-    ghost not_gives = { GivesComplement ⟦<Self as BitSetLike>⟧.holds
-        ⟦<Self::Output as BitSetLike>⟧.holds };
+    ghost not_gives = { λ set result. (result.0 ≡ set)
+        × IsComplement (⟦<Self as BitSetLike>⟧.holds set)
+        (⟦<Self::Output as BitSetLike>⟧.holds result) };
 
     #[inline]
     fn not(self) -> BitSetNot<Self> {
@@ -25,8 +26,9 @@ impl Not for BitSetRange {
 impl<T: BitSetLike> BitAnd<T> for BitSetRange {
     type Output = BitSetAnd<Self, T>;
 
-    ghost bitand_gives = { GivesIntersection ⟦<Self as BitSetLike>⟧.holds T.holds
-        ⟦<Self::Output as BitSetLike>⟧.holds };
+    ghost bitand_gives = { λ set other result. (result.0 ≡ set) × (result.1 ≡ other)
+        × IsIntersection (⟦<Self as BitSetLike>⟧.holds set) (T.holds other)
+        (⟦<Self::Output as BitSetLike>⟧.holds result) };
 
     #[inline]
     fn bitand(self, rhs: T) -> BitSetAnd<Self, T> {
@@ -37,8 +39,9 @@ impl<T: BitSetLike> BitAnd<T> for BitSetRange {
 impl<T: BitSetLike> BitOr<T> for BitSetRange {
     type Output = BitSetOr<Self, T>;
 
-    ghost bitor_gives = { GivesUnion ⟦<Self as BitSetLike>⟧.holds T.holds
-        ⟦<Self::Output as BitSetLike>⟧.holds };
+    ghost bitor_gives = { λ set other result. (result.0 ≡ set) × (result.1 ≡ other)
+        × IsUnion (⟦<Self as BitSetLike>⟧.holds set) (T.holds other)
+        (⟦<Self::Output as BitSetLike>⟧.holds result) };
 
     #[inline]
     fn bitor(self, rhs: T) -> BitSetOr<Self, T> {
@@ -49,8 +52,9 @@ impl<T: BitSetLike> BitOr<T> for BitSetRange {
 impl<T: BitSetLike> BitXor<T> for BitSetRange {
     type Output = BitSetXor<Self, T>;
 
-    ghost bitxor_gives = { GivesSymmetricDifference ⟦<Self as BitSetLike>⟧.holds T.holds
-        ⟦<Self::Output as BitSetLike>⟧.holds };
+    ghost bitxor_gives = { λ set other result. (result.0 ≡ set) × (result.1 ≡ other)
+        × IsSymmetricDifference (⟦<Self as BitSetLike>⟧.holds set) (T.holds other)
+        (⟦<Self::Output as BitSetLike>⟧.holds result) };
 
     #[inline]
     fn bitxor(self, rhs: T) -> BitSetXor<Self, T> {
@@ -61,8 +65,9 @@ impl<T: BitSetLike> BitXor<T> for BitSetRange {
 impl<T: BitSetLike> Sub<T> for BitSetRange {
     type Output = BitSetAnd<Self, BitSetNot<T>>;
 
-    ghost sub_gives = { GivesDifference ⟦<Self as BitSetLike>⟧.holds T.holds
-        ⟦<Self::Output as BitSetLike>⟧.holds };
+    ghost sub_gives = { λ set other result. (result.0 ≡ set) × (result.1.0 ≡ other)
+        × IsDifference (⟦<Self as BitSetLike>⟧.holds set) (T.holds other)
+        (⟦<Self::Output as BitSetLike>⟧.holds result) };
 
     #[inline]
     fn sub(self, rhs: T) -> BitSetAnd<Self, BitSetNot<T>> {
@@ -87,8 +92,9 @@ impl IntoIterator for BitSetRange {
 impl<'a> Not for &'a BitSetRange {
     type Output = BitSetNot<Self>;
 
-    ghost not_gives = { GivesComplement ⟦<Self as BitSetLike>⟧.holds
-        ⟦<Self::Output as BitSetLike>⟧.holds };
+    ghost not_gives = { λ set result. (result.0 ≡ set)
+        × IsComplement (⟦<Self as BitSetLike>⟧.holds set)
+        (⟦<Self::Output as BitSetLike>⟧.holds result) };
 
     #[inline]
     fn not(self) -> BitSetNot<Self> {
@@ -99,8 +105,9 @@ impl<'a> Not for &'a BitSetRange {
 impl<'a, T: BitSetLike> BitAnd<T> for &'a BitSetRange {
     type Output = BitSetAnd<Self, T>;
 
-    ghost bitand_gives = { GivesIntersection ⟦<Self as BitSetLike>⟧.holds T.holds
-        ⟦<Self::Output as BitSetLike>⟧.holds };
+    ghost bitand_gives = { λ set other result. (result.0 ≡ set) × (result.1 ≡ other)
+        × IsIntersection (⟦<Self as BitSetLike>⟧.holds set) (T.holds other)
+        (⟦<Self::Output as BitSetLike>⟧.holds result) };
 
     #[inline]
     fn bitand(self, rhs: T) -> BitSetAnd<Self, T> {
@@ -111,8 +118,9 @@ impl<'a, T: BitSetLike> BitAnd<T> for &'a BitSetRange {
 impl<'a, T: BitSetLike> BitOr<T> for &'a BitSetRange {
     type Output = BitSetOr<Self, T>;
 
-    ghost bitor_gives = { GivesUnion ⟦<Self as BitSetLike>⟧.holds T.holds
-        ⟦<Self::Output as BitSetLike>⟧.holds };
+    ghost bitor_gives = { λ set other result. (result.0 ≡ set) × (result.1 ≡ other)
+        × IsUnion (⟦<Self as BitSetLike>⟧.holds set) (T.holds other)
+        (⟦<Self::Output as BitSetLike>⟧.holds result) };
 
     #[inline]
     fn bitor(self, rhs: T) -> BitSetOr<Self, T> {
@@ -123,8 +131,9 @@ impl<'a, T: BitSetLike> BitOr<T> for &'a BitSetRange {
 impl<'a, T: BitSetLike> BitXor<T> for &'a BitSetRange {
     type Output = BitSetXor<Self, T>;
 
-    ghost bitxor_gives = { GivesSymmetricDifference ⟦<Self as BitSetLike>⟧.holds T.holds
-        ⟦<Self::Output as BitSetLike>⟧.holds };
+    ghost bitxor_gives = { λ set other result. (result.0 ≡ set) × (result.1 ≡ other)
+        × IsSymmetricDifference (⟦<Self as BitSetLike>⟧.holds set) (T.holds other)
+        (⟦<Self::Output as BitSetLike>⟧.holds result) };
 
     #[inline]
     fn bitxor(self, rhs: T) -> BitSetXor<Self, T> {
@@ -135,8 +144,9 @@ impl<'a, T: BitSetLike> BitXor<T> for &'a BitSetRange {
 impl<'a, T: BitSetLike> Sub<T> for &'a BitSetRange {
     type Output = BitSetAnd<Self, BitSetNot<T>>;
 
-    ghost sub_gives = { GivesDifference ⟦<Self as BitSetLike>⟧.holds T.holds
-        ⟦<Self::Output as BitSetLike>⟧.holds };
+    ghost sub_gives = { λ set other result. (result.0 ≡ set) × (result.1.0 ≡ other)
+        × IsDifference (⟦<Self as BitSetLike>⟧.holds set) (T.holds other)
+        (⟦<Self::Output as BitSetLike>⟧.holds result) };
 
     #[inline]
     fn sub(self, rhs: T) -> BitSetAnd<Self, BitSetNot<T>> {

@@ -66,8 +66,8 @@ impl fmt::Display for Ended {
 /// Reads a script to its end, runs its commands on eight empty sets, and writes one line a reply. Where the first line
 /// is `store`, the others are commands on two empty columns.
 ///
-/// The first fault met ends it. Where a line is bad, nothing is run or written. The reader is at its end then, unless a
-/// read or an allocation failed.
+/// The first fault met ends it. Where a line is bad, nothing is run or written. The reader is at its end, unless a read
+/// or an allocation failed.
 pub fn run_text<R: Read, W: Write>(alloc: Global, reader: &mut R, writer: &mut W) -> Ended
     ensures outcome { IfSome (R.remaining reader.old)
         (λ input. EndsText (lines_of input) result (W.contents writer.old)

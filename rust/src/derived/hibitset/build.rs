@@ -1,6 +1,6 @@
 // Derived from crates/hibitset/src/build.rt by rust/derive.py, and never edited by hand.
 
-//! Sets made of the items of an iterator, or extended by them, and sets made of words.
+//! Sets made of the items of an iterator or of a slice, or extended by them, and sets made of words.
 
 use crate::support::rattle_std::prelude::*;
 
@@ -138,7 +138,7 @@ impl BitSet {
     /// ensures place { IfErr result (λ error. place_of error < length indices.now) }
     /// ensures in_range_before { IfErr result (λ error. InRangeBefore MAX_EID indices.now
     ///     (place_of error)) }
-    /// ensures why { IfErr result (IsWhy MAX_EID indices.now) }
+    /// ensures why { IfErr result (IsRefusalIn MAX_EID indices.now) }
     /// ensures lacks_room { IfErr result (LacksRoom (λ i. slice_len self.new 0 ≤ i / 64)
     ///     indices.now) }
     /// ensures len_min { slice_len self.old 0 ≤ slice_len self.new 0 }
@@ -170,7 +170,7 @@ impl BitSet {
     /// ensures place { IfErr result (λ error. place_of error < length indices.now) }
     /// ensures in_range_before { IfErr result (λ error. InRangeBefore MAX_EID indices.now
     ///     (place_of error)) }
-    /// ensures why { IfErr result (IsWhy MAX_EID indices.now) }
+    /// ensures why { IfErr result (IsRefusalIn MAX_EID indices.now) }
     /// ensures apart { IfErr result (LiesApartIn (λ i j. i / 64 < j / 64) indices.now) }
     /// ```
     pub fn from_slice(alloc: Global, indices: &[Index]) -> Result<BitSet, BuildError> {

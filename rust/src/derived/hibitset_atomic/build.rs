@@ -1,6 +1,6 @@
 // Derived from crates/hibitset_atomic/src/build.rt by rust/derive.py, and never edited by hand.
 
-//! Atomic sets made of the items of an iterator, or extended by them.
+//! Atomic sets made of the items of an iterator or of a slice, or extended by them.
 
 use crate::support::rattle_std::prelude::*;
 
@@ -143,7 +143,7 @@ impl AtomicBitSet {
     /// ensures place { IfErr result (λ error. place_of error < length indices.now) }
     /// ensures in_range_before { IfErr result (λ error. InRangeBefore ATOMIC_MAX_EID indices.now
     ///     (place_of error)) }
-    /// ensures why { IfErr result (IsWhy ATOMIC_MAX_EID indices.now) }
+    /// ensures why { IfErr result (IsRefusalIn ATOMIC_MAX_EID indices.now) }
     /// ensures lacks_room { IfErr result (LacksRoom (NeedsAllocation self.new) indices.now) }
     /// ensures keeps { (i : ℕ) → NeedsAllocation self.new i → NeedsAllocation self.old i }
     /// ensures most { (i : ℕ) → NeedsAllocation self.old i → SharesBlockWithNone self.new i
@@ -173,7 +173,7 @@ impl AtomicBitSet {
     /// ensures in_range_before { IfErr result (λ error. InRangeBefore ATOMIC_MAX_EID indices.now
     ///     (place_of error)) }
     /// ensures why { IfErr result (λ error. (error ≡ Memory 0)
-    ///     ⊎ IsWhy ATOMIC_MAX_EID indices.now error) }
+    ///     ⊎ IsRefusalIn ATOMIC_MAX_EID indices.now error) }
     /// ensures apart { IfErr result (LiesApartIn (λ i j. i / 4096 ≢ j / 4096) indices.now) }
     /// ```
     pub fn from_slice(alloc: Global, indices: &[Index]) -> Result<AtomicBitSet, BuildError> {

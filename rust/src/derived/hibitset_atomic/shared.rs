@@ -112,9 +112,9 @@ impl SharedBitSet {
     ///
     /// It reads those four bits first, and where they stand, as for an index that is old or known to the seat, it
     /// writes nothing and returns true. Else it exchanges in layer 0, and above it, from the lowest up, in each layer
-    /// whose bit is still clear, so that adders whose indices lie under one word do not contend for it: seven loads and
-    /// four exchanges at most. Where an old or known index has the same bit in some layer, it exchanges in the layers
-    /// below that one alone. It does not allocate and waits for nobody.
+    /// whose bit is still clear: seven loads and four exchanges at most. Where an old or known index has the same bit in
+    /// some layer, it makes at most as many exchanges as there are layers below that one. It does not allocate and waits
+    /// for nobody.
     ///
     /// # Contract
     ///

@@ -1,6 +1,6 @@
 // Derived from crates/hibitset_base/src/build.rt by rust/derive.py, and never edited by hand.
 
-//! Sets made of the items of an iterator, or extended by them: one text for every set that keeps its words.
+//! Sets made of the items of an iterator or of a slice, or extended by them: one text for every set that keeps its words.
 
 use crate::support::rattle_std::prelude::*;
 
@@ -10,7 +10,7 @@ use crate::support::rattle_std::alloc::AllocError;
 use crate::support::rattle_std::error::Error;
 use crate::support::rattle_std::fmt;
 
-/// Why an item of an iterator was not added.
+/// Why an item of an iterator, or an index of a slice, was not added.
 ///
 /// Places count the items from 0, and stay at `usize::MAX` once there.
 #[derive(Clone, Copy, Debug, PartialEq, Eq)]
@@ -189,7 +189,7 @@ pub fn from_index_refs<'a, T: FallibleInsert, U: IntoIterator<Item = &'a Index>>
 /// ensures place { IfErr result (λ error. place_of error < length indices.now) }
 /// ensures in_range_before { IfErr result (λ error. InRangeBefore T.RANGE indices.now
 ///     (place_of error)) }
-/// ensures why { IfErr result (IsWhy T.RANGE indices.now) }
+/// ensures why { IfErr result (IsRefusalIn T.RANGE indices.now) }
 /// ensures lacks_room { IfErr result (LacksRoom (T.needs_allocation set.new) indices.now) }
 /// ensures keeps { (j : ℕ) → T.needs_allocation set.new j → T.needs_allocation set.old j }
 /// ensures most { (j : ℕ) → T.needs_allocation set.old j
@@ -218,7 +218,7 @@ pub fn extend_from_slice<T: FallibleInsert>(
 /// ensures place { IfErr result (λ error. place_of error < length indices.now) }
 /// ensures in_range_before { IfErr result (λ error. InRangeBefore T.RANGE indices.now
 ///     (place_of error)) }
-/// ensures why { IfErr result (IsWhy T.RANGE indices.now) }
+/// ensures why { IfErr result (IsRefusalIn T.RANGE indices.now) }
 /// ensures apart { IfErr result (LiesApartIn T.need_separate_room indices.now) }
 /// ```
 #[doc(hidden)]

@@ -39,9 +39,10 @@ pub fn virtual_laws<A: BitSetLike, B: BitSetLike, C: BitSetLike>() {}
 /// The laws of the words that a set covers. The call does nothing, and its contract says them.
 ///
 /// A set with exact summaries covers words if each of their bits is set in its own. By the clause `bound` of `iter` a
-/// walk over words that a set covers reads at most four words for each of its members, and the top. A set covers its own
-/// words (`own`). What it covers it covers still where bits are taken out, on either side of an intersection (`left`,
-/// `right`). So the bound holds of intersections and differences nested at will: of each set that is taken in.
+/// walk over words that a set covers reads at most four words for each of its members, and the top. A set that covers
+/// words covers its own (`own`). What it covers it covers still where bits are taken out, on either side of an
+/// intersection (`left`, `right`). So the bound holds of intersections and differences nested at will, of each set with
+/// exact summaries that is not subtracted.
 ///
 /// # Contract
 ///

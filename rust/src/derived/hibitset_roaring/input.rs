@@ -49,7 +49,7 @@ const CHUNK: usize = 8192;
 ///     (λ bytes. IsStream bytes → HasKeysBelow bytes end → IsOutside error)) }
 /// ensures front { GivesFront (longest_below end + CHUNK) (R.remaining reader.old)
 ///     (R.remaining reader.new) }
-/// ensures retried { IfErr result IsRetried }
+/// ensures not_interrupted { IfErr result IsNoInterruption }
 /// ```
 pub fn read_from<R: Read>(
     alloc: Global,

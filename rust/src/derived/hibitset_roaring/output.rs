@@ -26,7 +26,7 @@ use crate::support::rattle_std::io::{self, ErrorKind, Write};
 ///     (W.contents writer.new)) }
 /// ensures err { OnErr result ((bytes : List ℕ) → IsPlainStream (has set.now) bytes
 ///     → WritesFront (W.contents writer.old) (W.contents writer.new) bytes) }
-/// ensures retried { IfErr result (λ e. error_kind e ≢ ErrorKind.Interrupted) }
+/// ensures not_interrupted { IfErr result (λ e. error_kind e ≢ ErrorKind.Interrupted) }
 /// ```
 pub fn write_into<W: Write>(alloc: Global, set: &BitSet, writer: &mut W) -> io::Result<()> {
     let bytes = write(alloc, set)?;
