@@ -10,7 +10,7 @@
 #   bench                       each row of the benchmark runs once, at the smallest size
 #   rust                        the Cargo crate of rust/: its derivation, its tests, derived tests, scripts, lints, package
 #   guide [--make FOLDER]       the repository that docs/GUIDE.md prints passes; --make makes it alone
-# Without PART: docs, proofs beside mutants tests --gate, allocation, differential, bindings, bench, rust. It stops at the first part that fails.
+# Without PART: docs, proofs beside mutants tests --gate, allocation, differential, bindings and bench beside rust. It stops at the first part that fails.
 # --anew: rt ci proves and tries all, whatever it has kept on this machine.
 set -euo pipefail
 top=$(cd "$(dirname "$0")" && pwd)
@@ -91,18 +91,20 @@ part() { # NUMBER PART [WORD..]: one of the parts, with what it is, which one of
     return "$status"
 }
 
-both() { # proofs, and beside it mutants tests, whose output comes when both have ended
-    local status=0
+begin() { # NUMBER PART [WORD..]: begins a part beside those that follow
     # A process group of its own, which the trap can end whole.
     set -m
-    (part 3 mutants tests --gate) </dev/null >"$scratch/mutants" 2>&1 &
+    (part "$@") </dev/null >"$scratch/beside" 2>&1 &
     beside=$!
     set +m
-    echo "test.sh: part 3 of $parts, mutants tests, runs beside part 2"
-    part 2 proofs || return
+    echo "test.sh: part $1 of $parts, ${*:2}, runs beside the next ones"
+}
+
+end() { # waits for the part that runs beside, and prints what it said
+    local status=0
     wait "$beside" || status=$?
     beside=
-    cat "$scratch/mutants"
+    cat "$scratch/beside"
     return "$status"
 }
 
@@ -120,10 +122,13 @@ if [ $# -gt 0 ]; then
     exit
 fi
 part 1 docs
-both
+begin 3 mutants tests --gate
+part 2 proofs
+end
+begin 8 rust
 part 4 allocation
 part 5 differential "$top/crates/hibitset_run/out/hibitset_run"
 part 6 bindings --proved
 part 7 bench --proved
-part 8 rust
+end
 echo "test.sh: all passed after $((SECONDS / 60)) min"
