@@ -42,15 +42,18 @@ impl Sample {
 }
 
 /// A kernel over the crate of rust/, where the driver is compiled with it.
+#[cfg(derived)]
 macro_rules! derived {
-    ($kernel:expr) => {{
-        let mut kernel: Option<Kernel> = None;
-        #[cfg(derived)]
-        {
-            kernel = Some(Box::new($kernel));
-        }
-        kernel
-    }};
+    ($kernel:expr) => {
+        Some(Box::new($kernel) as Kernel)
+    };
+}
+
+#[cfg(not(derived))]
+macro_rules! derived {
+    ($kernel:expr) => {
+        None
+    };
 }
 
 macro_rules! both {
