@@ -158,7 +158,7 @@ derived() {
         work=$1/derived
         mkdir -p "$work"
         compile hibitset 2021 "$here/../rust/src/lib.rs" --cfg 'feature="std"' -C metadata=derived
-        compile kernels_derived 2021 "$here/driver/original.rs" --extern "hibitset=$work/libhibitset.rlib"
+        compile kernels_derived 2021 "$here/driver/derived.rs" --extern "hibitset=$work/libhibitset.rlib"
     )
     with_derived="--cfg derived -L $1/derived --extern kernels_derived=$1/derived/libkernels_derived.rlib"
 }
