@@ -130,7 +130,7 @@ peers() {
         compile bit_set 2015 "$source/src/lib.rs" --cfg 'feature="std"' --extern "bit_vec=$work/libbit_vec.rlib"
         with_peers="$with_peers --cfg bit_set --extern bit_set=$work/libbit_set.rlib"
     fi
-    if printf '#include <roaring/roaring.h>\nint main(void) { return 0; }\n' | cc -x c - -lroaring -o "$work/roaring" 2>"$work/roaring.log"; then
+    if printf '#include <roaring/roaring.h>\nint main(void) { return 0; }\n' | cc -x c - -lroaring -o "$work/has_roaring" 2>"$work/has_roaring.log"; then
         with_peers="$with_peers --cfg roaring"
     fi
 }

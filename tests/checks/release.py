@@ -124,16 +124,23 @@ SPEED = [
 # README's columns: what it says, and that of RESULTS.md.
 COLUMNS = [("crate", "crate"), ("Rattle", "Rattle"), ("hibitset", "original"), ("fixedbitset", "fixedbitset"), ("CRoaring", "CRoaring"), ("`BTreeSet`", "BTreeSet")]
 
-# What is slower than the original: what README says, and the rows that it is about, in the tables `results`, `order` and `shared`.
+# What is slower than the original: what README says, and the rows that it is about, in the tables `results` and `shared`.
 SLOWER = [
     ("one value of a column, beside a flat vector", r"column (get|insert|remove)"),
     ("`contains` of a shared set", r"contains, hit, 1M (random|ascending), (one thread|all processors)$"),
     ("`clear` and an add after it", r"clear and add one"),
     ("`from_words`, beside a clone", r"from\\_words"),
+    ("`add` of ascending indices, and a set collected from them", r"(add|build from an iterator), 1M ascending"),
+    ("`remove` of all members", r"remove, all"),
+    ("`iter().next()`", r"iter\(\)\.next"),
+    ("a drain of all members", r"drain, "),
+    ("`bitor_assign` by a thin set", r"a \\\|= b, (10 % and )?0\.01 %"),
+    ("`contains_set` of thin sets", r"a\.contains\\_set\(b\), 0\.01 %"),
+    ("`contains` of an atomic set", r"atomic contains, hit"),
     ("`last_before` over a dense set, beside `contains`", r"last\\_before, (dense|half)"),
     ("`iter_from(i).next()` over a dense set, beside `contains`", r"iter\\?_from"),
 ]
-SLOWER_TABLES = ("results", "order", "shared")
+SLOWER_TABLES = ("results", "shared")
 
 # From this ratio on a row counts as slower: of ten rows one differs so much from run to run.
 SLOWER_FROM = 1.1
@@ -151,7 +158,7 @@ def speed(results):
     lines += ["|  | per | " + " | ".join(shown for shown, _ in COLUMNS) + " |", "|---|---|" + "---:|" * len(COLUMNS)]
     for shown, name in SPEED:
         row = rows[name]
-        lines.append(f"| {shown} | {row.unit} | " + " | ".join(with_commas(row.cells.get(column, "-")) for _, column in COLUMNS) + " |")
+        lines.append(f"| {shown} | {row.unit} | " + " | ".join(with_commas(row.cells[column]) for _, column in COLUMNS) + " |")
     return "\n".join(lines) + "\n"
 
 
