@@ -3,9 +3,10 @@
 
 With CRATE it tries those of one crate, with FUNCTION those below the headings `## FUNCTION` or `## TYPE::FUNCTION`. Those
 marked `gate`, which `rt ci` tries, are left out where no function is named. It works in a copy of the repository, whose
-edits it makes of the tables. Behind each refusal it says what refused: a clause, a condition (what a call or an operation
-requires), an invariant (or a measure) of a loop, a limit of the prover, or the shape of a proof file, which says nothing of
-the contract: such a mutant has to become a twin.
+edits it makes of the tables. Where no function is named, mutants of different functions are tried in one check
+(rounds.py); what that leaves undecided is tried alone. Behind each refusal it says what refused: a clause, a condition (what
+a call or an operation requires), an invariant (or a measure) of a loop or a type, a limit of the prover, or the shape of a
+proof file, which says nothing of the contract: such a mutant has to become a twin.
 """
 import re
 import subprocess
@@ -18,7 +19,7 @@ TOP = Path(__file__).resolve().parent.parent.parent
 sys.path.insert(0, str(TOP / "tests"))
 
 from checks.repository import Repository  # noqa: E402
-from mutants import edits, tables  # noqa: E402
+from mutants import edits, rounds, tables  # noqa: E402
 
 KINDS = (
     (r"\(only by a limit of the prover", "a limit of the prover"),
@@ -66,6 +67,31 @@ def write(work, name, mutants):
         (folder / f"{mutant.name}.edit").write_text(edits.edit_text(edits.pairs_of(mutant, crate, traits)), encoding="utf-8")
 
 
+def together(work, name, mutants):
+    """Tries mutants of a crate by many in one check, and says what refused each. Returns those that are to be tried alone."""
+    repository = Repository(work)
+    crate = repository.crate(name)
+    traits = edits.traits_of(repository.crate(each) for each in repository.at_or_below(name))
+    pairs = [(mutant, edits.pairs_of(mutant, crate, traits)) for mutant in mutants]
+    apart = [each for each in pairs if rounds.is_apart(*each, crate)]
+    left = [mutant for mutant, each in pairs if not rounds.is_apart(mutant, each, crate)]
+    if not apart:
+        return left
+    said = rounds.said_by_check(crate.folder)
+    if "logic=proved" not in said:
+        sys.exit(f"{said}\nrun_contract.py: {name} is not proved as it stands")
+    counts = Counter()
+    for mutant, kind in rounds.outcomes(crate.folder, apart):
+        if kind is None:
+            left.append(mutant)
+        else:
+            counts[kind.partition(":")[0]] += 1
+            print(f"{name}/{mutant.name}: refused by {kind}", flush=True)
+    said = ", ".join(f"{count} by {kind}" for kind, count in counts.most_common())
+    print(f"run_contract.py: {name}: refusals together: {said or 'none'}; {len(left)} are tried alone", flush=True)
+    return left
+
+
 def attempt(work, names):
     """Runs `rt must-fail`, and says of each refusal what it was."""
     counts = Counter()
@@ -90,9 +116,11 @@ def main():
     with tempfile.TemporaryDirectory() as folder:
         work = Path(folder)
         copy(work)
-        for name, mutants in found.items():
+        left = {name: mutants if function else together(work, name, mutants) for name, mutants in found.items()}
+        for name, mutants in left.items():
             write(work, name, mutants)
-        return attempt(work, names)
+        names = [name for name in names if left[name]]
+        return attempt(work, names) if names else 0
 
 
 if __name__ == "__main__":

@@ -3,7 +3,7 @@ import unittest
 from pathlib import Path
 
 from checks import mutants as checks
-from mutants import edits, tables
+from mutants import edits, rounds, tables
 from mutants.run_contract import chosen, refusal, write
 
 from .fixture import InRepository
@@ -79,6 +79,49 @@ class Edits(InRepository):
     def test_a_twin_of_no_function(self):
         with self.assertRaises(edits.BadMutant):
             self.pairs(TWIN.replace("Set::has", "Set::had"))
+
+
+class Rounds(InRepository):
+    def mutants(self, text):
+        self.crate = self.repository().crate("low")
+        return [(mutant, edits.pairs_of(mutant, self.crate, edits.traits_of([self.crate]))) for mutant in read(text)]
+
+    def test_one_of_a_function_in_a_round(self):
+        plain, other, twin = self.mutants(PLAIN + "has_two\n    - self.word(id) == 1\n    + self.word(id) < 1\n" + TWIN.replace("## Set::has\n", ""))
+        one = rounds.Round(self.crate.folder)
+        self.assertEqual([one.takes(*each) for each in (plain, other, twin)], [True, False, False])
+
+    def test_a_text_that_another_mutant_made(self):
+        one = rounds.Round(self.crate_folder())
+        source = rounds.text_of(one.folder / "src/set.rt")
+        first, second = [line.strip() for line in source.splitlines() if "fn " in line][:2]
+        (mutant, _), (other, _) = self.mutants(PLAIN + PLAIN.replace("Set::has", "Set::word").replace("has_none", "word_none"))
+        self.assertTrue(one.takes(mutant, [("src/set.rt", first, "// gone"), ("src/set.rt", second, first)]))
+        self.assertFalse(one.takes(other, [("src/set.rt", first, "fn other()")]))
+
+    def crate_folder(self):
+        return self.repository().crate("low").folder
+
+    def test_what_other_functions_are_proved_by(self):
+        (plain,), (twin,) = self.mutants(PLAIN), self.mutants(TWIN)
+        clause = [("src/set.rt", "ensures found", "ensures")]
+        self.assertTrue(rounds.is_apart(*plain, self.crate) and rounds.is_apart(*twin, self.crate))
+        self.assertFalse(rounds.is_apart(plain[0], clause, self.crate))
+        self.assertFalse(rounds.is_apart(plain[0], [("specs/Sets.antt", "a", "b")], self.crate))
+
+    def test_what_refuses(self):
+        ((plain, _),), ((twin, _),) = self.mutants(PLAIN), self.mutants(TWIN)
+        searched = "no proof: expected answers in ./proofs/x; `search` did not prove `overflow_add-at`, `returns-clause-found`; it calls `low::f`, which is not proved"
+        said = f"fn low::set::Set::has: {searched}\nfn low::set::Set::has_twin: not proved\n"
+        self.assertEqual(rounds.refusal(plain, said), "a clause: returns-clause-found")
+        self.assertIsNone(rounds.refusal(twin, said))
+        answer = "./proofs/set/Set/has_twin/Answers.antt:1:2: error: `loop-preserved`: the goal does not follow\n"
+        self.assertEqual(rounds.refusal(twin, said + answer), "an invariant: loop-preserved")
+        self.assertEqual(rounds.kind(["add-requires-clause-fits"]), "a condition: add-requires-clause-fits")
+
+    def test_what_calls_what_is_refused(self):
+        ((plain, _),) = self.mutants(PLAIN)
+        self.assertIsNone(rounds.refusal(plain, "fn low::set::Set::has: no proof: it calls `low::f`, which is not proved\n"))
 
 
 class Checks(InRepository):
