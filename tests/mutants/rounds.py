@@ -9,6 +9,8 @@ from . import edits
 
 PROMISE = re.compile(r"\b(ensures|requires|ghost|struct|enum)\b")
 VERDICT = re.compile(r"^fn (\S+): (.*)$", re.M)
+# A proof file that names what the mutant took away, or proves another statement.
+SHAPE = "THE SHAPE of a proof file: write a twin"
 # What the prover calls the goals of a call's condition, and of an operation's.
 CONDITION = re.compile(r"-requires\b|^(overflow|bounds|underflow|division|unwrap|expect)")
 
@@ -79,10 +81,15 @@ def is_of(name, mutant):
 
 
 def goals_of(name, verdict, said):
-    """The goals of a function that the prover left open: those that a search did not prove, and those of its proof file."""
-    folder = re.escape("/".join(name.split("::")[1:]))
+    """The goals of a function that the prover found open: those that a search did not prove, and those that fail behind all that its proof file has."""
     searched = re.findall(r"`([^`]+)`", verdict.partition("did not prove")[2].partition("; it calls")[0])
-    return searched + re.findall(rf"^(?:\./)?proofs/{folder}/\S*: error: `([^`]+)`", said, re.M)
+    return searched + re.findall(rf"{in_its_proof(name)}: error: `([^`]+)`.* does not follow from", said, re.M)
+
+
+def in_its_proof(name):
+    """The form of a line about the proof file of a function, up to its column."""
+    *path, last = name.split("::")[1:]
+    return rf"^(?:\./)?proofs/{re.escape('/'.join(path))}/?\+?{re.escape(last)}/\S*?:\d+:\d+"
 
 
 def kind(goals):
@@ -102,6 +109,8 @@ def refusal(mutant, said):
             goals = goals_of(name, verdict, said)
             if goals:
                 return kind(goals)
+            if re.search(rf"{in_its_proof(name)}: error", said, re.M):
+                return SHAPE
     return None
 
 

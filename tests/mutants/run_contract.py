@@ -23,7 +23,7 @@ from mutants import edits, rounds, tables  # noqa: E402
 
 KINDS = (
     (r"\(only by a limit of the prover", "a limit of the prover"),
-    (r"\(only because a proof file|: (?:note: )?(?:\./)?proofs/", "THE SHAPE of a proof file: write a twin"),
+    (r"\(only because a proof file|: (?:note: )?(?:\./)?proofs/", rounds.SHAPE),
     (r"clause-|ensures holds|_gives\b", "a clause"),
     (r"requires holds", "a condition"),
     (r"invariant|the loop ends|measure", "an invariant"),

@@ -115,8 +115,9 @@ class Rounds(InRepository):
         said = f"fn low::set::Set::has: {searched}\nfn low::set::Set::has_twin: not proved\n"
         self.assertEqual(rounds.refusal(plain, said), "a clause: returns-clause-found")
         self.assertIsNone(rounds.refusal(twin, said))
-        answer = "./proofs/set/Set/has_twin/Answers.antt:1:2: error: `loop-preserved`: the goal does not follow\n"
-        self.assertEqual(rounds.refusal(twin, said + answer), "an invariant: loop-preserved")
+        answer = "./proofs/set/Set/has_twin/Answers.antt:1:2: error: `loop-preserved`: "
+        self.assertEqual(rounds.refusal(twin, f"{said}{answer}`omega`: the goal does not follow from what it read\n"), "an invariant: loop-preserved")
+        self.assertEqual(rounds.refusal(twin, f"{said}{answer}the two types differ\n"), rounds.SHAPE)
         self.assertEqual(rounds.kind(["add-requires-clause-fits"]), "a condition: add-requires-clause-fits")
 
     def test_what_calls_what_is_refused(self):
