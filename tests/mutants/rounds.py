@@ -33,15 +33,15 @@ class Round:
 
     def takes(self, mutant, pairs):
         """Takes a mutant in, unless the round has one of its function, or its text is not where the source has it."""
-        texts, untouched = dict(self.texts), set()
+        texts, own = dict(self.texts), set()
         for file, old, new in pairs:
             source = text_of(self.folder / file)
             text = texts.get(file, source)
             if text.count(old) != 1:
                 return False
-            if file not in untouched and line_at(source, source.find(old)) != line_at(text, text.find(old)):
+            if file not in own and line_at(source, source.find(old)) != line_at(text, text.find(old)):
                 return False
-            untouched.add(file)
+            own.add(file)
             texts[file] = text.replace(old, new)
         if (mutant.file, mutant.function) in self.functions:
             return False
@@ -118,6 +118,9 @@ def outcomes(folder, pairs):
     """Each of these mutants of different functions with what refused it. Those that the compiler refuses are found by halves."""
     one = Round(folder)
     later = [each for each in pairs if not one.takes(*each)]
+    if not one.mutants:
+        yield from ((mutant, None) for mutant, _ in later)
+        return
     said = one.check()
     if VERDICT.search(said):
         yield from ((mutant, refusal(mutant, said)) for mutant, _ in one.mutants)
