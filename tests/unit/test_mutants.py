@@ -102,6 +102,11 @@ class Rounds(InRepository):
     def crate_folder(self):
         return self.repository().crate("low").folder
 
+    def test_a_text_that_is_not_there(self):
+        ((mutant, _),) = self.mutants(PLAIN)
+        told = rounds.outcomes(self.crate.folder, [(mutant, [("src/set.rt", "not there", "there")])])
+        self.assertEqual(list(told), [(mutant, None)])
+
     def test_what_other_functions_are_proved_by(self):
         (plain,), (twin,) = self.mutants(PLAIN), self.mutants(TWIN)
         clause = [("src/set.rt", "ensures found", "ensures")]
