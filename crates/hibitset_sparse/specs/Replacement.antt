@@ -1,0 +1,26 @@
+-- Chunks made of a set's words, and the members of a set once they have taken the place of its own.
+use Rattle.std.specs.Prelude.{◌≡◌, ℕ, ◌+◌, ◌*◌, ◌/◌, ◌%◌, ◌<◌, Bool, false, Option, Some, None}
+use Rattle.hibitset_sparse.specs.Chunk.{has_in}
+use Rattle.hibitset_sparse.specs.Table.{value_at}
+use Rattle.hibitset_sparse.specs.declared.chunk.Chunk.{Chunk}
+use Rattle.hibitset_sparse.specs.declared.chunk.TheConstants.{INDICES_PER_CHUNK}
+use Rattle.hibitset_sparse.specs.declared.table.Table.{Table}
+use Rattle.hibitset_sparse.specs.declared.table.TheConstants.{PLACES_PER_TABLE}
+
+-- the chunk has what a set has of the indices of chunk c
+abbrev pub IsChunkOf : (ℕ → Bool) → ℕ → Chunk → Type 0
+IsChunkOf holds c chunk = (i : ℕ) → i < INDICES_PER_CHUNK → has_in chunk i ≡ holds (INDICES_PER_CHUNK * c + i)
+
+-- a set has none of the indices of chunk c
+abbrev pub HasNoneIn : (ℕ → Bool) → ℕ → Type 0
+HasNoneIn holds c = (i : ℕ) → i < INDICES_PER_CHUNK → holds (INDICES_PER_CHUNK * c + i) ≡ false
+
+-- Each chunk has what the first set has of its indices, and where none is the second has none.
+pub record AreChunksOf (holds touched : ℕ → Bool) (chunks : Table Chunk) : Type 0 where
+  pub is : (c : ℕ) (chunk : Chunk) → c < PLACES_PER_TABLE → value_at chunks c ≡ Some chunk → IsChunkOf holds c chunk
+  pub all : (c : ℕ) → c < PLACES_PER_TABLE → value_at chunks c ≡ None → HasNoneIn touched c
+
+-- whether an index is there, by its chunk if there is one, and as before if not
+abbrev pub has_in_or : Option Chunk → ℕ → Bool → Bool
+has_in_or None i before = before
+has_in_or (Some chunk) i before = has_in chunk (i % INDICES_PER_CHUNK)

@@ -1,0 +1,8 @@
+//! Where 64 places of a table have their values.
+
+/// The places of a group that have a value, as bits, and how many values lie before the first of them.
+#[derive(Clone, Copy)]
+pub(crate) struct Group {
+    pub(crate) word: usize,
+    pub(crate) start: usize,
+}

@@ -1,0 +1,14 @@
+//! Sets whose memory goes by their members.
+#![tactic(auto)]
+
+mod chunk;
+mod group;
+pub mod laws;
+mod rank;
+mod packed_array;
+pub mod set;
+mod table;
+#[cfg(test)]
+mod tests;
+
+pub use set::SparseBitSet;

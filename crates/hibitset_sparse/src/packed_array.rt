@@ -1,0 +1,78 @@
+//! Values of the 64 bits of a word: one for each bit that is set.
+ghost use Rattle.std.specs.Prelude.{◌≡◌, ℕ, ◌+◌, ◌^◌, ◌<◌, ◌==◌, if◌then◌else◌, true, false, length, Some, None, OnOk, OnErr, MatchOption};
+ghost use Rattle.std.specs.Int.{bit_at};
+ghost use Rattle.std.specs.Int.RustNames.{count_ones};
+
+use crate::rank::{rank, is_set};
+use hibitset_base::bits::with_bit;
+use std::alloc::{AllocError, Global};
+
+/// A word, and a value for each of its bits that is set. The values lie side by side, in the order of their bits.
+#[derive(Drop)]
+pub(crate) struct PackedArray<T: Drop> {
+    pub(crate) word: usize,
+    pub(crate) items: Vec<T>,
+    ghost fits: { word < 2 ^ 64 },
+    ghost counted: { length items.items ≡ count_ones word },
+}
+
+impl<T: Drop> PackedArray<T> {
+    ghost use Rattle.hibitset_sparse.specs.Rank.{bit_is_set};
+    ghost use Rattle.hibitset_sparse.specs.PackedArray.{value_in};
+
+    /// No bit is set. It does not allocate.
+    #[inline]
+    pub(crate) fn new(alloc: Global) -> PackedArray<T>
+        ensures word { result.word ≡ 0 }
+        ensures none { (bit : ℕ) → value_in result bit ≡ None }
+    {
+        PackedArray {
+            word: 0,
+            items: Vec::new(alloc),
+        }
+    }
+
+    /// The value of a bit.
+    #[inline]
+    pub(crate) fn get(&self, bit: usize) -> Option<&T>
+        requires { bit < 64 }
+        ensures { MatchOption result (value_in self.now bit ≡ None)
+            (λ value. value_in self.now bit ≡ Some value.now) }
+    {
+        if !is_set(self.word, bit) {
+            return None;
+        }
+        Some(&self.items[rank(self.word, bit)])
+    }
+
+    /// Gives a value to a bit that has none. If an allocation fails, nothing changes.
+    pub(crate) fn insert(&mut self, bit: usize, value: T) -> Result<(), AllocError>
+        requires bit { bit < 64 }
+        requires free { bit_is_set self.old.word bit ≡ false }
+        ensures put { OnOk result ((b : ℕ) → b < 64
+            → value_in self.new b ≡ (if b == bit then Some value else value_in self.old b)) }
+        ensures word { OnOk result ((b : ℕ) → b < 64
+            → bit_is_set self.new.word b ≡ (if b == bit then true else bit_is_set self.old.word b)) }
+        ensures err { OnErr result ((self.new.word ≡ self.old.word)
+            × (self.new.items.items ≡ self.old.items.items)) }
+    {
+        self.items.insert(rank(self.word, bit), value)?;
+        self.word = with_bit(self.word, bit, true);
+        Ok(())
+    }
+
+    /// Takes the value of a bit out.
+    pub(crate) fn remove(&mut self, bit: usize) -> T
+        requires bit { bit < 64 }
+        requires taken { bit_is_set self.old.word bit ≡ true }
+        ensures was { value_in self.old bit ≡ Some result }
+        ensures put { (b : ℕ) → b < 64
+            → value_in self.new b ≡ (if b == bit then None else value_in self.old b) }
+        ensures word { (b : ℕ) → b < 64
+            → bit_is_set self.new.word b ≡ (if b == bit then false else bit_is_set self.old.word b) }
+    {
+        let value = self.items.remove(rank(self.word, bit));
+        self.word = with_bit(self.word, bit, false);
+        value
+    }
+}

@@ -1,0 +1,177 @@
+//! The set that keeps its nonzero words alone.
+#![tactic(auto, unfolding(crate::specs::SparseBitSet::has, crate::specs::SparseBitSet::word_of))]
+
+ghost use Rattle.std.specs.Prelude.{◌≡◌, ℕ, ◌+◌, ◌*◌, ◌/◌, ◌%◌, ◌^◌, ◌<◌, ◌==◌, ◌||◌, ◌&&◌, not, Bool, false, OnOk, OnErr, IfOk};
+ghost use Rattle.hibitset_base.specs.Words.{SummariesExactEverywhere};
+ghost use Rattle.hibitset_base.specs.declared.util.TheConstants.{LAYERS, MAX_EID};
+ghost use Rattle.hibitset_sparse.specs.Chunks.{AreFull, word_in};
+
+use crate::chunk::{Chunk, INDICES_PER_CHUNK};
+use crate::table::{PLACES_PER_TABLE, Table};
+use hibitset_base::like::{BitSetLike, DrainableBitSet};
+use hibitset_base::util::{Index, LAYERS, MAX_EID};
+use std::alloc::{AllocError, Global};
+use std::fmt::{self, Debug, Formatter};
+
+/// A set of indices below `MAX_EID` that keeps its nonzero words alone: its memory goes by its members, wherever they
+/// lie.
+#[derive(Drop)]
+pub struct SparseBitSet {
+    chunks: Table<Chunk>,
+    ghost full: { AreFull chunks },
+    ghost summed: { SummariesExactEverywhere LAYERS (word_in chunks) },
+}
+
+impl SparseBitSet {
+    ghost use Rattle.hibitset_sparse.specs.SparseBitSet.{has};
+
+    /// The empty set, which does not allocate until the first `add`.
+    pub fn new(alloc: Global) -> SparseBitSet
+        ensures { (i : ℕ) → has result i ≡ false }
+    {
+        SparseBitSet {
+            chunks: Table::new(alloc),
+        }
+    }
+
+    /// Adds an index below `MAX_EID`, and returns whether it was there. If an allocation fails, the members stay.
+    pub fn add(&mut self, id: Index) -> Result<bool, AllocError>
+        requires { id < MAX_EID }
+        ensures was { IfOk result (λ was. was ≡ has self.old id) }
+        ensures added { OnOk result ((i : ℕ) → has self.new i ≡ (has self.old i || i == id)) }
+        ensures err { OnErr result ((i : ℕ) → has self.new i ≡ has self.old i) }
+    {
+        let id = id as usize;
+        if let Some(at) = self.chunks.position(id / INDICES_PER_CHUNK) {
+            return self.chunks.items[at].add(id % INDICES_PER_CHUNK);
+        }
+        let mut chunk = Chunk::new(*self.chunks.items.allocator());
+        chunk.add(id % INDICES_PER_CHUNK)?;
+        self.chunks.insert(id / INDICES_PER_CHUNK, chunk)?;
+        Ok(false)
+    }
+
+    /// Takes an index out, and returns whether it was there.
+    pub fn remove(&mut self, id: Index) -> bool
+        ensures was { result ≡ has self.old id }
+        ensures removed { (i : ℕ) → has self.new i ≡ (has self.old i && not (i == id)) }
+    {
+        let id = id as usize;
+        if id >= MAX_EID {
+            return false;
+        }
+        let Some(at) = self.chunks.position(id / INDICES_PER_CHUNK) else {
+            return false;
+        };
+        let was = self.chunks.items[at].remove(id % INDICES_PER_CHUNK);
+        if self.chunks.items[at].layer2() == 0 {
+            let _chunk = self.chunks.remove(id / INDICES_PER_CHUNK);
+            return was;
+        }
+        was
+    }
+
+    /// Returns whether an index is there.
+    #[inline]
+    pub fn contains(&self, id: Index) -> bool
+        ensures { result ≡ has self.now id }
+    {
+        let id = id as usize;
+        self.layer0(id / 64) >> (id % 64) & 1 == 1
+    }
+
+    /// Takes all members out, and gives the memory back.
+    pub fn clear(&mut self)
+        ensures { (i : ℕ) → has self.new i ≡ false }
+    {
+        let alloc = *self.chunks.items.allocator();
+        self.chunks = Table::new(alloc);
+    }
+}
+
+impl BitSetLike for SparseBitSet {
+    ghost use Rattle.hibitset_sparse.specs.SparseBitSet.{has, word_of, has_is_lawful};
+
+    ghost holds = { has };
+
+    ghost word = { word_of };
+
+    ghost lawful = { has_is_lawful };
+
+    #[inline]
+    fn has_cheap_words(&self) -> bool {
+        true
+    }
+
+    #[inline]
+    fn layer4(&self) -> usize {
+        self.chunks.groups.word
+    }
+
+    #[inline]
+    fn layer3(&self, i: usize) -> usize {
+        if i >= 64 {
+            return 0;
+        }
+        self.chunks.word(i)
+    }
+
+    #[inline]
+    fn layer2(&self, i: usize) -> usize {
+        if i >= PLACES_PER_TABLE {
+            return 0;
+        }
+        match self.chunks.get(i) {
+            Some(chunk) => chunk.layer2(),
+            None => 0,
+        }
+    }
+
+    #[inline]
+    fn layer1(&self, i: usize) -> usize {
+        if i >= 64 * PLACES_PER_TABLE {
+            return 0;
+        }
+        match self.chunks.get(i / 64) {
+            Some(chunk) => chunk.layer1(i % 64),
+            None => 0,
+        }
+    }
+
+    #[inline]
+    fn layer0(&self, i: usize) -> usize {
+        if i >= 64 * 64 * PLACES_PER_TABLE {
+            return 0;
+        }
+        match self.chunks.get(i / (64 * 64)) {
+            Some(chunk) => chunk.layer0(i % (64 * 64)),
+            None => 0,
+        }
+    }
+
+    #[inline]
+    fn contains(&self, i: Index) -> bool {
+        SparseBitSet::contains(self, i)
+    }
+}
+
+/// A removal gives the memory of an emptied part back, so no room is kept.
+impl DrainableBitSet for SparseBitSet {
+    ghost keeps_room = { λ old new. Unit {0} };
+
+    ghost keeps_own = { λ s. tt };
+
+    ghost keeps_both = { λ a b c first second. tt };
+
+    #[inline]
+    fn remove(&mut self, i: Index) -> bool {
+        SparseBitSet::remove(self, i)
+    }
+}
+
+/// It prints the members, in ascending order: `{5, 70000}`.
+impl Debug for SparseBitSet {
+    fn fmt<W: fmt::Write>(&self, f: &mut Formatter<W>) -> fmt::Result {
+        f.debug_set().entries(self.iter()).finish()
+    }
+}
