@@ -3,6 +3,7 @@
 
 mod chunk;
 mod group;
+mod gather;
 pub mod laws;
 mod rank;
 mod packed_array;
