@@ -7,6 +7,7 @@ mod gather;
 pub mod laws;
 mod rank;
 mod packed_array;
+mod replace;
 pub mod set;
 mod table;
 #[cfg(test)]

@@ -17,7 +17,7 @@ use std::fmt::{self, Debug, Formatter};
 /// lie.
 #[derive(Drop)]
 pub struct SparseBitSet {
-    chunks: Table<Chunk>,
+    pub(crate) chunks: Table<Chunk>,
     ghost full: { AreFull chunks },
     ghost summed: { SummariesExactEverywhere LAYERS (word_in chunks) },
 }
