@@ -70,7 +70,7 @@ when_ok (Err e) ok p = absurd (false≢true ok)
 pub record AreBeingPut (chunks left own : Table Chunk) (before now : ℕ → Bool) : Type 0 where
   pub some : (c : ℕ) → c < 4096 → (value_at left c ≡ None) ⊎ (value_at left c ≡ value_at chunks c)
   pub put : (i : ℕ) → i < 2 ^ 30 → value_at left (i / 262144) ≡ None → now i ≡ has_in_or (value_at chunks (i / 262144)) i (before i)
-  pub left : (i : ℕ) (chunk : Chunk) → i < 2 ^ 30 → value_at left (i / 262144) ≡ Some chunk → now i ≡ before i
+  pub unput : (i : ℕ) (chunk : Chunk) → i < 2 ^ 30 → value_at left (i / 262144) ≡ Some chunk → now i ≡ before i
   pub fits : CanTakePlace own left
 
 -- none has, at first
@@ -78,7 +78,7 @@ pub none-put : (chunks own : Table Chunk) (before : ℕ → Bool) → CanTakePla
 none-put chunks own before fits = record {
   some = λ c low. inr refl;
   put = λ i low none. sym (ap (λ o. has_in_or o i (before i)) none);
-  left = λ i chunk low is. refl;
+  unput = λ i chunk low is. refl;
   fits = fits;
 }
 
@@ -119,11 +119,11 @@ module _ (chunks left next own after : Table Chunk) (before now new : ℕ → Bo
           let there : (if i / 262144 == c then has_in chunk (i % 262144) else now i) ≡ now i = rw (eq_other (i / 262144) c other) refl in
           members i small ∙ (there ∙ is.put i small (sym (put-other left next c None taken (i / 262144) (omega (arith, small)) other) ∙ none))
     ];
-    left = λ i x small some. elim (same_or_not (i / 262144) c) [
+    unput = λ i x small some. elim (same_or_not (i / 262144) c) [
       | inl same ↦ absurd (none-some x (sym (put-here left next c None taken low) ∙ (ap (value_at next) (sym same) ∙ some)))
       | inr other ↦
           let there : (if i / 262144 == c then has_in chunk (i % 262144) else now i) ≡ now i = rw (eq_other (i / 262144) c other) refl in
-          members i small ∙ (there ∙ is.left i x small (sym (put-other left next c None taken (i / 262144) (omega (arith, small)) other) ∙ some))
+          members i small ∙ (there ∙ is.unput i x small (sym (put-other left next c None taken (i / 262144) (omega (arith, small)) other) ∙ some))
     ];
     fits = elim is.fits [
       | inl room ↦ inl (capacity (length next.items.items) (let e : length next.items.items + 1 ≡ length left.items.items = sym one in rw e room))
