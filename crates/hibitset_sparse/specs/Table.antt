@@ -1,8 +1,8 @@
 -- What a contract sees of a table.
-use Rattle.std.specs.Prelude.{◌≡◌, ◌⊎◌, ◌+◌, ◌<◌, ◌≤◌, ◌^◌, ℕ, length, Option, Some}
+use Rattle.std.specs.Prelude.{◌≡◌, ◌+◌, ◌<◌, ◌≤◌, ◌^◌, ℕ, length, Option, Some}
 use Rattle.std.specs.Vec.{vec_capacity}
 use Rattle.hibitset_sparse.specs.Layout.{value_of_place, word_or_none}
-use Rattle.hibitset_sparse.specs.PackedArray.{value_in}
+use Rattle.hibitset_sparse.specs.PackedArray.{HasRoomFor, value_in}
 use Rattle.hibitset_sparse.specs.declared.table.Table.{Table}
 use Rattle.hibitset_sparse.specs.declared.table.TheConstants.{PLACES_PER_TABLE}
 
@@ -20,7 +20,7 @@ module _ {T : Type 0} where
   -- So many values more can be put in without an allocation.
   pub record HasCapacityFor (n : ℕ) (table : Table T) : Type 0 where
     pub items : length table.items.items + n ≤ vec_capacity table.items
-    pub groups : (length table.groups.items.items + n ≤ vec_capacity table.groups.items) ⊎ (64 ≤ vec_capacity table.groups.items)
+    pub groups : HasRoomFor n table.groups
 
   -- the word of a group of a table
   abbrev pub group_word : Table T → ℕ → ℕ

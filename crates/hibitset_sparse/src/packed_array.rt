@@ -1,9 +1,9 @@
 //! Values of the 64 bits of a word: one for each bit that is set.
-ghost use Rattle.std.specs.Prelude.{◌≡◌, ℕ, ◌+◌, ◌^◌, ◌<◌, ◌==◌, if◌then◌else◌, true, false, length, Some, None, OnOk, OnErr, MatchOption};
+ghost use Rattle.std.specs.Prelude.{◌≡◌, ℕ, ◌+◌, ◌^◌, ◌<◌, ◌==◌, if◌then◌else◌, true, false, length, Some, None, IsOk, OnOk, OnErr, MatchOption};
 ghost use Rattle.std.specs.Int.{bit_at};
 ghost use Rattle.std.specs.Int.RustNames.{count_ones};
 
-use crate::rank::{rank, is_set};
+use crate::rank::{is_set, rank};
 use hibitset_base::bits::with_bit;
 use std::alloc::{AllocError, Global};
 
@@ -18,7 +18,7 @@ pub(crate) struct PackedArray<T: Drop> {
 
 impl<T: Drop> PackedArray<T> {
     ghost use Rattle.hibitset_sparse.specs.Rank.{bit_is_set};
-    ghost use Rattle.hibitset_sparse.specs.PackedArray.{value_in};
+    ghost use Rattle.hibitset_sparse.specs.PackedArray.{HasRoomFor, value_in};
 
     /// No bit is set. It does not allocate.
     #[inline]
@@ -55,6 +55,7 @@ impl<T: Drop> PackedArray<T> {
             → bit_is_set self.new.word b ≡ (if b == bit then true else bit_is_set self.old.word b)) }
         ensures err { OnErr result ((self.new.word ≡ self.old.word)
             × (self.new.items.items ≡ self.old.items.items)) }
+        ensures succeeds { (n : ℕ) → HasRoomFor (n + 1) self.old → IsOk result × HasRoomFor n self.new }
     {
         self.items.insert(rank(self.word, bit), value)?;
         self.word = with_bit(self.word, bit, true);
@@ -70,6 +71,7 @@ impl<T: Drop> PackedArray<T> {
             → value_in self.new b ≡ (if b == bit then None else value_in self.old b) }
         ensures word { (b : ℕ) → b < 64
             → bit_is_set self.new.word b ≡ (if b == bit then false else bit_is_set self.old.word b) }
+        ensures capacity { (n : ℕ) → HasRoomFor n self.old → HasRoomFor n self.new }
     {
         let value = self.items.remove(rank(self.word, bit));
         self.word = with_bit(self.word, bit, false);

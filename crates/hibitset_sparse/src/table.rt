@@ -1,15 +1,15 @@
 //! A table of 4,096 places, of which those with a value lie side by side.
 ghost use Rattle.std.specs.Prelude.{◌≡◌, ℕ, ◌+◌, ◌*◌, ◌/◌, ◌%◌, ◌^◌, ◌<◌, ◌≤◌, ◌==◌, if◌then◌else◌, true, false, vec_len, vec_capacity, length, Some, None, IfSome, IfNone, IfOk, IsOk, OnOk, OnErr, MatchOption, slice_get};
 ghost use Rattle.std.specs.List.{insert};
-ghost use Rattle.hibitset_sparse.specs.PackedArray.{value_in};
+ghost use Rattle.hibitset_sparse.specs.PackedArray.{HasRoomFor, value_in};
 ghost use Rattle.hibitset_sparse.specs.Layout.{AreLaidOut, AreMovedUp, CanMoveDown, CanMoveUp, HaveRoom, IsNarrower, IsPlace, IsPutAt, IsWider, values_before, word_or_none};
 ghost use Rattle.hibitset_sparse.specs.declared.group.Group.{Group};
 ghost use Rattle.std.specs.Int.{bit_at};
 
 use crate::group::Group;
-use crate::rank::{rank, is_set};
 use crate::packed_array::PackedArray;
-use hibitset_base::bits::with_bit;
+use crate::rank::{is_set, rank};
+use hibitset_base::bits::{last_bit, with_bit};
 use std::alloc::{AllocError, Global};
 
 /// How many places a table has.
@@ -33,6 +33,7 @@ fn move_up(groups: &mut Vec<Group>, from: usize)
     requires { CanMoveUp groups.old.items }
     ensures moved { AreMovedUp from groups.old.items groups.new.items }
     ensures length { length groups.new.items ≡ length groups.old.items }
+    ensures capacity { vec_capacity groups.new ≡ vec_capacity groups.old }
 {
     'groups: for k in from..groups.len() {
         groups[k].start += 1;
@@ -41,7 +42,12 @@ fn move_up(groups: &mut Vec<Group>, from: usize)
 
 // Gives group q one place more, at `bit`, and moves no other. If it is new, it begins at `start`. If an allocation
 // fails, nothing changes.
-fn set_place(groups: &mut PackedArray<Group>, q: usize, bit: usize, start: usize) -> Result<(), AllocError>
+fn set_place(
+    groups: &mut PackedArray<Group>,
+    q: usize,
+    bit: usize,
+    start: usize,
+) -> Result<(), AllocError>
     requires group { q < 64 }
     requires bit { bit < 64 }
     requires free { bit_at (word_or_none (value_in groups.old q)) bit ≡ 0 }
@@ -50,6 +56,7 @@ fn set_place(groups: &mut PackedArray<Group>, q: usize, bit: usize, start: usize
     ensures is_set { OnOk result (bit_at groups.new.word q ≡ 1) }
     ensures err { OnErr result ((groups.new.word ≡ groups.old.word)
         × (groups.new.items.items ≡ groups.old.items.items)) }
+    ensures succeeds { (n : ℕ) → HasRoomFor (n + 1) groups.old → IsOk result × HasRoomFor n groups.new }
 {
     if !is_set(groups.word, q) {
         let word = with_bit(0, bit, true);
@@ -64,7 +71,12 @@ fn set_place(groups: &mut PackedArray<Group>, q: usize, bit: usize, start: usize
 
 // Gives group q one place more, at `bit`, and moves the groups after it up. If it is new, it begins at `start`. If an
 // allocation fails, nothing changes.
-fn widen(groups: &mut PackedArray<Group>, q: usize, bit: usize, start: usize) -> Result<(), AllocError>
+fn widen(
+    groups: &mut PackedArray<Group>,
+    q: usize,
+    bit: usize,
+    start: usize,
+) -> Result<(), AllocError>
     requires group { q < 64 }
     requires bit { bit < 64 }
     requires free { bit_at (word_or_none (value_in groups.old q)) bit ≡ 0 }
@@ -74,6 +86,7 @@ fn widen(groups: &mut PackedArray<Group>, q: usize, bit: usize, start: usize) ->
     ensures wider { OnOk result (IsWider q bit start (value_in groups.old) (value_in groups.new)) }
     ensures err { OnErr result ((groups.new.word ≡ groups.old.word)
         × (groups.new.items.items ≡ groups.old.items.items)) }
+    ensures succeeds { (n : ℕ) → HasRoomFor (n + 1) groups.old → IsOk result × HasRoomFor n groups.new }
 {
     set_place(groups, q, bit, start)?;
     let next = rank(groups.word, q) + 1;
@@ -86,6 +99,7 @@ fn move_down(groups: &mut Vec<Group>, from: usize)
     requires { CanMoveDown from groups.old.items }
     ensures moved { AreMovedUp from groups.new.items groups.old.items }
     ensures length { length groups.new.items ≡ length groups.old.items }
+    ensures capacity { vec_capacity groups.new ≡ vec_capacity groups.old }
 {
     'groups: for k in from..groups.len() {
         groups[k].start -= 1;
@@ -98,7 +112,8 @@ fn narrow(groups: &mut PackedArray<Group>, q: usize, bit: usize)
     requires bit { bit < 64 }
     requires on { bit_at (word_or_none (value_in groups.old q)) bit ≡ 1 }
     requires room { (p : ℕ) (g : Group) → q < p → p < 64 → value_in groups.old p ≡ Some g → 0 < g.start }
-    ensures { IsNarrower q bit (value_in groups.old) (value_in groups.new) }
+    ensures narrower { IsNarrower q bit (value_in groups.old) (value_in groups.new) }
+    ensures capacity { (n : ℕ) → HasRoomFor n groups.old → HasRoomFor n groups.new }
 {
     let k = rank(groups.word, q);
     let group = &groups.items[k];
@@ -116,7 +131,9 @@ fn narrow(groups: &mut PackedArray<Group>, q: usize, bit: usize)
 fn put<T: Drop>(items: &mut Vec<T>, at: usize, value: T)
     requires within { at ≤ length items.old.items }
     requires room { vec_len items.old < vec_capacity items.old }
-    ensures { items.new.items ≡ insert items.old.items at value }
+    ensures put { items.new.items ≡ insert items.old.items at value }
+    ensures length { length items.new.items ≡ length items.old.items + 1 }
+    ensures capacity { vec_capacity items.new ≡ vec_capacity items.old }
 {
     let _put = items.insert(at, value);
 }
@@ -258,5 +275,24 @@ impl<T: Drop> Table<T> {
         let at = self.position(i)?;
         narrow(&mut self.groups, i / 64, i % 64);
         Some(self.items.remove(at))
+    }
+
+    /// Takes the value of the last place that has one out, and returns it with its place.
+    pub(crate) fn pop(&mut self) -> Option<(usize, T)>
+        ensures none { IfNone result ((i : ℕ) → i < PLACES_PER_TABLE → value_at self.old i ≡ None) }
+        ensures place { IfSome result (λ last. last.0 < PLACES_PER_TABLE) }
+        ensures was { IfSome result (λ last. value_at self.old last.0 ≡ Some last.1) }
+        ensures put { IfSome result (λ last. (j : ℕ) → j < PLACES_PER_TABLE
+            → value_at self.new j ≡ (if j == last.0 then None else value_at self.old j)) }
+        ensures length { IfSome result (λ last. length self.old.items.items
+            ≡ length self.new.items.items + 1) }
+    {
+        if self.groups.word == 0 {
+            return None;
+        }
+        let q = last_bit(self.groups.word);
+        let place = 64 * q + last_bit(self.word(q));
+        let value = self.remove(place)?;
+        Some((place, value))
     }
 }

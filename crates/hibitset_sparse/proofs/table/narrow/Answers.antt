@@ -24,8 +24,8 @@ at-q q x y v e = e ∙ (let same : (q == q) ≡ true = eq_same q q refl in rw sa
 beside-q : (p q : ℕ) (x y : Option Group) (v : Option Group) → p ≢ q → v ≡ (if p == q then x else y) → v ≡ y
 beside-q p q x y v other e = e ∙ (let no : (p == q) ≡ false = eq_other p q other in rw no refl)
 
-pub returns-then-word-eq0 : goal.returns-then-word-eq0
-returns-then-word-eq0 c =
+pub returns-then-word-eq0-clause-narrower : goal.returns-then-word-eq0-clause-narrower
+returns-then-word-eq0-clause-narrower c =
     let row = c.args.groups.now in
     let q : ℕ = c.args.q in
     let root : bit_at row.word q ≡ 1 = word-on row q c.args.bit c.requires.on in
@@ -66,8 +66,8 @@ index_mut-requires c =
     let long = c.move_down.ensures.length in
     omega (arith, inside, counted, rank, long, c.move_down.new.groups.ok.0)
 
-pub returns : goal.returns
-returns c =
+pub returns-clause-narrower : goal.returns-clause-narrower
+returns-clause-narrower c =
     let row = c.args.groups.now in
     let q : ℕ = c.args.q in
     let root : bit_at row.word q ≡ 1 = word-on row q c.args.bit c.requires.on in
@@ -103,3 +103,6 @@ returns c =
       before = λ p less. beside-q p q (Some x) _ _ (λ e. absurd (omega arith)) (put p (omega arith)) ∙ from.0 p less;
       after = λ p more small. from.1 p more ∙ ap (option_map moved_up) (sym (beside-q p q (Some x) _ _ (λ e. absurd (omega arith)) (put p small)));
     }
+
+pub returns-then-word-eq0-clause-capacity : goal.returns-then-word-eq0-clause-capacity
+returns-then-word-eq0-clause-capacity c = λ n room. c.remove-group.ensures.capacity n (rw (c.move_down.ensures.length, c.move_down.ensures.capacity) room)

@@ -1,6 +1,7 @@
 use Rattle.std.proofs.Common.{◌≡◌, ℕ, ◌<◌, true, Some, sym, ◌∙◌, ap, set, arith, length}
 use Rattle.std.specs.Int.{bit_at}
 use Rattle.std.specs.List.{slice_get}
+use Rattle.std.proofs.lemmas.Bool.{false≢true}
 use Rattle.std.proofs.lemmas.Option.{slice_get_read}
 use Rattle.hibitset_sparse.specs.Layout.{word_or_none}
 use Rattle.hibitset_sparse.specs.Rank.{bit_is_set, rank_in, value_from}
@@ -57,3 +58,6 @@ returns-clause-put c =
       };
       put = λ p low. ap (λ k. value_from (slice_get (set row.items.items k x)) row.word p) rank ∙ written-over row.word q row.items.items x one within2 p low;
     }
+
+pub returns-in_err-insert-clause-succeeds : goal.returns-in_err-insert-clause-succeeds
+returns-in_err-insert-clause-succeeds c = λ n room. let put = c.in_err-insert.ensures.succeeds n room in absurd (false≢true put.0)

@@ -1,11 +1,14 @@
 use Rattle.std.proofs.Common.{◌≡◌, ℕ, ◌+◌, ◌^◌, ◌<◌, ◌==◌, true, false, Option, Some, refl, sym, ◌∙◌, ap, arith, inl, inr}
+use Rattle.std.proofs.lemmas.Bool.{false≢true}
 use Rattle.std.proofs.lemmas.Option.{same_Some}
+use Rattle.hibitset_base.proofs.OneCountLemmas.{few_ones}
 use Rattle.hibitset_base.specs.Decisions.{eq_other, eq_same, same_or_not}
 use Rattle.hibitset_sparse.specs.Layout.{AreMovedUp, HaveRoom, IsPutAt}
 use Rattle.hibitset_sparse.specs.Rank.{rank_in}
 use Rattle.hibitset_sparse.specs.PackedArray.{value_in}
 use Rattle.hibitset_sparse.specs.declared.group.Group.{Group}
 use Rattle.hibitset_sparse.proofs.LayoutLemmas.{widened-from}
+use Rattle.hibitset_sparse.proofs.RankLemmas.{rank-most}
 use Rattle.hibitset_sparse.proofs.WordLemmas.{can-move}
 use Rattle.hibitset_sparse.proofs.table.widen.Goals as goal
 
@@ -28,6 +31,22 @@ pub move_up-requires : goal.move_up-requires
 move_up-requires c =
     let groups = c.set_place.new.groups in
     can-move groups (put-room c.args.q c.args.bit c.args.start (value_in c.args.groups.now) (value_in groups) c.in_ok-set_place.ensures.put c.requires.room c.requires.fits)
+
+pub overflow_add-next : goal.overflow_add-next
+overflow_add-next c =
+    let groups = c.set_place.new.groups in
+    let few = few_ones groups.word groups.fits in
+    let most = rank-most groups.word c.args.q in
+    let rank = c.rank-next.ensures in
+    omega (arith, few, most, rank)
+
+pub returns-in_err-set_place-clause-succeeds : goal.returns-in_err-set_place-clause-succeeds
+returns-in_err-set_place-clause-succeeds c = λ n room. let put = c.in_err-set_place.ensures.succeeds n room in absurd (false≢true put.0)
+
+pub returns-clause-succeeds : goal.returns-clause-succeeds
+returns-clause-succeeds c = λ n room.
+    let put = c.in_ok-set_place.ensures.succeeds n room in
+    (refl, rw (c.move_up.ensures.length, c.move_up.ensures.capacity) put.1)
 
 pub returns-clause-wider : goal.returns-clause-wider
 returns-clause-wider c =

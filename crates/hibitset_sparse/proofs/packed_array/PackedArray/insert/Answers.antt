@@ -1,8 +1,8 @@
-use Rattle.std.proofs.Common.{◌≡◌, ℕ, ◌^◌, ◌<◌, ◌≤◌, ◌∙◌, ap, arith, length}
+use Rattle.std.proofs.Common.{◌≡◌, ℕ, ◌^◌, ◌<◌, ◌≤◌, ◌∙◌, ap, arith, length, inl, inr}
 use Rattle.std.specs.List.{insert}
 use Rattle.std.proofs.lemmas.List.Edits.{length-insert}
 use Rattle.hibitset_sparse.specs.Rank.{rank_in, IsSetAt}
-use Rattle.hibitset_sparse.proofs.RankLemmas.{rank-most, ones-set}
+use Rattle.hibitset_sparse.proofs.RankLemmas.{rank-most, ones-few, ones-set}
 use Rattle.hibitset_sparse.proofs.PackedArrayLemmas.{clear-is-zero, array-insert}
 use Rattle.hibitset_sparse.proofs.packed_array.PackedArray.insert.Goals as goal
 
@@ -44,3 +44,15 @@ returns-clause-put g c = λ b small.
     } in
     let items : c.insert.new.self.items ≡ insert row.items.items (rank_in row.word c.args.bit) c.args.value = c.in_ok-insert.ensures.items ∙ ap (λ k. insert row.items.items k c.args.value) c.rank.ensures in
     array-insert c.with_bit-self.result row.word c.args.bit row.items.items c.insert.new.self.items c.args.value set row.counted items b small
+
+-- a full list has room for all 64, and one bit has no value
+pub returns-in_err-insert-clause-succeeds : goal.returns-in_err-insert-clause-succeeds
+returns-in_err-insert-clause-succeeds g c = λ n room.
+    let row = c.args.self.now in
+    let few = ones-few row.word c.args.bit row.fits c.requires.bit (clear-is-zero row.word c.args.bit c.requires.free) in
+    let counted = row.counted in
+    let full = c.in_err-insert.ensures.full in
+    absurd (elim room [
+      | inl more ↦ omega (arith, more, full, row.items.ok.0)
+      | inr all ↦ omega (arith, all, few, counted, full, row.items.ok.0)
+    ])

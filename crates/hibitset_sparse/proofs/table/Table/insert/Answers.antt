@@ -1,7 +1,7 @@
-use Rattle.std.proofs.Common.{◌≡◌, ℕ, suc, ◌+◌, ◌/◌, ◌%◌, ◌<◌, ◌≤◌, sym, ◌∙◌, ap, arith, length, inl, inr}
+use Rattle.std.proofs.Common.{◌≡◌, ℕ, suc, ◌+◌, ◌/◌, ◌%◌, ◌<◌, ◌≤◌, refl, sym, ◌∙◌, ap, arith, length, inl, inr}
 use Rattle.std.specs.Int.RustNames.{count_ones}
 use Rattle.std.specs.List.{insert, slice_get}
-use Rattle.std.proofs.lemmas.List.Edits.{length-insert}
+use Rattle.std.proofs.lemmas.Bool.{false≢true}
 use Rattle.std.proofs.lemmas.Option.{none-some}
 use Rattle.hibitset_sparse.specs.Layout.{values_before, AreLaidOut}
 use Rattle.hibitset_sparse.specs.Rank.{rank_in}
@@ -71,12 +71,7 @@ invariant_of-self-2 g c =
     let n : ℕ = length table.items.items in
     let wide = one-wider n q bit c.start-start.result (value_in table.groups) (value_in c.widen.new.groups) table.laid_out (omega arith) c.start-start.ensures c.in_ok-widen.ensures.wider in
     let laid : AreLaidOut (value_in c.widen.new.groups) (n + 1) = wider-laid n q c.in_ok-widen.ensures.wider.word (group_word table q) bit c.start-start.result (value_in table.groups) (value_in c.widen.new.groups) wide table.laid_out in
-    let most = at-most table q bit (omega arith) in
-    let start = c.start-start.ensures in
-    let rank : c.rank.result ≡ rank_in (group_word table q) bit = c.rank.ensures ∙ ap (λ w. rank_in w bit) c.word.ensures in
-    let within : c.start-start.result + c.rank.result ≤ n = omega (arith, most, start, rank) in
-    let items : c.put.new.items.items ≡ insert table.items.items (c.start-start.result + c.rank.result) c.args.value = c.put.ensures ∙ ap (λ xs. insert xs (c.start-start.result + c.rank.result) c.args.value) c.reserve.ensures.items in
-    let long : length c.put.new.items.items ≡ n + 1 = ap length items ∙ length-insert table.items.items (c.start-start.result + c.rank.result) c.args.value within in
+    let long : length c.put.new.items.items ≡ n + 1 = c.put.ensures.length ∙ ap (λ xs. length xs + 1) c.reserve.ensures.items in
     record { laid_out = rw long laid }
 
 pub returns-clause-put : goal.returns-clause-put
@@ -93,8 +88,19 @@ returns-clause-put g c = λ j low.
     let rank : c.rank.result ≡ rank_in w bit = c.rank.ensures ∙ ap (λ x. rank_in x bit) c.word.ensures in
     let within : start + rank_in w bit ≤ n = omega (arith, most, begins) in
     let items : c.put.new.items.items ≡ insert table.items.items (start + rank_in w bit) c.args.value =
-    c.put.ensures ∙ (ap (λ xs. insert xs (start + c.rank.result) c.args.value) c.reserve.ensures.items ∙ ap (λ r. insert table.items.items (start + r) c.args.value) rank) in
+    c.put.ensures.put ∙ (ap (λ xs. insert xs (start + c.rank.result) c.args.value) c.reserve.ensures.items ∙ ap (λ r. insert table.items.items (start + r) c.args.value) rank) in
     put-values n q c.in_ok-widen.ensures.wider.word w bit start c.args.i (value_in table.groups) (value_in c.widen.new.groups) table.items.items c.put.new.items.items c.args.value wide table.laid_out
     (longer-insert table.items.items c.put.new.items.items (start + rank_in w bit) c.args.value within items)
     (ap (λ ys. slice_get ys (start + rank_in w bit)) items ∙ get-insert_at table.items.items (start + rank_in w bit) c.args.value within)
     (omega arith) j low
+
+pub returns-in_err-widen-clause-succeeds : goal.returns-in_err-widen-clause-succeeds
+returns-in_err-widen-clause-succeeds g c = λ n room. let wide = c.in_err-widen.ensures.succeeds n room.groups in absurd (false≢true wide.0)
+
+pub returns-clause-succeeds : goal.returns-clause-succeeds
+returns-clause-succeeds g c = λ n room.
+    let wide = c.in_ok-widen.ensures.succeeds n room.groups in
+    let long = c.put.ensures.length ∙ ap (λ xs. length xs + 1) c.reserve.ensures.items in
+    let larger = c.reserve.ensures.capacity in
+    let same = c.put.ensures.capacity in
+    (refl, record { items = omega (arith, room.items, long, larger, same); groups = wide.1 })

@@ -14,7 +14,7 @@ invariant_of-self g c =
     let table = c.args.self.now in
     let q : ℕ = c.args.i / 64 in
     let bit : ℕ = c.args.i % 64 in
-    let is = c.narrow.ensures in
+    let is = c.narrow.ensures.narrower in
     let place = c.in_ok-at.ensures.place in
     let inside = c.in_ok-at.ensures.some.0 in
     let n : ℕ = length table.items.items - 1 in
@@ -37,7 +37,7 @@ returns-clause-put g c = λ j low.
     let table = c.args.self.now in
     let q : ℕ = c.args.i / 64 in
     let bit : ℕ = c.args.i % 64 in
-    let is = c.narrow.ensures in
+    let is = c.narrow.ensures.narrower in
     let place = c.in_ok-at.ensures.place in
     let inside = c.in_ok-at.ensures.some.0 in
     let n : ℕ = length table.items.items - 1 in
@@ -63,3 +63,12 @@ narrow-requires-clause-room g c = λ p h more low some.
     let here = place-within (value_in table.groups) (length table.items.items) q (c.args.i % 64) place.of table.laid_out (omega arith) place.is place.on in
     let rest = before-upto (value_in table.groups) (suc q) p (omega arith) in
     omega (arith, starts, here, rest)
+
+pub returns-clause-capacity : goal.returns-clause-capacity
+returns-clause-capacity g c = λ n room.
+    let fewer = c.remove.ensures.len in
+    let large = c.remove.ensures.capacity in
+    record {
+      items = omega (arith, room.items, fewer, large, c.args.self.now.items.ok.0, c.remove.new.self.ok.0);
+      groups = c.narrow.ensures.capacity n room.groups;
+    }
