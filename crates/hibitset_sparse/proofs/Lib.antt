@@ -6,3 +6,4 @@ pub mod WordLemmas
 pub mod ExactLemmas
 pub mod ChunkLemmas
 pub mod SetLemmas
+pub mod ChunksOfLemmas
