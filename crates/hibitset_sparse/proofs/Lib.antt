@@ -7,3 +7,4 @@ pub mod ExactLemmas
 pub mod ChunkLemmas
 pub mod SetLemmas
 pub mod ReplaceLemmas
+pub mod ChunksOfLemmas

@@ -1,20 +1,18 @@
-use Rattle.std.proofs.Common.{rules, ◌≡◌, ◌≢◌, ℕ, ◌+◌, ◌/◌, ◌%◌, ◌<◌, ◌==◌, if◌then◌else◌, length, None, OnOk, ◌-◌, ◌*◌, ◌≤◌, Bool, true, false, nat_eq, nat_lt, List, [], ◌∷◌, ◌++◌, slice_index_or, slice_set, bit_and, bit_or, Fits, w8, w32, w64, Bor, MutBor}
-use Rattle.hibitset_base.specs.declared.util.TheConstants.{MAX_EID}
-use Rattle.hibitset_sparse.specs.Chunk.{chunk_word, has_in}
-use Rattle.hibitset_sparse.specs.Replacement.{CanTakePlace, HasChunk, has_in_or}
+use Rattle.std.proofs.Common.{ℕ}
 use Rattle.hibitset_sparse.specs.SparseBitSet.{has}
-use Rattle.hibitset_sparse.specs.Table.{HasCapacityFor, value_at}
-use Rattle.hibitset_sparse.specs.declared.chunk.TheConstants.{INDICES_PER_CHUNK}
+use Rattle.hibitset_sparse.proofs.ReplaceLemmas.{all-put, next-fits, none-put, one-put}
 use Rattle.hibitset_sparse.proofs.set.SparseBitSet.put_chunks.Goals as goal
 
--- src/replace.rt:59:13
 pub put_chunk-requires-clause-fits : goal.put_chunk-requires-clause-fits
-put_chunk-requires-clause-fits c = ?
+put_chunk-requires-clause-fits c =
+    next-fits c.args.chunks c.chunks.left c.pop.new.self c.chunks.self.chunks c.chunks.self.chunks (has c.args.self.now) (has c.chunks.self) (has c.chunks.self) c.in-Some.c c.in-Some.chunk
+        c.chunks.invariant.put c.in-Some.ensures.place c.in-Some.ensures.was c.in-Some.ensures.put c.in-Some.ensures.length
 
--- src/replace.rt:58:9
 pub chunks-preserved : goal.chunks-preserved
-chunks-preserved c = ?
+chunks-preserved c = record {
+  put = one-put c.args.chunks c.chunks.left c.pop.new.self c.chunks.self.chunks c.put_chunk.new.self.chunks (has c.args.self.now) (has c.chunks.self) (has c.put_chunk.new.self) c.in-Some.c c.in-Some.chunk
+      c.chunks.invariant.put c.in-Some.ensures.place c.in-Some.ensures.was c.in-Some.ensures.put c.in-Some.ensures.length c.put_chunk.ensures.members c.put_chunk.ensures.others c.put_chunk.ensures.capacity;
+}
 
--- src/replace.rt:52:5
 pub returns : goal.returns
-returns c = ?
+returns c = all-put c.args.chunks c.chunks.left c.chunks.self.chunks (has c.args.self.now) (has c.chunks.self) c.chunks.invariant.put c.in_default.ensures.none
