@@ -1,12 +1,14 @@
 //! Sets whose memory goes by their members.
 #![tactic(auto)]
 
+pub mod assign;
 mod chunk;
-mod group;
 mod gather;
+mod group;
 pub mod laws;
-mod rank;
 mod packed_array;
+pub mod range;
+mod rank;
 mod replace;
 pub mod set;
 mod table;

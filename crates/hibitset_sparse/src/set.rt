@@ -84,8 +84,13 @@ impl SparseBitSet {
     pub fn clear(&mut self)
         ensures { (i : ℕ) → has self.new i ≡ false }
     {
-        let alloc = *self.chunks.items.allocator();
+        let alloc = self.allocator();
         self.chunks = Table::new(alloc);
+    }
+
+    // What the set's memory comes from.
+    pub(crate) fn allocator(&self) -> Global {
+        *self.chunks.items.allocator()
     }
 }
 
