@@ -128,6 +128,7 @@ SOURCES = (
     virtual("bit_set_range", "a range of numbers", "BitSetRange", more="use crate::range::BitSetRange;\n"),
     virtual("bit_set_xor", "a symmetric difference", "BitSetXor", ("A", "B")),
     stored("hibitset", "the sets that keep their words", "BitSet", "set", "word_of"),
+    stored("hibitset_sparse", "sparse sets", "SparseBitSet", "set", "word_of"),
     stored("hibitset_atomic", "atomic sets held alone", "AtomicBitSet", "atomic", "topped_word"),
 )
 

@@ -9,3 +9,4 @@ pub mod SetLemmas
 pub mod ReplaceLemmas
 pub mod ChunksOfLemmas
 pub mod AssignLemmas
+pub mod MemberWordLemmas

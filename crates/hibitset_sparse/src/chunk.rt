@@ -1,5 +1,5 @@
 //! A set of 262,144 indices, as words in three layers.
-ghost use Rattle.std.specs.Prelude.{◌≡◌, ℕ, ◌+◌, ◌*◌, ◌/◌, ◌%◌, ◌^◌, ◌<◌, ◌==◌, ◌||◌, ◌&&◌, not, false, OnOk, OnErr, IfOk};
+ghost use Rattle.std.specs.Prelude.{◌≡◌, ℕ, ◌+◌, ◌*◌, ◌/◌, ◌%◌, ◌^◌, ◌<◌, ◌==◌, ◌||◌, ◌&&◌, not, false, OnOk, OnErr, IfOk, IsOk};
 ghost use Rattle.hibitset_sparse.specs.Table.{AreNonzero};
 
 use crate::rank::is_set;
@@ -58,7 +58,8 @@ impl Chunk {
         }
     }
 
-    /// Adds an index, and returns whether it was there. If an allocation fails, the members stay.
+    /// Adds an index, and returns whether it was there. If an allocation fails, the members stay. It does not allocate
+    /// where one of the 64 indices that share its word is there.
     pub(crate) fn add(&mut self, i: usize) -> Result<bool, AllocError>
         requires { i < INDICES_PER_CHUNK }
         ensures was { IfOk result (λ was. was ≡ has_in self.old i) }
@@ -67,6 +68,7 @@ impl Chunk {
         ensures some { OnOk result (0 < chunk_word self.new 2 0) }
         ensures err { OnErr result ((l p : ℕ) → l < 3
             → chunk_word self.new l p ≡ chunk_word self.old l p) }
+        ensures succeeds { 0 < chunk_word self.old 0 (i / 64) → IsOk result }
     {
         let Some(at) = self.words.position(i / 64) else {
             self.words.insert(i / 64, with_bit(0, i % 64, true))?;

@@ -2,10 +2,12 @@
 #![tactic(auto)]
 
 pub mod assign;
+pub mod build;
 mod chunk;
 mod gather;
 mod group;
 pub mod laws;
+pub mod ops;
 mod packed_array;
 pub mod range;
 mod rank;

@@ -1,7 +1,7 @@
 //! The set that keeps its nonzero words alone.
 #![tactic(auto, unfolding(crate::specs::SparseBitSet::has, crate::specs::SparseBitSet::word_of))]
 
-ghost use Rattle.std.specs.Prelude.{◌≡◌, ℕ, ◌+◌, ◌*◌, ◌/◌, ◌%◌, ◌^◌, ◌<◌, ◌==◌, ◌||◌, ◌&&◌, not, Bool, false, OnOk, OnErr, IfOk};
+ghost use Rattle.std.specs.Prelude.{◌≡◌, ℕ, ◌+◌, ◌*◌, ◌/◌, ◌%◌, ◌^◌, ◌<◌, ◌==◌, ◌||◌, ◌&&◌, not, Bool, false, OnOk, OnErr, IfOk, IsOk};
 ghost use Rattle.hibitset_base.specs.Words.{SummariesExactEverywhere};
 ghost use Rattle.hibitset_base.specs.declared.util.TheConstants.{LAYERS, MAX_EID};
 ghost use Rattle.hibitset_sparse.specs.Chunks.{AreFull, word_in};
@@ -23,7 +23,7 @@ pub struct SparseBitSet {
 }
 
 impl SparseBitSet {
-    ghost use Rattle.hibitset_sparse.specs.SparseBitSet.{has};
+    ghost use Rattle.hibitset_sparse.specs.SparseBitSet.{has, word_of};
 
     /// The empty set, which does not allocate until the first `add`.
     pub fn new(alloc: Global) -> SparseBitSet
@@ -34,12 +34,14 @@ impl SparseBitSet {
         }
     }
 
-    /// Adds an index below `MAX_EID`, and returns whether it was there. If an allocation fails, the members stay.
+    /// Adds an index below `MAX_EID`, and returns whether it was there. If an allocation fails, the members stay. It
+    /// does not allocate where one of the 64 indices that share its word is a member.
     pub fn add(&mut self, id: Index) -> Result<bool, AllocError>
         requires { id < MAX_EID }
         ensures was { IfOk result (λ was. was ≡ has self.old id) }
         ensures added { OnOk result ((i : ℕ) → has self.new i ≡ (has self.old i || i == id)) }
         ensures err { OnErr result ((i : ℕ) → has self.new i ≡ has self.old i) }
+        ensures succeeds { 0 < word_of self.old 0 (id / 64) → IsOk result }
     {
         let id = id as usize;
         if let Some(at) = self.chunks.position(id / INDICES_PER_CHUNK) {

@@ -3,8 +3,8 @@ use Rattle.std.specs.Prelude.{if◌then◌else◌}
 use Rattle.std.proofs.lemmas.Option.{slice_get_read}
 use Rattle.std.proofs.Math.ListN.{length-set}
 use Rattle.hibitset_base.specs.Words.{holds_at}
-use Rattle.hibitset_sparse.specs.Chunk.{has_in}
-use Rattle.hibitset_sparse.specs.Chunks.{word_in}
+use Rattle.hibitset_sparse.specs.Chunk.{chunk_word, has_in}
+use Rattle.hibitset_sparse.specs.Chunks.{word_in, word_under}
 use Rattle.hibitset_sparse.specs.Layout.{AreLaidOut, value_of_place}
 use Rattle.hibitset_sparse.specs.Rank.{bit_is_set}
 use Rattle.hibitset_sparse.specs.PackedArray.{value_in}
@@ -14,6 +14,7 @@ use Rattle.hibitset_sparse.specs.declared.chunk.Chunk.{Chunk}
 use Rattle.hibitset_sparse.proofs.ChunkLemmas.{same-value}
 use Rattle.hibitset_sparse.proofs.ExactLemmas.{full-summed}
 use Rattle.hibitset_sparse.proofs.LayoutLemmas.{set-values}
+use Rattle.hibitset_sparse.proofs.MemberWordLemmas.{no-word, word-under}
 use Rattle.hibitset_sparse.proofs.SetLemmas.{full-insert, full-put, has_under, holds-under, if_ok, none-under, on_err, on_err_always, on_ok, place-past, root-kept, set-added, set-same}
 use Rattle.hibitset_sparse.proofs.set.SparseBitSet.add.Goals as goal
 
@@ -80,6 +81,28 @@ returns-in-Some-clause-err c =
     holds-under _ i
     ∙ (set-same (value_at chunks) new id now put old_past new_past c.requires (λ r low. ap (λ w. bit_is_set w (r % 64)) (same 0 (r / 64) (omega arith)) ∙ ap (λ o. has_under o r) (sym is)) i
     ∙ sym (holds-under chunks i)))
+
+pub returns-in-Some-clause-succeeds : goal.returns-in-Some-clause-succeeds
+unfolding word_of
+returns-in-Some-clause-succeeds c = λ some.
+    let chunks = c.args.self.now.chunks in
+    let id : ℕ = c.args.id in
+    let was : Chunk = c.index_mut.result.now in
+    let is : value_at chunks (id / 262144) ≡ Some was = (c.in-Some.ensures.some.1 ∙ slice_get_read chunks.items.items (length chunks.items.items) c.in-Some.at c.index_mut.result.now (omega arith) c.in-Some.ensures.some.0 c.index_mut.ensures.value) in
+    let word : word_in chunks 0 (id / 64) ≡ chunk_word was 0 (id % 262144 / 64) = word-under chunks id ∙ ap (λ o. word_under o 0 (id % 262144 / 64)) is in
+    c.add.ensures.succeeds (omega (arith, word, some))
+
+pub returns-in_err-add-clause-succeeds : goal.returns-in_err-add-clause-succeeds
+unfolding word_of
+returns-in_err-add-clause-succeeds c = λ some.
+    let none = no-word c.args.self.now.chunks c.args.id c.in_default.ensures.none in
+    absurd (omega (arith, none, some))
+
+pub returns-in_err-insert-clause-succeeds : goal.returns-in_err-insert-clause-succeeds
+unfolding word_of
+returns-in_err-insert-clause-succeeds c = λ some.
+    let none = no-word c.args.self.now.chunks c.args.id c.in_default.ensures.none in
+    absurd (omega (arith, none, some))
 
 pub invariant_of-self-2 : goal.invariant_of-self-2
 invariant_of-self-2 c =

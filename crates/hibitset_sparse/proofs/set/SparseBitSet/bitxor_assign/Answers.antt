@@ -10,7 +10,7 @@ returns-clause-members g c = λ i. elim (cases_lt i (2 ^ 30)) [
   | inl low ↦
       c.put_chunks.ensures i low
       ∙ (replaced (λ j. differ (has c.args.self.now j) (g.B.BitSetLike.holds c.args.other.now j)) (g.B.BitSetLike.holds c.args.other.now) (has c.reserve_chunks.new.self) c.in_ok-chunks.chunks c.in_ok-chunks.ensures
-          (λ j small off. one-same (has c.args.self.now j) (g.B.BitSetLike.holds c.args.other.now j) off ∙ sym (c.reserve_chunks.ensures.same j)) i low
+      (λ j small off. one-same (has c.args.self.now j) (g.B.BitSetLike.holds c.args.other.now j) off ∙ sym (c.reserve_chunks.ensures.same j)) i low
       ∙ one-within (has c.args.self.now i) (g.B.BitSetLike.holds c.args.other.now i) i low)
   | inr past ↦ one-past (has c.args.self.now i) (g.B.BitSetLike.holds c.args.other.now i) i (has c.put_chunks.new.self i) past (none-past c.args.self.now i past) (none-past c.put_chunks.new.self i past)
 ]

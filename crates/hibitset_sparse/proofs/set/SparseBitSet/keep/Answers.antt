@@ -15,7 +15,7 @@ returns-in-Ok g c = λ i. elim (cases_lt i (2 ^ 30)) [
   | inl low ↦
       c.put_chunks.ensures i low
       ∙ replaced (λ j. has c.args.self.now j && g.K.BitSetLike.holds c.args.kept.now j) (λ j. has c.args.self.now j && not (g.K.BitSetLike.holds c.args.kept.now j)) (has c.args.self.now) c.in-Ok.chunks (value_ok _ c.args.chunks c.in-Ok.chunks c.in-Ok.is c.requires.made)
-          (λ j small. both-kept (has c.args.self.now j) (g.K.BitSetLike.holds c.args.kept.now j)) i low
+      (λ j small. both-kept (has c.args.self.now j) (g.K.BitSetLike.holds c.args.kept.now j)) i low
   | inr past ↦ both-past (has c.args.self.now i) (has c.put_chunks.new.self i) (g.K.BitSetLike.holds c.args.kept.now i) (none-past c.args.self.now i past) (none-past c.put_chunks.new.self i past)
 ]
 
@@ -23,5 +23,5 @@ pub returns-in-Err : goal.returns-in-Err
 returns-in-Err g c = λ i.
     let old : Bool = has c.args.self.now i in
     kept-alone old (has c.retain.new.self i) (g.K.BitSetLike.holds c.args.kept.now i)
-        (λ on. let low = within-range c.args.self.now i on in search rules)
-        (λ off. c.retain.ensures.others i (no-member (nat_lt i MAX_EID) old off))
+    (λ on. let low = within-range c.args.self.now i on in search rules)
+    (λ off. c.retain.ensures.others i (no-member (nat_lt i MAX_EID) old off))
