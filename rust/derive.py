@@ -18,7 +18,7 @@ from derivation.tokens import Unknown
 
 RUST = Path(__file__).resolve().parent
 CRATES = RUST.parent / "crates"
-LIBRARIES = ("hibitset_base", "hibitset_atomic", "hibitset", "hibitset_store", "hibitset_roaring")
+LIBRARIES = ("hibitset_base", "hibitset_sparse", "hibitset_atomic", "hibitset", "hibitset_store", "hibitset_roaring")
 TESTS = (
     "hibitset_run",
     "hibitset_testing",

@@ -4,4 +4,5 @@ pub mod hibitset;
 pub mod hibitset_atomic;
 pub mod hibitset_base;
 pub mod hibitset_roaring;
+pub mod hibitset_sparse;
 pub mod hibitset_store;

@@ -83,6 +83,28 @@ impl<T> Vec<T> {
         Ok(())
     }
 
+    /// Puts a value before the item at an index, or gives it back with the error.
+    #[inline]
+    pub fn insert(&mut self, index: usize, value: T) -> Result<(), AllocFailed<T>> {
+        if self.0.len() == self.0.capacity() && self.0.try_reserve(1).is_err() {
+            return Err(AllocFailed { value });
+        }
+        self.0.insert(index, value);
+        Ok(())
+    }
+
+    /// Takes the item at an index out, and moves those behind it.
+    #[inline]
+    pub fn remove(&mut self, index: usize) -> T {
+        self.0.remove(index)
+    }
+
+    /// Gives back the capacity that no item uses.
+    #[inline]
+    pub fn shrink_to_fit(&mut self) {
+        self.0.shrink_to_fit();
+    }
+
     /// Puts a value behind the others, for which there is room.
     #[inline]
     pub fn push_reserved(&mut self, value: T) {
@@ -126,6 +148,14 @@ impl<T> Vec<T> {
 }
 
 impl<T: Clone> Vec<T> {
+    /// Copies of values.
+    #[inline]
+    pub fn from_slice(alloc: Global, values: &[T]) -> Result<Vec<T>, AllocError> {
+        let mut list = Vec::with_capacity(alloc, values.len())?;
+        list.0.extend_from_slice(values);
+        Ok(list)
+    }
+
     /// Appends copies of values.
     #[inline]
     pub fn extend_from_slice(&mut self, values: &[T]) -> Result<(), AllocError> {

@@ -1,0 +1,115 @@
+// Derived from crates/hibitset_sparse/src/assign.rt by rust/derive.py, and never edited by hand.
+
+//! Assignments: a set put together with any other.
+
+use crate::support::rattle_std::prelude::*;
+
+use crate::derived::hibitset_sparse::chunk::Chunk;
+use crate::derived::hibitset_sparse::gather::chunks_of;
+use crate::derived::hibitset_sparse::set::SparseBitSet;
+use crate::derived::hibitset_sparse::table::Table;
+use crate::derived::hibitset_base::like::{BitSetLike, DrainableBitSet};
+use crate::derived::hibitset_base::virt::{BitSetAnd, BitSetNot, BitSetOr, BitSetXor};
+use crate::support::rattle_std::alloc::{AllocError, Global};
+use crate::support::rattle_std::ops::{BitAndAssign, SubAssign};
+
+impl SparseBitSet {
+    /// A set of the members of any other below `MAX_EID`. It goes through the words of the other once, and allocates
+    /// for the chunks in which the other has members.
+    ///
+    /// # Contract
+    ///
+    /// ```text
+    /// ensures { IfOk result (λ set. (i : ℕ) → has set i ≡ is_member (B.holds other.now) i) }
+    /// ```
+    pub fn from_set<B: BitSetLike>(alloc: Global, other: &B) -> Result<SparseBitSet, AllocError> {
+        let mut set = SparseBitSet::new(alloc);
+        set.bitor_assign(other)?;
+        Ok(set)
+    }
+
+    /// Adds the members of any other set. If an allocation fails, the members stay.
+    ///
+    /// Only chunks in which the other has members are made anew, each beside its old form; the others stay where they
+    /// are.
+    ///
+    /// # Contract
+    ///
+    /// ```text
+    /// ensures members { OnOk result (IsUnion (has self.old) (is_member (B.holds other.now))
+    ///     (has self.new)) }
+    /// ensures err { OnErr result ((i : ℕ) → has self.new i ≡ has self.old i) }
+    /// ```
+    pub fn bitor_assign<B: BitSetLike>(&mut self, other: &B) -> Result<(), AllocError> {
+        let alloc = self.allocator();
+        let chunks = chunks_of(alloc, &BitSetOr(&*self, other), other)?;
+        self.reserve_chunks(chunks.items.len())?;
+        self.put_chunks(chunks);
+        Ok(())
+    }
+
+    /// Adds the members of any other set that were not there, and takes out those that were. If an allocation fails,
+    /// the members stay.
+    ///
+    /// Only chunks in which the other has members are made anew, each beside its old form; the others stay where they
+    /// are.
+    ///
+    /// # Contract
+    ///
+    /// ```text
+    /// ensures members { OnOk result (IsSymmetricDifference (has self.old)
+    ///     (is_member (B.holds other.now)) (has self.new)) }
+    /// ensures err { OnErr result ((i : ℕ) → has self.new i ≡ has self.old i) }
+    /// ```
+    pub fn bitxor_assign<B: BitSetLike>(&mut self, other: &B) -> Result<(), AllocError> {
+        let alloc = self.allocator();
+        let chunks = chunks_of(alloc, &BitSetXor(&*self, other), other)?;
+        self.reserve_chunks(chunks.items.len())?;
+        self.put_chunks(chunks);
+        Ok(())
+    }
+
+    /// Takes out the members that are in the other set. It can't fail.
+    ///
+    /// Chunks in which both have members are made anew, beside their old forms. Where an allocation fails, members are
+    /// taken out one by one.
+    ///
+    /// # Contract
+    ///
+    /// ```text
+    /// ensures { IsDifference (has self.old) (B.holds other.now) (has self.new) }
+    /// ```
+    pub fn subtract_assign<B: BitSetLike>(&mut self, other: &B) {
+        let kept = BitSetNot(other);
+        let alloc = self.allocator();
+        let chunks = chunks_of(alloc, &BitSetAnd(&*self, &kept), &BitSetAnd(&*self, other));
+        self.keep(chunks, &kept);
+    }
+
+    // Takes out what is not in another set: puts chunks in the place of the set's own that have what is in both, or goes
+    // one by one where there was no memory for them.
+    fn keep<K: BitSetLike>(&mut self, chunks: Result<Table<Chunk>, AllocError>, kept: &K) {
+        match chunks {
+            Ok(chunks) => self.put_chunks(chunks),
+            Err(_) => self.retain(|i| kept.contains(i)),
+        }
+    }
+}
+
+/// Takes out the members that are not in the other set. It can't fail.
+///
+/// All chunks are made anew, beside their old forms. Where an allocation fails, members are taken out one by one.
+impl<B: BitSetLike> BitAndAssign<&B> for SparseBitSet {
+    fn bitand_assign(&mut self, other: &B) {
+        let alloc = self.allocator();
+        let chunks = chunks_of(alloc, &BitSetAnd(&*self, other), &*self);
+        self.keep(chunks, other);
+    }
+}
+
+/// Takes out the members that are in the other set, as `subtract_assign` does. It can't fail.
+impl<B: BitSetLike> SubAssign<&B> for SparseBitSet {
+    fn sub_assign(&mut self, other: &B) {
+        self.subtract_assign(other);
+    }
+}

@@ -1,0 +1,23 @@
+// Derived from crates/hibitset_sparse/src/lib.rt by rust/derive.py, and never edited by hand.
+
+//! Sets whose memory goes by their members.
+
+use crate::support::rattle_std::prelude::*;
+
+pub mod assign;
+pub mod build;
+mod chunk;
+mod gather;
+mod group;
+pub mod laws;
+pub mod ops;
+mod packed_array;
+pub mod range;
+mod rank;
+mod replace;
+pub mod set;
+mod table;
+#[cfg(test)]
+mod tests;
+
+pub use set::SparseBitSet;

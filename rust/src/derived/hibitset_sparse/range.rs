@@ -1,0 +1,53 @@
+// Derived from crates/hibitset_sparse/src/range.rt by rust/derive.py, and never edited by hand.
+
+//! Ranges of indices, added, taken out and flipped by whole words.
+
+use crate::support::rattle_std::prelude::*;
+
+use crate::derived::hibitset_sparse::set::SparseBitSet;
+use crate::derived::hibitset_base::range::BitSetRange;
+use crate::derived::hibitset_base::util::{Index, MAX_EID};
+use crate::support::rattle_std::alloc::AllocError;
+
+impl SparseBitSet {
+    /// Adds the indices from `start` on before `end`, which is at most `MAX_EID`. Where `end` is not above `start` there
+    /// is nothing to add. If an allocation fails, the members stay. A range of n indices takes n / 7 bytes at most.
+    ///
+    /// # Contract
+    ///
+    /// ```text
+    /// requires { end ≤ MAX_EID }
+    /// ensures added { OnOk result ((i : ℕ)
+    ///     → has self.new i ≡ (has self.old i || in_range start end i)) }
+    /// ensures err { OnErr result ((i : ℕ) → has self.new i ≡ has self.old i) }
+    /// ```
+    pub fn add_range(&mut self, start: Index, end: Index) -> Result<(), AllocError> {
+        self.bitor_assign(&BitSetRange { start, end })
+    }
+
+    /// Takes the indices from `start` on before `end` out, for any two numbers. It can't fail.
+    ///
+    /// # Contract
+    ///
+    /// ```text
+    /// ensures { (i : ℕ) → has self.new i ≡ (has self.old i && not (in_range start end i)) }
+    /// ```
+    pub fn remove_range(&mut self, start: Index, end: Index) {
+        self.subtract_assign(&BitSetRange { start, end });
+    }
+
+    /// Flips the indices from `start` on before `end`, which is at most `MAX_EID`: those in the set are taken out, and
+    /// the others are added. If an allocation fails, the members stay.
+    ///
+    /// # Contract
+    ///
+    /// ```text
+    /// requires { end ≤ MAX_EID }
+    /// ensures flipped { OnOk result ((i : ℕ)
+    ///     → has self.new i ≡ differ (has self.old i) (in_range start end i)) }
+    /// ensures err { OnErr result ((i : ℕ) → has self.new i ≡ has self.old i) }
+    /// ```
+    pub fn flip_range(&mut self, start: Index, end: Index) -> Result<(), AllocError> {
+        self.bitxor_assign(&BitSetRange { start, end })
+    }
+}
