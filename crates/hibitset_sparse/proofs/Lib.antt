@@ -8,3 +8,5 @@ pub mod ChunkLemmas
 pub mod SetLemmas
 pub mod ReplaceLemmas
 pub mod ChunksOfLemmas
+pub mod CopyLemmas
+pub mod CompareLemmas

@@ -5,4 +5,5 @@ pub mod Table
 pub mod Chunk
 pub mod Chunks
 pub mod Replacement
+pub mod Copy
 pub mod SparseBitSet

@@ -2,13 +2,16 @@
 #![tactic(auto)]
 
 mod chunk;
-mod group;
+mod compare;
+mod copy;
 mod gather;
+mod group;
 pub mod laws;
-mod rank;
 mod packed_array;
+mod rank;
 mod replace;
 pub mod set;
+mod shrink;
 mod table;
 #[cfg(test)]
 mod tests;
