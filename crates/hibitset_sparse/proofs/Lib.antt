@@ -10,3 +10,5 @@ pub mod ReplaceLemmas
 pub mod ChunksOfLemmas
 pub mod AssignLemmas
 pub mod MemberWordLemmas
+pub mod CopyLemmas
+pub mod CompareLemmas

@@ -5,5 +5,6 @@ pub mod Table
 pub mod Chunk
 pub mod Chunks
 pub mod Replacement
+pub mod Copy
 pub mod SparseBitSet
 pub mod Extension
