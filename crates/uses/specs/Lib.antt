@@ -8,3 +8,5 @@ pub mod Ready
 pub mod Weights
 pub mod Workers
 pub mod Nested
+pub mod Seen
+pub mod Marks

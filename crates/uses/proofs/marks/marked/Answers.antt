@@ -1,0 +1,14 @@
+use Rattle.std.proofs.Common.{◌≤◌, arith}
+use Rattle.hibitset.specs.BitSet.{word_of}
+use Rattle.hibitset_sparse.specs.SparseBitSet.{has as is_marked, word_of as marked_word}
+use Rattle.uses.proofs.marks.marked.Goals as goal
+
+pub returns-clause-few : goal.returns-clause-few
+returns-clause-few c =
+    let x = c.bitand.result.0.now in
+    let y = c.bitand.result.1.now in
+    let starts = c.into_iter.ensures.into_iter_gives in
+    let within = c.sparse_laws.ensures.beside x (word_of y) in
+    let few = (starts.bound (is_marked x) (marked_word x) within).few in
+    let here = rw (c.bitand.ensures.0, c.bitand.ensures.1) at few in
+    omega (arith, here, starts.read)
