@@ -8,3 +8,4 @@ pub mod ChunkLemmas
 pub mod SetLemmas
 pub mod ReplaceLemmas
 pub mod ChunksOfLemmas
+pub mod WalkLemmas

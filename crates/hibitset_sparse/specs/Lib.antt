@@ -6,3 +6,4 @@ pub mod Chunk
 pub mod Chunks
 pub mod Replacement
 pub mod SparseBitSet
+pub mod Walk

@@ -10,7 +10,10 @@ mod packed_array;
 mod replace;
 pub mod set;
 mod table;
+mod table_iter;
 #[cfg(test)]
 mod tests;
+pub mod walk;
 
 pub use set::SparseBitSet;
+pub use walk::SparseIter;
