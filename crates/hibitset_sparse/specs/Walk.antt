@@ -1,6 +1,6 @@
 -- What a contract sees of a walk over a table, and of one over a set.
 use Rattle.std.specs.Prelude.{ℕ, ◌+◌, ◌*◌, List, [], ◌∷◌, ◌++◌, length}
-use Rattle.std.specs.List.{flat_map, sum_by, zip}
+use Rattle.std.specs.List.{flat_map, zip}
 use Rattle.hibitset_base.specs.Places.{bits_from}
 use Rattle.hibitset_sparse.specs.declared.group.Group.{Group}
 use Rattle.hibitset_sparse.specs.declared.table.Table.{Table}
@@ -45,7 +45,7 @@ members_left walk = in_words walk.base (entries_left walk.words) ++ in_chunks (e
 
 -- how many words a walk has left
 unfoldable pub words_ahead : WordIter → ℕ
-words_ahead walk = length (entries_left walk.words) + sum_by (λ (e : ℕ × Chunk). length (entries_of (e.1).words)) (entries_left walk.chunks)
+words_ahead walk = length (entries_left walk.words ++ flat_map (λ (e : ℕ × Chunk). entries_of (e.1).words) (entries_left walk.chunks))
 
 -- the members that a walk has left to give, ascending
 unfoldable pub items_left : SparseIter → List ℕ

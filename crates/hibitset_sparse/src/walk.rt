@@ -50,7 +50,9 @@ impl<'a> WordIter<'a> {
             if let Some((place, word)) = self.words.next() {
                 return Some((self.base + 64 * place, *word));
             }
-            let (place, chunk) = self.chunks.next()?;
+            let Some((place, chunk)) = self.chunks.next() else {
+                return None;
+            };
             self.base = INDICES_PER_CHUNK * place;
             self.words = TableIter::new(&chunk.words);
         }
@@ -95,7 +97,9 @@ impl<'a> Iterator for SparseIter<'a> {
     #[inline]
     fn next(&mut self) -> Option<Index> {
         'words: while self.word == 0 {
-            let (first, word) = self.words.next()?;
+            let Some((first, word)) = self.words.next() else {
+                return None;
+            };
             self.first = first;
             self.word = word;
         }
