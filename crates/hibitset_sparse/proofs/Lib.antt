@@ -9,3 +9,5 @@ pub mod SetLemmas
 pub mod ReplaceLemmas
 pub mod ChunksOfLemmas
 pub mod WalkLemmas
+pub mod EntryLemmas
+pub mod MembersOfLemmas

@@ -8,6 +8,7 @@ ghost use Rattle.hibitset_sparse.specs.Chunks.{AreFull, word_in};
 
 use crate::chunk::{Chunk, INDICES_PER_CHUNK};
 use crate::table::{PLACES_PER_TABLE, Table};
+use crate::walk::SparseIter;
 use hibitset_base::like::{BitSetLike, DrainableBitSet};
 use hibitset_base::util::{Index, LAYERS, MAX_EID};
 use std::alloc::{AllocError, Global};
@@ -23,7 +24,12 @@ pub struct SparseBitSet {
 }
 
 impl SparseBitSet {
+    ghost use Rattle.std.specs.Prelude.{◌≤◌, length};
+    ghost use Rattle.std.specs.Iterator.{YieldsFirst};
+    ghost use Rattle.std.specs.Iterator.Runs.{YieldsInOrder};
+    ghost use Rattle.hibitset_base.specs.Members.{members_below};
     ghost use Rattle.hibitset_sparse.specs.SparseBitSet.{has};
+    ghost use Rattle.hibitset_sparse.specs.Walk.{items_left};
 
     /// The empty set, which does not allocate until the first `add`.
     pub fn new(alloc: Global) -> SparseBitSet
@@ -78,6 +84,19 @@ impl SparseBitSet {
     {
         let id = id as usize;
         self.layer0(id / 64) >> (id % 64) & 1 == 1
+    }
+
+    /// A walk over the members, in ascending order.
+    ///
+    /// It goes along the stored words, and looks none up: it reads each of them once, 8 bytes, and 16 bytes more for
+    /// each run of 4,096 indices that has members. The walk itself takes 144 bytes, and does not allocate.
+    #[inline]
+    pub fn iter(&self) -> SparseIter<'_>
+        ensures items { items_left result ≡ members_below MAX_EID (has self.now) }
+        ensures runs { YieldsInOrder (YieldsFirst items_left) items_left }
+        ensures fits { length (items_left result) ≤ MAX_EID }
+    {
+        SparseIter::new(&self.chunks)
     }
 
     /// Takes all members out, and gives the memory back.
