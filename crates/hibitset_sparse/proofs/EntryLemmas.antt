@@ -168,3 +168,27 @@ module _ {X : Type 0} where
       → flat_map f (entries_of table) ≡ members p s (4096 * size)
   table-blocks table f p s size each =
       rw (places-are table) (blocks (is_taken table) (before_place table) (value_at table) table.items.items 4096 (table-order table) f p s size each)
+
+module _ {X : Type 0} (test : ℕ → Bool) (pos : ℕ → ℕ) (value : ℕ → Option X) (xs : List X) (n : ℕ) (order : AreInOrder test pos value xs n) where
+  taken-from : (a k : ℕ) → a + k ≡ n → pos a + length (members test a k) ≡ pos n
+  unfolding members
+  taken-from a zero all = let e : a ≡ n = omega arith in ap (λ k. pos k + 0) e ∙ omega arith
+  taken-from a (suc k) all =
+      let one : a + 1 ≡ suc a = omega arith in
+      let rest = taken-from (suc a) k (omega arith) in
+      elim (cases_Bool (test a)) [
+        | inl on ↦ let step : pos (suc a) ≡ pos a + 1 = ap pos (sym one) ∙ order.after_some a (omega arith) on in rw on (omega (arith, step, rest))
+        | inr off ↦ let step : pos (suc a) ≡ pos a = ap pos (sym one) ∙ order.after_none a (omega arith) off in rw off (omega (arith, step, rest))
+      ]
+
+  taken-count : length (members test 0 n) ≡ pos n
+  taken-count = let all = taken-from 0 n (omega arith) in let begins = order.begins in omega (arith, all, begins)
+
+module _ {X : Type 0} where
+  -- each value has its place
+  pub places-count : (table : Table X) → length (places_of_groups (bits_from 0 table.groups.word) table.groups.items.items) ≡ length table.items.items
+  places-count table =
+      let taken = taken-count (is_taken table) (before_place table) (value_at table) table.items.items 4096 (table-order table) in
+      let last = rank-none (group_word table 64) in
+      let all = table.laid_out.all in
+      rw (places-are table) (omega (arith, taken, last, all))

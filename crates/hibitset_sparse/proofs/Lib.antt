@@ -11,3 +11,4 @@ pub mod ChunksOfLemmas
 pub mod WalkLemmas
 pub mod EntryLemmas
 pub mod MembersOfLemmas
+pub mod CountLemmas

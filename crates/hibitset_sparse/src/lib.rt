@@ -1,6 +1,7 @@
 //! Sets whose memory goes by their members.
 #![tactic(auto)]
 
+mod bulk;
 mod chunk;
 mod group;
 mod gather;

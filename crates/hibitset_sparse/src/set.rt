@@ -6,6 +6,7 @@ ghost use Rattle.hibitset_base.specs.Words.{SummariesExactEverywhere};
 ghost use Rattle.hibitset_base.specs.declared.util.TheConstants.{LAYERS, MAX_EID};
 ghost use Rattle.hibitset_sparse.specs.Chunks.{AreFull, word_in};
 
+use crate::bulk::{count_members, list_members};
 use crate::chunk::{Chunk, INDICES_PER_CHUNK};
 use crate::table::{PLACES_PER_TABLE, Table};
 use crate::walk::SparseIter;
@@ -97,6 +98,21 @@ impl SparseBitSet {
         ensures fits { length (items_left result) ≤ MAX_EID }
     {
         SparseIter::new(&self.chunks)
+    }
+
+    /// The members, in ascending order. It reads each stored word twice, once to count its members and once to list
+    /// them, and allocates once, for all of them.
+    pub fn to_vec(&self, alloc: Global) -> Result<Vec<Index>, AllocError>
+        ensures { IfOk result (λ v. v.items ≡ members_below MAX_EID (has self.now)) }
+    {
+        list_members(&self.chunks, alloc)
+    }
+
+    /// How many members there are. It reads each stored word once, 8 bytes.
+    pub fn len(&self) -> usize
+        ensures { result ≡ length (members_below MAX_EID (has self.now)) }
+    {
+        count_members(&self.chunks)
     }
 
     /// Takes all members out, and gives the memory back.

@@ -1,7 +1,7 @@
 //! Walks over the members of a set, in ascending order.
 #![tactic(auto, unfolding(crate::specs::Walk::items_left))]
 
-ghost use Rattle.std.specs.Prelude.{◌≡◌, ℕ, ◌+◌, ◌<◌, ◌≤◌, ◌++◌, [], length, MatchOption, IfSome, IfOk};
+ghost use Rattle.std.specs.Prelude.{◌≡◌, ℕ, ◌+◌, ◌^◌, ◌<◌, ◌≤◌, ◌++◌, [], length, MatchOption, IfSome, IfOk};
 ghost use Rattle.std.specs.Iterator.{YieldsFirst, item_count};
 ghost use Rattle.hibitset_base.specs.Places.{bits_from};
 ghost use Rattle.hibitset_base.specs.declared.util.TheConstants.{MAX_EID};
@@ -44,6 +44,7 @@ impl<'a> WordIter<'a> {
         ensures goes { MatchOption result ((members_left self.old ≡ []) × (members_left self.new ≡ []))
             (λ found. members_left self.old ≡ bits_from found.0 found.1 ++ members_left self.new) }
         ensures within { IfSome result (λ found. found.0 + 64 ≤ MAX_EID) }
+        ensures word { IfSome result (λ found. found.1 < 2 ^ 64) }
         ensures fewer { IfSome result (λ found. words_ahead self.new < words_ahead self.old) }
     {
         'chunks: loop {
