@@ -1,5 +1,5 @@
 -- What a contract sees of a walk over a table, and of one over a set.
-use Rattle.std.specs.Prelude.{ℕ, ◌+◌, ◌*◌, List, [], ◌∷◌, ◌++◌, length}
+use Rattle.std.specs.Prelude.{ℕ, ◌+◌, ◌*◌, List, ◌++◌, length}
 use Rattle.std.specs.List.{flat_map, zip}
 use Rattle.hibitset_base.specs.Places.{bits_from}
 use Rattle.hibitset_sparse.specs.declared.group.Group.{Group}

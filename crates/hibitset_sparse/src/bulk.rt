@@ -52,10 +52,7 @@ fn push_bits(list: &mut Vec<Index>, first: usize, word: usize)
 }
 
 /// The members in the chunks, in ascending order, in memory that was allocated at once for all of them.
-pub(crate) fn list_members(
-    chunks: &Table<Chunk>,
-    alloc: Global,
-) -> Result<Vec<Index>, AllocError>
+pub(crate) fn list_members(chunks: &Table<Chunk>, alloc: Global) -> Result<Vec<Index>, AllocError>
     ensures { IfOk result (λ v. v.items ≡ members_of chunks.now) }
 {
     let mut list = Vec::with_capacity(alloc, count_members(chunks))?;

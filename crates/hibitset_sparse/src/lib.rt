@@ -3,11 +3,11 @@
 
 mod bulk;
 mod chunk;
-mod group;
 mod gather;
+mod group;
 pub mod laws;
-mod rank;
 mod packed_array;
+mod rank;
 mod replace;
 pub mod set;
 mod table;

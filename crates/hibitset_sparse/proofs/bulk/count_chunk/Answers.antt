@@ -1,5 +1,4 @@
-use Rattle.std.proofs.Common.{◌≡◌, ◌+◌, ◌*◌, ◌^◌, ◌<◌, ◌≤◌, get_or, length, ap, arith, sym, ◌∙◌}
-use Rattle.std.specs.Int.RustNames.{count_ones}
+use Rattle.std.proofs.Common.{◌≡◌, ◌^◌, ◌<◌, ◌≤◌, get_or, length, ap, arith, sym}
 use Rattle.hibitset_base.specs.Places.{bits_from}
 use Rattle.hibitset_base.proofs.OneCountLemmas.{few_ones}
 use Rattle.hibitset_sparse.specs.PackedArray.{value_in}

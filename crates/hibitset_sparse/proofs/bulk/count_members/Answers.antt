@@ -1,4 +1,4 @@
-use Rattle.std.proofs.Common.{◌≡◌, ◌+◌, ◌*◌, ◌<◌, ◌≤◌, get_or, length, ap, arith, refl, sym, ◌∙◌}
+use Rattle.std.proofs.Common.{◌≡◌, ◌<◌, ◌≤◌, get_or, length, ap, arith, ◌∙◌}
 use Rattle.hibitset_base.specs.Places.{bits_from}
 use Rattle.hibitset_sparse.specs.PackedArray.{value_in}
 use Rattle.hibitset_sparse.specs.Walk.{in_chunks, members_of, places_of_groups}

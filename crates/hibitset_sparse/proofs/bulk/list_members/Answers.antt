@@ -1,7 +1,7 @@
-use Rattle.std.proofs.Common.{◌≡◌, ◌+◌, ◌^◌, ◌<◌, ◌++◌, length, ap, arith, sym, ◌∙◌, length-append}
+use Rattle.std.proofs.Common.{length, ap, arith, sym, ◌∙◌, length-append}
 use Rattle.hibitset_base.specs.Places.{bits_from}
 use Rattle.hibitset_base.proofs.OneCountLemmas.{bits-count}
-use Rattle.hibitset_sparse.specs.Walk.{members_left, members_of}
+use Rattle.hibitset_sparse.specs.Walk.{members_left}
 use Rattle.hibitset_sparse.proofs.bulk.list_members.Goals as goal
 
 pub push_bits-requires-clause-room : goal.push_bits-requires-clause-room

@@ -1,4 +1,4 @@
-use Rattle.std.proofs.Common.{◌≡◌, ◌+◌, ◌≤◌, ◌++◌, length}
+use Rattle.std.proofs.Common.{◌≡◌, ◌≤◌, ◌++◌, length}
 use Rattle.std.specs.Vec.{vec_capacity}
 use Rattle.hibitset_sparse.specs.Walk.{members_left, members_of, words_ahead}
 use Rattle.hibitset_sparse.proofs.bulk.list_members.Given as goal

@@ -1,5 +1,4 @@
-use Rattle.std.proofs.Common.{◌≡◌, ◌+◌, ◌^◌, ◌<◌, ◌++◌, ◌∷◌, [], length, ap, arith, refl, sym, ◌∙◌, append_assoc, append-nil, length-append}
-use Rattle.std.specs.Int.RustNames.{count_ones}
+use Rattle.std.proofs.Common.{◌≡◌, ◌+◌, ◌++◌, ◌∷◌, [], length, ap, arith, sym, ◌∙◌, append_assoc, append-nil, length-append}
 use Rattle.hibitset_base.specs.Places.{bits_from}
 use Rattle.hibitset_base.proofs.OneCountLemmas.{bits-count, some_ones}
 use Rattle.hibitset_base.proofs.PlaceLemmas.{bits-none}

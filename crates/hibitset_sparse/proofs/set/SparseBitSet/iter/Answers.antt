@@ -1,4 +1,4 @@
-use Rattle.std.proofs.Common.{◌≡◌, ◌∙◌, ap, length, arith}
+use Rattle.std.proofs.Common.{◌∙◌, ap, length}
 use Rattle.std.proofs.iter.runs.Sources.{as_is, from_front}
 use Rattle.std.specs.Iterator.{YieldsFirst}
 use Rattle.hibitset_base.proofs.RunLemmas.{few_items}

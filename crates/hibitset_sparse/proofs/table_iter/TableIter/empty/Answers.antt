@@ -1,4 +1,3 @@
-use Rattle.std.proofs.Common.{ap, refl, sym, ◌∙◌}
 use Rattle.hibitset_sparse.specs.Walk.{entries_left}
 use Rattle.hibitset_sparse.proofs.WalkLemmas.{zip-none}
 use Rattle.hibitset_sparse.proofs.table_iter.TableIter.empty.Goals as goal

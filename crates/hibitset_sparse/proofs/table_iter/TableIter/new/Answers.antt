@@ -1,4 +1,4 @@
-use Rattle.std.proofs.Common.{ap, refl, sym, ◌∙◌}
+use Rattle.std.proofs.Common.{refl}
 use Rattle.hibitset_sparse.specs.Walk.{entries_left}
 use Rattle.hibitset_sparse.proofs.WalkLemmas.{group-over}
 use Rattle.hibitset_sparse.proofs.table_iter.TableIter.new.Goals as goal

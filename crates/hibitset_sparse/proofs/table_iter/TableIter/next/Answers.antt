@@ -1,4 +1,4 @@
-use Rattle.std.proofs.Common.{◌≡◌, ℕ, [], ◌∷◌, ◌∙◌, sym, arith}
+use Rattle.std.proofs.Common.{◌≡◌, [], ◌∙◌, sym}
 use Rattle.std.proofs.lemmas.List.{nil_from_length}
 use Rattle.hibitset_sparse.specs.Walk.{entries_left, places_left}
 use Rattle.hibitset_sparse.proofs.WalkLemmas.{group-over, group-next, groups-over, groups-done, none-left, place-next, zip-none}

@@ -1,4 +1,4 @@
-use Rattle.std.proofs.Common.{◌≡◌, ℕ, length}
+use Rattle.std.proofs.Common.{◌≡◌}
 use Rattle.hibitset_sparse.specs.Walk.{places_left}
 use Rattle.hibitset_sparse.proofs.table_iter.TableIter.next.Given as goal
 

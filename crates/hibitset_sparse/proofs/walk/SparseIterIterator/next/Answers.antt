@@ -1,5 +1,4 @@
-use Rattle.std.proofs.Common.{◌≡◌, ◌∙◌, ◌++◌, sym, ap}
-use Rattle.hibitset_base.specs.Places.{bits_from}
+use Rattle.std.proofs.Common.{◌∙◌, sym}
 use Rattle.hibitset_sparse.specs.Walk.{items_left, members_left}
 use Rattle.hibitset_sparse.proofs.WalkLemmas.{group-over}
 use Rattle.hibitset_sparse.proofs.walk.SparseIterIterator.next.Goals as goal

@@ -1,4 +1,4 @@
-use Rattle.std.proofs.Common.{◌≡◌, ◌<◌, ◌∙◌, sym, arith}
+use Rattle.std.proofs.Common.{◌∙◌, sym}
 use Rattle.hibitset_sparse.specs.Walk.{entries_left, members_left, words_ahead}
 use Rattle.hibitset_sparse.proofs.WalkLemmas.{chunk-next, word-less, word-next, words-done, words-same}
 use Rattle.hibitset_sparse.proofs.walk.WordIter.next.Goals as goal
