@@ -7,3 +7,4 @@ pub mod Chunks
 pub mod Replacement
 pub mod SparseBitSet
 pub mod Walk
+pub mod WholeWalk

@@ -89,8 +89,9 @@ impl SparseBitSet {
 
     /// A walk over the members, in ascending order.
     ///
-    /// It goes along the stored words, and looks none up: it reads each of them once, 8 bytes, and 16 bytes more for
-    /// each run of 4,096 indices that has members. The walk itself takes 144 bytes, and does not allocate.
+    /// It goes along the stored words and looks none up. It reads 8 bytes for each nonzero word, 16 more for each run
+    /// of 4,096 indices with members, and a table's head for each of 262,144. The walk itself takes 136 bytes, and does
+    /// not allocate.
     #[inline]
     pub fn iter(&self) -> SparseIter<'_>
         ensures items { items_left result ≡ members_below MAX_EID (has self.now) }
@@ -201,6 +202,22 @@ impl DrainableBitSet for SparseBitSet {
     #[inline]
     fn remove(&mut self, i: Index) -> bool {
         SparseBitSet::remove(self, i)
+    }
+}
+
+/// The members, in ascending order, as `SparseBitSet::iter` gives them.
+impl<'a> IntoIterator for &'a SparseBitSet {
+    type Item = Index;
+
+    type IntoIter = SparseIter<'a>;
+
+    ghost use Rattle.hibitset_sparse.specs.WholeWalk.{GivesMembers};
+
+    ghost into_iter_gives = { λ set walk. GivesMembers set.now walk };
+
+    #[inline]
+    fn into_iter(self) -> SparseIter<'a> {
+        self.iter()
     }
 }
 
