@@ -64,7 +64,7 @@ OWN_WORDS = "⟦<Self as BitSetLike>⟧.holds\n        ⟦<Self as BitSetLike>�
 
 @dataclass
 class Operand:
-    """A type, or a reference to it: its members in a fact, and what a walk over it begins with."""
+    """A type, or a reference to it: its members in a fact, and what a walk over it begins with, if it is the generic one."""
 
     type: str
     generics: tuple
@@ -99,8 +99,8 @@ def virtual(file, about, type_name, generics=(), more="", listed="BitSetAnd, Bit
     return Source(f"hibitset_base/src/ops/{file}.rt", f"//! Operators over {about}.", uses, owned, reference)
 
 
-def stored(crate, about, type_name, module, words):
-    """The file of a set that keeps its words."""
+def stored(crate, about, type_name, module, words, own_walk=False):
+    """The file of a set that keeps its words; one with a walk of its own gives that of a reference elsewhere."""
     lines = (
         f"//! Operators over {about}:",
         "//! `!`, `&`, `|`, `^` and `-` make a virtual set of their operands, and `into_iter` a walk.",
@@ -117,6 +117,8 @@ def stored(crate, about, type_name, module, words):
     )
     owned = Operand(type_name, (), "(has set)", f"has {words}", f"BitIter<{type_name}>")
     reference = Operand(f"&'a {type_name}", ("'a",), "(has set.now)", f"(λ set. has set.now) (λ set. {words} set.now)")
+    if own_walk:
+        reference.walk = None
     return Source(f"{crate}/src/ops.rt", "\n".join(lines), "\n".join(uses), owned, reference)
 
 
@@ -128,7 +130,7 @@ SOURCES = (
     virtual("bit_set_range", "a range of numbers", "BitSetRange", more="use crate::range::BitSetRange;\n"),
     virtual("bit_set_xor", "a symmetric difference", "BitSetXor", ("A", "B")),
     stored("hibitset", "the sets that keep their words", "BitSet", "set", "word_of"),
-    stored("hibitset_sparse", "sparse sets", "SparseBitSet", "set", "word_of"),
+    stored("hibitset_sparse", "sparse sets", "SparseBitSet", "set", "word_of", own_walk=True),
     stored("hibitset_atomic", "atomic sets held alone", "AtomicBitSet", "atomic", "topped_word"),
 )
 
@@ -156,8 +158,10 @@ def binary(operand, trait, name, word, output, body, other):
 
 def impls(operand):
     """All impls of an operand."""
-    walk = WALK.substitute(generics=operand.impl(), type=operand.type, walk=operand.walk, start=operand.start)
-    return complement(operand) + "".join(binary(operand, *row) for row in BINARY) + walk
+    said = complement(operand) + "".join(binary(operand, *row) for row in BINARY)
+    if operand.walk is None:
+        return said
+    return said + WALK.substitute(generics=operand.impl(), type=operand.type, walk=operand.walk, start=operand.start)
 
 
 def text(source):

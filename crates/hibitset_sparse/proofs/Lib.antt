@@ -12,3 +12,7 @@ pub mod AssignLemmas
 pub mod MemberWordLemmas
 pub mod CopyLemmas
 pub mod CompareLemmas
+pub mod WalkLemmas
+pub mod EntryLemmas
+pub mod MembersOfLemmas
+pub mod CountLemmas

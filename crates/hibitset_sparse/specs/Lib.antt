@@ -8,3 +8,5 @@ pub mod Replacement
 pub mod Copy
 pub mod SparseBitSet
 pub mod Extension
+pub mod Walk
+pub mod WholeWalk

@@ -28,6 +28,7 @@
 
 pub mod assign;
 pub mod build;
+mod bulk;
 mod chunk;
 mod compare;
 mod copy;
@@ -42,7 +43,10 @@ mod replace;
 pub mod set;
 mod shrink;
 mod table;
+mod table_iter;
 #[cfg(test)]
 mod tests;
+pub mod walk;
 
 pub use set::SparseBitSet;
+pub use walk::SparseIter;

@@ -151,16 +151,3 @@ impl<'a, T: BitSetLike> Sub<T> for &'a SparseBitSet {
         BitSetAnd(self, BitSetNot(rhs))
     }
 }
-
-impl<'a> IntoIterator for &'a SparseBitSet {
-    type Item = Index;
-
-    type IntoIter = BitIter<Self>;
-
-    ghost into_iter_gives = { StartsAtTop (λ set. has set.now) (λ set. word_of set.now) };
-
-    #[inline]
-    fn into_iter(self) -> BitIter<Self> {
-        self.iter()
-    }
-}
