@@ -1,5 +1,6 @@
 -- A set's members, once chunks that were made for it have taken the place of its own.
 use Rattle.std.proofs.Common.{◌≡◌, ℕ, ◌+◌, ◌*◌, ◌/◌, ◌%◌, ◌^◌, ◌<◌, ◌≤◌, ◌||◌, ◌&&◌, not, Bool, true, false, nat_lt, length, Option, Some, None, Result, Ok, IfOk, w64, refl, sym, ◌∙◌, ap, arith, inl, inr}
+use Rattle.std.proofs.Math.Bool.{or-false}
 use Rattle.std.specs.Prelude.{◌≢◌}
 use Rattle.std.specs.Int.{bit_at, trailing_zeros}
 use Rattle.std.proofs.lemmas.Bool.{cases_lt, false≢true}
@@ -18,7 +19,6 @@ use Rattle.hibitset_sparse.specs.Table.{group_word, value_at}
 use Rattle.hibitset_sparse.specs.declared.chunk.Chunk.{Chunk}
 use Rattle.hibitset_sparse.specs.declared.set.SparseBitSet.{SparseBitSet}
 use Rattle.hibitset_sparse.specs.declared.table.Table.{Table}
-use Rattle.hibitset_sparse.proofs.ChunkLemmas.{or-false}
 use Rattle.hibitset_sparse.proofs.ExactLemmas.{members-within}
 use Rattle.hibitset_sparse.proofs.LayoutLemmas.{word-fits}
 use Rattle.hibitset_sparse.proofs.PackedArrayLemmas.{one-is-set}
@@ -116,10 +116,6 @@ pub kept-alone : (a n b : Bool) → (a ≡ true → n ≡ b) → (a ≡ false �
 kept-alone true n b kept other = kept refl
 kept-alone false n b kept other = other refl
 
-pub no-member : (x a : Bool) → a ≡ false → (x && a) ≡ false
-no-member true a off = off
-no-member false a off = refl
-
 -- what is so of a value, of the one that is there
 pub value_ok : {A E : Type 0} (P : A → Type 0) (r : Result A E) (x : A) → r ≡ Ok x → IfOk r P → P x
 value_ok P r x is p = rw is at p
@@ -130,9 +126,9 @@ lt-yes i n low = grind (arith, nat_tests)
 lt-no : (i n : ℕ) → n ≤ i → nat_lt i n ≡ false
 lt-no i n past = grind (arith, nat_tests)
 
-differ-none : (a : Bool) → differ a false ≡ a
-differ-none true = refl
-differ-none false = refl
+one-alone : (a b : Bool) → b ≡ false → differ a b ≡ a
+one-alone true b off = ap not off
+one-alone false b off = off
 
 -- The parts of a union and of a symmetric difference with the members of another.
 module _ (a b : Bool) where
@@ -140,7 +136,7 @@ module _ (a b : Bool) where
   either-same off = rw off (or-false a)
 
   pub one-same : b ≡ false → differ a b ≡ a
-  one-same off = rw off (differ-none a)
+  one-same off = one-alone a b off
 
   module _ (i : ℕ) where
     pub either-within : i < 2 ^ 30 → (a || b) ≡ (a || (nat_lt i MAX_EID && b))

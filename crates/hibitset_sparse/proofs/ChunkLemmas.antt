@@ -2,6 +2,7 @@
 use Rattle.std.proofs.Common.{◌≡◌, ℕ, zero, suc, ◌/◌, ◌%◌, ◌^◌, ◌<◌, ◌==◌, ◌||◌, ◌&&◌, not, Bool, true, false, Option, Some, Result, Ok, Err, OnOk, OnErr, refl, sym, ◌∙◌, ap, arith, inl, inr}
 use Rattle.std.specs.Prelude.{◌≢◌, if◌then◌else◌, slice_get}
 use Rattle.std.specs.Int.{bit_at}
+use Rattle.std.proofs.Math.Bool.{or-false, or-true}
 use Rattle.std.proofs.lemmas.Option.{same_Some}
 use Rattle.hibitset_base.specs.Decisions.{eq_other, eq_same, same_or_not}
 use Rattle.hibitset_sparse.specs.Chunk.{chunk_word, or_zero}
@@ -22,14 +23,7 @@ pub record IsWritten (v w b bit : ℕ) : Type 0 where
   pub here : bit_at v b ≡ bit
   pub same : (c : ℕ) → c < 64 → c ≢ b → bit_at v c ≡ bit_at w c
 
-pub or-false : (b : Bool) → (b || false) ≡ b
-or-false true = refl
-or-false false = refl
-
 or-true : (b : Bool) → (b || true) ≡ true
-or-true true = refl
-or-true false = refl
-
 pub and-false : (b : Bool) → (b && not true) ≡ false
 and-false true = refl
 and-false false = refl

@@ -122,10 +122,10 @@ unmoved : (o : Option Group) (g : Group) → option_map moved_up o ≡ Some g �
 unmoved None g is = absurd (none-some g is)
 unmoved (Some h) g is = (h, refl, sym (same_Some (moved_up h) g is))
 
-pub some-word : (v b : ℕ) → bit_at v b ≡ 1 → 0 < v
-some-word v b on = elim (cases_lt 0 v) [
-  | inl some ↦ some
-  | inr none ↦ absurd (let z : v ≡ 0 = omega (arith, none) in let off : bit_at v b ≡ 0 = ap (λ x. bit_at x b) z ∙ bit_at-zero b in omega (arith, on, off))
+pub some-word : (v b x : ℕ) → 0 < x → bit_at v b ≡ x → 0 < v
+some-word v b x some on = elim (cases_lt 0 v) [
+  | inl more ↦ more
+  | inr none ↦ absurd (let z : v ≡ 0 = omega (arith, none) in let off : bit_at v b ≡ 0 = ap (λ x. bit_at x b) z ∙ bit_at-zero b in omega (arith, on, off, some))
 ]
 
 -- what is said of a group in a layout
@@ -143,7 +143,7 @@ wider-group n q v w b start small big is laid p g low some = elim (cases_order p
       let before : values_before big p ≡ values_before small q = ap (values_before big) same ∙ before-narrow q v w b q small big is.differ (omega arith) in
       let begins = is.begins in
       let wide = is.differ.wide in
-      let nonzero = some-word v b is.differ.bit.set in
+      let nonzero = some-word v b 1 (omega arith) is.differ.bit.set in
       (omega (arith, nonzero, word-is), omega (arith, wide, word-is), omega (arith, before, begins, start-is))
   | inr (inl less) ↦
       let old : small p ≡ Some g = sym (is.wider.before p less) ∙ some in

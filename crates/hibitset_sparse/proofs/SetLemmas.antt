@@ -1,5 +1,6 @@
 -- The members of a set, after a chunk was written.
 use Rattle.std.proofs.Common.{◌≡◌, ℕ, ◌/◌, ◌%◌, ◌^◌, ◌<◌, ◌≤◌, ◌==◌, ◌||◌, ◌&&◌, not, Bool, true, false, List, Option, Some, None, Result, Ok, Err, OnOk, OnErr, IfOk, refl, sym, ◌∙◌, ap, arith, inl, inr}
+use Rattle.std.proofs.Math.Bool.{or-false}
 use Rattle.std.specs.Prelude.{◌≢◌, if◌then◌else◌}
 use Rattle.std.specs.Int.{bit_at}
 use Rattle.std.proofs.lemmas.Bool.{cases_lt}
@@ -18,7 +19,7 @@ use Rattle.hibitset_sparse.specs.declared.group.Group.{Group}
 use Rattle.hibitset_sparse.specs.declared.packed_array.PackedArray.{PackedArray}
 use Rattle.hibitset_sparse.specs.declared.table.Table.{Table}
 use Rattle.hibitset_sparse.specs.declared.chunk.Chunk.{Chunk}
-use Rattle.hibitset_sparse.proofs.ChunkLemmas.{and-false, and-true, or-false, same-value}
+use Rattle.hibitset_sparse.proofs.ChunkLemmas.{and-false, and-true, same-value}
 use Rattle.hibitset_sparse.proofs.PackedArrayLemmas.{zero-is-clear}
 use Rattle.hibitset_sparse.proofs.WordLemmas.{array-none, array-past}
 

@@ -4,8 +4,9 @@ use Rattle.std.specs.Prelude.{◌⊎◌, option_and_then, slice_get}
 use Rattle.std.specs.Int.{bit_at, trailing_zeros, w64}
 use Rattle.std.proofs.lemmas.Bool.{cases_lt}
 use Rattle.std.proofs.lemmas.Option.{slice_get_within}
-use Rattle.std.proofs.lemmas.Nat.{shr-shr, shr_le}
+use Rattle.std.proofs.lemmas.Nat.{shr_le}
 use Rattle.std.proofs.lemmas.Nat.Bits.{bit_at-zero, bit_at_above, bit_at-lt, bit_at-trailing_zeros}
+use Rattle.hibitset_base.proofs.MiddleBitLemmas.{bit_past}
 use Rattle.hibitset_sparse.specs.Rank.{rank_in}
 use Rattle.hibitset_sparse.specs.Layout.{word_or_none, AreLaidOut, CanMoveDown, CanMoveUp, HaveRoom, value_by_group}
 use Rattle.hibitset_sparse.specs.PackedArray.{value_in}
@@ -44,14 +45,11 @@ module _ {T : Type 0} where
   array-past row b past = array-none row b (bit_at_above row.word 64 b row.fits past)
 
 -- the bits of a word that was shifted
-pub bit-shifted : (n q j : ℕ) → bit_at (n / 2 ^ q) j ≡ bit_at n (q + j)
-bit-shifted n q j = ap (λ x. x % 2) (shr-shr n q j)
-
 -- no group has values where no bit is set
 pub none-between : (row : PackedArray Group) (q t : ℕ) → ((j : ℕ) → j < t → bit_at (row.word / 2 ^ q) j ≡ 0) → (r : ℕ) → q ≤ r → r < q + t → value_in row r ≡ None
 none-between row q t clear r from upto =
     let e : q + (r - q) ≡ r = omega arith in
-    let bit : bit_at row.word r ≡ 0 = rw e at (sym (bit-shifted row.word q (r - q)) ∙ clear (r - q) (omega arith)) in
+    let bit : bit_at row.word r ≡ 0 = rw e at (sym (bit_past row.word q (r - q)) ∙ clear (r - q) (omega arith)) in
     array-none row r bit
 
 -- the first bit of a row from one on
@@ -66,7 +64,7 @@ first-bit row q some = (inside, bit, lowest.2)
     lowest = bit_at-trailing_zeros w64 (row.word / 2 ^ q) some fits
 
     bit : bit_at row.word (q + trailing_zeros w64 (row.word / 2 ^ q)) ≡ 1
-    bit = sym (bit-shifted row.word q (trailing_zeros w64 (row.word / 2 ^ q))) ∙ lowest.1
+    bit = sym (bit_past row.word q (trailing_zeros w64 (row.word / 2 ^ q))) ∙ lowest.1
 
     inside : q + trailing_zeros w64 (row.word / 2 ^ q) < 64
     inside = elim (cases_lt (q + trailing_zeros w64 (row.word / 2 ^ q)) 64) [

@@ -115,14 +115,3 @@ impl<'a, T: BitSetLike> Sub<T> for &'a SparseBitSet {
         BitSetAnd(self, BitSetNot(rhs))
     }
 }
-
-impl<'a> IntoIterator for &'a SparseBitSet {
-    type Item = Index;
-
-    type IntoIter = BitIter<Self>;
-
-    #[inline]
-    fn into_iter(self) -> BitIter<Self> {
-        self.iter()
-    }
-}

@@ -54,9 +54,10 @@ fn agrees(alloc: Global, seed: u32, range: u32, count: usize) -> Result<bool, Al
     let items = adds(alloc, seed, range, count)?;
     let set = set_of(alloc, &items)?;
     let list = sorted(alloc, &items)?;
-    let members = (&set).try_to_vec(alloc)?;
     let walked: Vec<u32> = (&set).iter().collect_in(alloc)?;
-    Ok(members == list && walked == list && (&set).len() == list.len())
+    let by_words: Vec<u32> = BitSetLike::iter(&set).collect_in(alloc)?;
+    let same = walked == list && by_words == list && set.try_to_vec(alloc)? == list;
+    Ok(same && set.len() == list.len() && BitSetLike::len(&set) == list.len())
 }
 
 // What is left after each second member was taken out.

@@ -10,5 +10,5 @@ returns-clause-few c =
     let starts = c.into_iter.ensures.into_iter_gives in
     let within = c.sparse_laws.ensures.beside x (word_of y) in
     let few = (starts.bound (is_marked x) (marked_word x) within).few in
-    let here = rw (c.bitand.ensures.0, c.bitand.ensures.1) at few in
+    let here = rw c.bitand.ensures.0 at few in
     omega (arith, here, starts.read)

@@ -10,7 +10,7 @@ use Rattle.hibitset_sparse.proofs.chunk.Chunk.add.Goals as goal
 
 pub invariant_of-self-2 : goal.invariant_of-self-2
 invariant_of-self-2 c =
-    let nonzero : 0 < c.with_bit-2.result = some-word c.with_bit-2.result (c.args.i % 64) c.with_bit-2.ensures.here in
+    let nonzero : 0 < c.with_bit-2.result = some-word c.with_bit-2.result (c.args.i % 64) 1 (omega arith) c.with_bit-2.ensures.here in
     record { nonzero = nonzero-put (value_at c.args.self.now.words) (value_at c.write.new.self) (c.args.i / 64) c.with_bit-2.result nonzero (omega arith) c.write.ensures.put c.args.self.now.nonzero }
 
 pub returns-clause-was : goal.returns-clause-was
@@ -27,5 +27,5 @@ returns-clause-added c = λ j low.
 
 pub invariant_of-self : goal.invariant_of-self
 invariant_of-self c =
-    let nonzero : 0 < c.with_bit.result = some-word c.with_bit.result (c.args.i % 64) c.with_bit.ensures.here in
+    let nonzero : 0 < c.with_bit.result = some-word c.with_bit.result (c.args.i % 64) 1 (omega arith) c.with_bit.ensures.here in
     record { nonzero = nonzero-insert c.insert.result c.args.self.now.words c.insert.new.self (c.args.i / 64) c.with_bit.result c.insert.ensures.put c.insert.ensures.err nonzero (omega arith) c.args.self.now.nonzero }

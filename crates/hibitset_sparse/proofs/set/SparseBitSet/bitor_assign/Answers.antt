@@ -1,4 +1,4 @@
-use Rattle.std.proofs.Common.{◌≡◌, ℕ, ◌^◌, ◌<◌, ◌≤◌, ◌||◌, Bool, false, nat_lt, refl, sym, ◌∙◌, inl, inr}
+use Rattle.std.proofs.Common.{◌^◌, ◌||◌, sym, ◌∙◌, inl, inr}
 use Rattle.std.proofs.lemmas.Bool.{cases_lt}
 use Rattle.hibitset_sparse.specs.SparseBitSet.{has}
 use Rattle.hibitset_sparse.proofs.AssignLemmas.{either-past, either-same, either-within, none-past, replaced}

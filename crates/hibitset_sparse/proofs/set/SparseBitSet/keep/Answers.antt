@@ -1,8 +1,9 @@
-use Rattle.std.proofs.Common.{rules, ◌≡◌, ℕ, ◌/◌, ◌^◌, ◌≤◌, ◌<◌, ◌&&◌, not, Bool, true, false, nat_lt, refl, sym, ◌∙◌, ap, arith, inl, inr}
+use Rattle.std.proofs.Common.{rules, ◌^◌, ◌&&◌, not, Bool, nat_lt, ◌∙◌, ap, inl, inr}
+use Rattle.std.proofs.Math.Bool.{and-false}
 use Rattle.std.proofs.lemmas.Bool.{cases_lt}
 use Rattle.hibitset_base.specs.declared.util.TheConstants.{MAX_EID}
 use Rattle.hibitset_sparse.specs.SparseBitSet.{has, word_of}
-use Rattle.hibitset_sparse.proofs.AssignLemmas.{both-left, both-kept, both-past, fit-in, kept-alone, no-member, none-past, replaced, value_ok, within-range}
+use Rattle.hibitset_sparse.proofs.AssignLemmas.{both-left, both-kept, both-past, fit-in, kept-alone, none-past, replaced, value_ok, within-range}
 use Rattle.hibitset_sparse.proofs.set.SparseBitSet.keep.Goals as goal
 
 pub put_chunks-requires : goal.put_chunks-requires
@@ -24,4 +25,4 @@ returns-in-Err g c = λ i.
     let old : Bool = has c.args.self.now i in
     kept-alone old (has c.retain.new.self i) (g.K.BitSetLike.holds c.args.kept.now i)
     (λ on. let low = within-range c.args.self.now i on in search rules)
-    (λ off. c.retain.ensures.others i (no-member (nat_lt i MAX_EID) old off))
+    (λ off. c.retain.ensures.others i (ap (λ b. nat_lt i MAX_EID && b) off ∙ and-false (nat_lt i MAX_EID)))

@@ -1,13 +1,11 @@
-use Rattle.std.proofs.Common.{◌≡◌, ℕ, ◌+◌, ◌/◌, ◌%◌, ◌<◌, ◌==◌, Option, Some, None, refl, sym, ◌∙◌, ap, arith, length, inl, inr}
-use Rattle.std.specs.Prelude.{if◌then◌else◌, IsOk, OnOk}
+use Rattle.std.proofs.Common.{◌≡◌, ◌+◌, ◌/◌, ◌%◌, ◌<◌, ◌==◌, Some, None, refl, sym, ◌∙◌, ap, arith, inl, inr}
+use Rattle.std.specs.Prelude.{if◌then◌else◌}
 use Rattle.std.proofs.lemmas.Option.{none-some}
 use Rattle.hibitset_base.specs.Decisions.{eq_other, eq_same, same_or_not}
 use Rattle.hibitset_base.specs.Words.{holds_at}
-use Rattle.hibitset_sparse.specs.Chunk.{has_in}
-use Rattle.hibitset_sparse.specs.Chunks.{AreFull, word_in}
+use Rattle.hibitset_sparse.specs.Chunks.{word_in}
 use Rattle.hibitset_sparse.specs.SparseBitSet.{has, word_of}
-use Rattle.hibitset_sparse.specs.Table.{HasCapacityFor, value_at}
-use Rattle.hibitset_sparse.specs.declared.chunk.Chunk.{Chunk}
+use Rattle.hibitset_sparse.specs.Table.{value_at}
 use Rattle.hibitset_sparse.proofs.ExactLemmas.{full-summed}
 use Rattle.hibitset_sparse.proofs.ReplaceLemmas.{capacity-fewer, put-full, put-members, same-root, when_ok, IsPut}
 use Rattle.hibitset_sparse.proofs.SetLemmas.{has_under, holds-under, none-under, root-none}

@@ -1,6 +1,5 @@
-use Rattle.std.proofs.Common.{ℕ}
 use Rattle.hibitset_sparse.specs.SparseBitSet.{has}
-use Rattle.hibitset_sparse.proofs.ReplaceLemmas.{all-put, next-fits, none-put, one-put}
+use Rattle.hibitset_sparse.proofs.ReplaceLemmas.{all-put, next-fits, one-put}
 use Rattle.hibitset_sparse.proofs.set.SparseBitSet.put_chunks.Goals as goal
 
 pub put_chunk-requires-clause-fits : goal.put_chunk-requires-clause-fits

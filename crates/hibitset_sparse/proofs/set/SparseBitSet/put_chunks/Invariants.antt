@@ -1,4 +1,4 @@
-use Rattle.std.proofs.Common.{ℕ, length}
+use Rattle.std.proofs.Common.{length}
 use Rattle.hibitset_sparse.specs.SparseBitSet.{has}
 use Rattle.hibitset_sparse.proofs.ReplaceLemmas.{AreBeingPut}
 use Rattle.hibitset_sparse.proofs.set.SparseBitSet.put_chunks.Given as goal

@@ -1,0 +1,112 @@
+// Derived from crates/hibitset_sparse/src/table_iter.rt by rust/derive.py, and never edited by hand.
+
+//! Walks over the places of a table that have a value, in ascending order.
+
+use crate::support::rattle_std::prelude::*;
+
+use crate::derived::hibitset_sparse::group::Group;
+use crate::derived::hibitset_sparse::table::{PLACES_PER_TABLE, Table};
+
+/// Takes the lowest bit out of a word, and returns its number.
+///
+/// # Contract
+///
+/// ```text
+/// requires { 0 < word.old }
+/// ensures below { result < 64 }
+/// ensures first { (start : ℕ) → bits_from start word.old
+///     ≡ (start + result) ∷ bits_from start word.new }
+/// ensures less { word.new < word.old }
+/// ```
+#[inline]
+pub(crate) fn take_first_bit(word: &mut usize) -> usize {
+    let bit = word.trailing_zeros();
+    *word &= *word - 1;
+    bit as usize
+}
+
+/// A walk over the places of a table that have a value, in ascending order, each with its value.
+///
+/// Groups and values lie side by side in the table, in the order of their places. So the walk keeps what is left of
+/// both, and looks for neither: a step reads the value, and the first one of a group also that group.
+pub(crate) struct TableIter<'a, T> {
+    // The places left of the group at hand, as bits, of which the first stands for the place `first`.
+    pub(crate) word: usize,
+    pub(crate) first: usize,
+    // The groups left, and their numbers, as bits.
+    pub(crate) groups: &'a [Group],
+    pub(crate) root: usize,
+    // The values left.
+    pub(crate) items: &'a [T],
+}
+
+impl<'a, T> TableIter<'a, T> {
+    /// A walk over nothing.
+    ///
+    /// # Contract
+    ///
+    /// ```text
+    /// ensures { entries_left result ≡ [] }
+    /// ```
+    #[inline]
+    pub(crate) fn empty() -> TableIter<'a, T> {
+        TableIter {
+            word: 0,
+            first: 0,
+            groups: &[],
+            root: 0,
+            items: &[],
+        }
+    }
+
+    /// A walk over a whole table.
+    ///
+    /// # Contract
+    ///
+    /// ```text
+    /// ensures { entries_left result ≡ entries_of table.now }
+    /// ```
+    #[inline]
+    pub(crate) fn new(table: &'a Table<T>) -> TableIter<'a, T>
+    where
+        T,
+    {
+        TableIter {
+            word: 0,
+            first: 0,
+            groups: &table.groups.items,
+            root: table.groups.word,
+            items: &table.items,
+        }
+    }
+
+    /// The next place that has a value, and its value.
+    ///
+    /// # Contract
+    ///
+    /// ```text
+    /// ensures steps { YieldsFirstBy (λ entry. (entry.0, entry.1.now)) entries_left
+    ///     self.old result self.new }
+    /// ensures place { IfSome result (λ entry. entry.0 < PLACES_PER_TABLE) }
+    /// ```
+    #[inline]
+    pub(crate) fn next(&mut self) -> Option<(usize, &'a T)> {
+        let Some((item, items)) = self.items.split_first() else {
+            return None;
+        };
+        'groups: while self.word == 0 {
+            if self.root == 0 {
+                return None;
+            }
+            let Some((group, groups)) = self.groups.split_first() else {
+                return None;
+            };
+            self.first = 64 * take_first_bit(&mut self.root);
+            self.word = group.word;
+            self.groups = groups;
+        }
+        self.items = items;
+        let place = self.first + take_first_bit(&mut self.word);
+        Some((place, item))
+    }
+}

@@ -1,0 +1,105 @@
+// Derived from crates/hibitset_sparse/src/walk.rt by rust/derive.py, and never edited by hand.
+
+//! Walks over the members of a set, in ascending order.
+
+use crate::support::rattle_std::prelude::*;
+
+use crate::derived::hibitset_sparse::chunk::{Chunk, INDICES_PER_CHUNK};
+use crate::derived::hibitset_sparse::table::Table;
+use crate::derived::hibitset_sparse::table_iter::{TableIter, take_first_bit};
+use crate::derived::hibitset_base::util::{Index, MAX_EID};
+use crate::support::rattle_std::alloc::{AllocError, Global};
+
+/// A walk over the nonzero words of layer 0, in ascending order.
+pub(crate) struct WordIter<'a> {
+    pub(crate) chunks: TableIter<'a, Chunk>,
+    // The words left of the chunk at hand, whose first index is `base`.
+    pub(crate) words: TableIter<'a, usize>,
+    pub(crate) base: usize,
+}
+
+impl<'a> WordIter<'a> {
+    /// A walk over the words of all chunks.
+    ///
+    /// # Contract
+    ///
+    /// ```text
+    /// ensures { members_left result ≡ members_of chunks.now }
+    /// ```
+    #[inline]
+    pub(crate) fn new(chunks: &'a Table<Chunk>) -> WordIter<'a> {
+        WordIter {
+            chunks: TableIter::new(chunks),
+            words: TableIter::empty(),
+            base: 0,
+        }
+    }
+
+    /// The index of the next word's first bit, and the word.
+    ///
+    /// # Contract
+    ///
+    /// ```text
+    /// ensures goes { MatchOption result ((members_left self.old ≡ []) × (members_left self.new ≡ []))
+    ///     (λ found. members_left self.old ≡ bits_from found.0 found.1 ++ members_left self.new) }
+    /// ensures within { IfSome result (λ found. found.0 + 64 ≤ MAX_EID) }
+    /// ensures word { IfSome result (λ found. found.1 < 2 ^ 64) }
+    /// ensures fewer { IfSome result (λ found. words_ahead self.new < words_ahead self.old) }
+    /// ```
+    #[inline]
+    pub(crate) fn next(&mut self) -> Option<(usize, usize)> {
+        'chunks: loop {
+            if let Some((place, word)) = self.words.next() {
+                return Some((self.base + 64 * place, *word));
+            }
+            let Some((place, chunk)) = self.chunks.next() else {
+                return None;
+            };
+            self.base = INDICES_PER_CHUNK * place;
+            self.words = TableIter::new(&chunk.words);
+        }
+    }
+}
+
+/// A walk over the members of a set, in ascending order.
+pub struct SparseIter<'a> {
+    pub(crate) words: WordIter<'a>,
+    // What is left of the word at hand, whose first bit stands for the index `first`.
+    pub(crate) word: usize,
+    pub(crate) first: usize,
+}
+
+impl<'a> SparseIter<'a> {
+    /// A walk over the members in all chunks.
+    ///
+    /// # Contract
+    ///
+    /// ```text
+    /// ensures { items_left result ≡ members_of chunks.now }
+    /// ```
+    #[inline]
+    pub(crate) fn new(chunks: &'a Table<Chunk>) -> SparseIter<'a> {
+        SparseIter {
+            words: WordIter::new(chunks),
+            word: 0,
+            first: 0,
+        }
+    }
+}
+
+impl<'a> Iterator for SparseIter<'a> {
+    type Item = Index;
+
+    #[inline]
+    fn next(&mut self) -> Option<Index> {
+        'words: while self.word == 0 {
+            let Some((first, word)) = self.words.next() else {
+                return None;
+            };
+            self.first = first;
+            self.word = word;
+        }
+        let index = self.first + take_first_bit(&mut self.word);
+        Some(index as Index)
+    }
+}
