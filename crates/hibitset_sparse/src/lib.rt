@@ -14,7 +14,5 @@ mod rank;
 mod replace;
 pub mod set;
 mod table;
-#[cfg(test)]
-mod tests;
 
 pub use set::SparseBitSet;
