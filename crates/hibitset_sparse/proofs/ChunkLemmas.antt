@@ -23,7 +23,6 @@ pub record IsWritten (v w b bit : ℕ) : Type 0 where
   pub here : bit_at v b ≡ bit
   pub same : (c : ℕ) → c < 64 → c ≢ b → bit_at v c ≡ bit_at w c
 
-or-true : (b : Bool) → (b || true) ≡ true
 pub and-false : (b : Bool) → (b && not true) ≡ false
 and-false true = refl
 and-false false = refl

@@ -1,5 +1,5 @@
 -- Chunks made of a set's words, and the members of a set once they have taken the place of its own.
-use Rattle.std.specs.Prelude.{◌≡◌, ◌⊎◌, ℕ, ◌+◌, ◌*◌, ◌/◌, ◌%◌, ◌<◌, Bool, false, length, Option, Some, None}
+use Rattle.std.specs.Prelude.{◌≡◌, ◌⊎◌, ℕ, ◌+◌, ◌*◌, ◌%◌, ◌<◌, Bool, false, length, Option, Some, None}
 use Rattle.hibitset_sparse.specs.Chunk.{chunk_word, has_in}
 use Rattle.hibitset_sparse.specs.Table.{value_at, HasCapacityFor}
 use Rattle.hibitset_sparse.specs.declared.chunk.Chunk.{Chunk}
