@@ -17,7 +17,7 @@ pub invariant_of-self : goal.invariant_of-self
 invariant_of-self c =
     let some : 0 < c.args.chunk.words.groups.word = (let is = c.layer2.ensures in let other = c.if-layer2-ne0.true in omega (arith, is, other)) in
     let put : IsPut c.args.self.now.chunks c.insert-put.new.self c.args.c (Some c.args.chunk) =
-        when_ok c.insert-put.result (c.insert-put.ensures.succeeds 0 (c.requires.fits c.in_default.ensures.none some)).0 c.insert-put.ensures.put in
+    when_ok c.insert-put.result (c.insert-put.ensures.succeeds 0 (c.requires.fits c.in_default.ensures.none some)).0 c.insert-put.ensures.put in
     let full = put-full c.args.self.now.chunks c.insert-put.new.self c.args.c (Some c.args.chunk) put (λ x. same-root c.args.chunk x some) c.args.self.now.full in
     record { full = full; summed = full-summed c.insert-put.new.self full }
 
