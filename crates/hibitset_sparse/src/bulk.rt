@@ -1,5 +1,5 @@
 //! Members counted and listed, by whole words.
-ghost use Rattle.std.specs.Prelude.{◌≡◌, ℕ, ◌+◌, ◌*◌, ◌<◌, ◌≤◌, ◌++◌, List, length, IfOk};
+ghost use Rattle.std.specs.Prelude.{◌≡◌, ℕ, ◌+◌, ◌-◌, ◌*◌, ◌^◌, ◌<◌, ◌≤◌, ◌++◌, List, length, IfOk};
 ghost use Rattle.std.specs.List.{zip};
 ghost use Rattle.std.specs.Int.RustNames.{count_ones};
 ghost use Rattle.std.specs.Vec.{vec_capacity};
@@ -82,6 +82,19 @@ pub(crate) fn count_before(chunks: &Table<Chunk>, end: usize) -> usize
     }
 }
 
+// Puts the indices of a word with all bits set at the end of a list that has room for them. The loop is vectorized.
+#[inline]
+fn push_all(list: &mut Vec<Index>, first: Index)
+    requires within { first + 64 ≤ MAX_EID }
+    requires room { length list.old.items + 64 ≤ vec_capacity list.old }
+    ensures pushed { list.new.items ≡ list.old.items ++ bits_from first (2 ^ 64 - 1) }
+    ensures capacity { vec_capacity list.new ≡ vec_capacity list.old }
+{
+    'bits: for bit in 0..64u32 {
+        list.push_reserved(first + bit);
+    }
+}
+
 // Puts the indices of a word's bits at the end of a list that has room for them.
 #[inline]
 fn push_bits(list: &mut Vec<Index>, first: usize, word: usize)
@@ -90,6 +103,9 @@ fn push_bits(list: &mut Vec<Index>, first: usize, word: usize)
     ensures pushed { list.new.items ≡ list.old.items ++ bits_from first word }
     ensures capacity { vec_capacity list.new ≡ vec_capacity list.old }
 {
+    if word == usize::MAX {
+        return push_all(list, first as Index);
+    }
     let mut rest = word;
     'bits: while rest != 0 {
         list.push_reserved((first + take_first_bit(&mut rest)) as Index);
