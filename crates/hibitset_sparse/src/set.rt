@@ -92,6 +92,9 @@ impl SparseBitSet {
     /// It goes along the stored words and looks none up. It reads 8 bytes for each nonzero word, 16 more for each run
     /// of 4,096 indices with members, and a table's head for each of 262,144. The walk itself takes 136 bytes, and does
     /// not allocate.
+    ///
+    /// Where `BitSetLike` is in scope, `set.iter()` of an owned set is the trait's, which takes the set: write
+    /// `(&set).iter()`, or `for index in &set`.
     #[inline]
     pub fn iter(&self) -> SparseIter<'_>
         ensures items { items_left result ≡ members_below MAX_EID (has self.now) }

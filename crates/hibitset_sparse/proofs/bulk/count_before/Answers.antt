@@ -1,7 +1,6 @@
-use Rattle.std.proofs.Common.{◌≡◌, ℕ, ◌+◌, ◌*◌, ◌/◌, ◌%◌, ◌<◌, ◌≤◌, length, take, ap, sym, ◌∙◌, arith}
+use Rattle.std.proofs.Common.{ℕ, ◌/◌, ◌≤◌, length, take, ap, ◌∙◌, arith}
 use Rattle.std.specs.List.{zip}
 use Rattle.hibitset_base.specs.Members.{members}
-use Rattle.hibitset_base.proofs.MemberLemmas.{members-length}
 use Rattle.hibitset_sparse.specs.Walk.{in_chunks}
 use Rattle.hibitset_sparse.proofs.BeforeLemmas.{before-chunk, before-gap, chunks-before, taken-few, taken-long}
 use Rattle.hibitset_sparse.proofs.EntryLemmas.{is_taken}

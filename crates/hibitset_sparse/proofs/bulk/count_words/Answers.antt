@@ -1,4 +1,4 @@
-use Rattle.std.proofs.Common.{◌≡◌, ◌+◌, ◌*◌, ◌^◌, ◌<◌, ◌≤◌, get_or, length, ap, arith}
+use Rattle.std.proofs.Common.{◌^◌, ◌<◌, get_or, length, ap, arith}
 use Rattle.std.specs.List.{zip}
 use Rattle.hibitset_base.proofs.OneCountLemmas.{few_ones}
 use Rattle.hibitset_sparse.specs.Walk.{in_words}

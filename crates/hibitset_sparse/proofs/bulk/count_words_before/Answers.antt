@@ -1,4 +1,4 @@
-use Rattle.std.proofs.Common.{◌≡◌, ℕ, ◌+◌, ◌*◌, ◌/◌, ◌%◌, ◌<◌, ◌≤◌, length, take, ap, sym, ◌∙◌, arith}
+use Rattle.std.proofs.Common.{ℕ, ◌+◌, ◌/◌, ◌%◌, ◌≤◌, length, take, ap, ◌∙◌, arith}
 use Rattle.std.specs.List.{zip}
 use Rattle.hibitset_base.specs.Members.{members}
 use Rattle.hibitset_base.proofs.MemberLemmas.{members-length}

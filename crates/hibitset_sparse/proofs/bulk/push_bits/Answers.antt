@@ -1,4 +1,4 @@
-use Rattle.std.proofs.Common.{◌≡◌, ℕ, zero, suc, ◌+◌, ◌-◌, ◌^◌, ◌≤◌, ◌++◌, ◌∷◌, [], length, ap, refl, arith, sym, ◌∙◌, append_assoc, append-nil, length-append}
+use Rattle.std.proofs.Common.{◌≡◌, ℕ, zero, suc, ◌+◌, ◌-◌, ◌^◌, ◌≤◌, ◌++◌, ◌∷◌, [], length, ap, arith, sym, ◌∙◌, append_assoc, append-nil, length-append}
 use Rattle.std.specs.Int.RustNames.{count_ones}
 use Rattle.hibitset_base.specs.Places.{bits_from}
 use Rattle.hibitset_base.proofs.OneCountLemmas.{bits-count, some_ones}
