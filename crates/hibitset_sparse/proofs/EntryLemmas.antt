@@ -1,5 +1,5 @@
 -- The values of a table, beside their places, in ascending order.
-use Rattle.std.proofs.Common.{◌≡◌, ℕ, zero, suc, ◌+◌, ◌-◌, ◌*◌, ◌/◌, ◌%◌, ◌<◌, ◌==◌, Bool, true, false, List, [], ◌∷◌, ◌++◌, length, drop, Option, Some, None, refl, sym, ◌∙◌, ap, arith, inl, inr}
+use Rattle.std.proofs.Common.{◌≡◌, ℕ, zero, suc, ◌+◌, ◌-◌, ◌*◌, ◌/◌, ◌%◌, ◌<◌, ◌≤◌, ◌==◌, Bool, true, false, List, [], ◌∷◌, ◌++◌, length, drop, take, Option, Some, None, refl, sym, ◌∙◌, ap, arith, inl, inr}
 use Rattle.std.specs.Prelude.{option_and_then}
 use Rattle.std.specs.List.{flat_map, slice_get, zip}
 use Rattle.std.specs.Int.{bit_at}
@@ -12,7 +12,7 @@ use Rattle.hibitset_base.proofs.MemberLemmas.{members-append, members-none, memb
 use Rattle.hibitset_sparse.specs.Rank.{bit_is_set, rank_in}
 use Rattle.hibitset_sparse.specs.Layout.{value_by_group, values_before, word_or_none}
 use Rattle.hibitset_sparse.specs.PackedArray.{value_in}
-use Rattle.hibitset_sparse.specs.Table.{value_at, group_word}
+use Rattle.hibitset_sparse.specs.Table.{value_at, values_before_place, group_word}
 use Rattle.hibitset_sparse.specs.Walk.{entries_of, places_of_groups}
 use Rattle.hibitset_sparse.specs.declared.group.Group.{Group}
 use Rattle.hibitset_sparse.specs.declared.packed_array.PackedArray.{PackedArray}
@@ -93,17 +93,13 @@ module _ {X : Type 0} where
   abbrev pub is_taken : Table X → ℕ → Bool
   is_taken table i = bit_is_set (group_word table (i / 64)) (i % 64)
 
-  -- how many values lie before a place of a table
-  abbrev before_place : Table X → ℕ → ℕ
-  before_place table i = values_before (value_in table.groups) (i / 64) + rank_in (group_word table (i / 64)) (i % 64)
-
   at-place : (items : List X) (o : Option Group) (b before : ℕ) → bit_at (word_or_none o) b ≡ 1 → ((g : Group) → o ≡ Some g → g.start ≡ before)
       → option_and_then (value_by_group items b) o ≡ slice_get items (before + rank_in (word_or_none o) b)
   at-place items None b before on starts = absurd (let off = bit_at-zero b in omega (arith, on, off))
   at-place items (Some g) b before on starts =
       value-on (λ k. slice_get items (g.start + k)) g.word b (one-is-set g.word b on) ∙ ap (λ k. slice_get items (k + rank_in g.word b)) (starts g refl)
 
-  next-place : (table : Table X) (i : ℕ) → i < 4096 → before_place table (i + 1) ≡ values_before (value_in table.groups) (i / 64) + rank_in (group_word table (i / 64)) (i % 64 + 1)
+  next-place : (table : Table X) (i : ℕ) → i < 4096 → values_before_place table (i + 1) ≡ values_before (value_in table.groups) (i / 64) + rank_in (group_word table (i / 64)) (i % 64 + 1)
   next-place table i low = elim (cases_lt (i % 64) 63) [
     | inl within ↦
         let row : (i + 1) / 64 ≡ i / 64 = omega arith in
@@ -119,7 +115,7 @@ module _ {X : Type 0} where
         rw (row, bit, end) (omega (arith, more, none, all))
   ]
 
-  table-order : (table : Table X) → AreInOrder (is_taken table) (before_place table) (value_at table) table.items.items 4096
+  table-order : (table : Table X) → AreInOrder (is_taken table) (values_before_place table) (value_at table) table.items.items 4096
   table-order table = record {
     begins = (let none = rank-none (group_word table 0) in let first = before-none (value_in table.groups) in omega (arith, none, first));
     some = λ i low on.
@@ -166,7 +162,7 @@ module _ {X : Type 0} where
   pub table-blocks : (table : Table X) (f : ℕ × X → List ℕ) (p : ℕ → Bool) (s size : ℕ) → ((i : ℕ) → i < 4096 → given f i (value_at table i) ≡ members p (s + i * size) size)
       → flat_map f (entries_of table) ≡ members p s (4096 * size)
   table-blocks table f p s size each =
-      rw (places-are table) (blocks (is_taken table) (before_place table) (value_at table) table.items.items 4096 (table-order table) f p s size each)
+      rw (places-are table) (blocks (is_taken table) (values_before_place table) (value_at table) table.items.items 4096 (table-order table) f p s size each)
 
 module _ {X : Type 0} (test : ℕ → Bool) (pos : ℕ → ℕ) (value : ℕ → Option X) (xs : List X) (n : ℕ) (order : AreInOrder test pos value xs n) where
   taken-from : (a k : ℕ) → a + k ≡ n → pos a + length (members test a k) ≡ pos n
@@ -184,10 +180,38 @@ module _ {X : Type 0} (test : ℕ → Bool) (pos : ℕ → ℕ) (value : ℕ →
   taken-count = let all = taken-from 0 n (omega arith) in let begins = order.begins in omega (arith, all, begins)
 
 module _ {X : Type 0} where
+  order-upto : (test : ℕ → Bool) (pos : ℕ → ℕ) (value : ℕ → Option X) (xs : List X) (n k : ℕ) → k ≤ n → AreInOrder test pos value xs n → AreInOrder test pos value xs k
+  order-upto test pos value xs n k few order = record {
+    begins = order.begins;
+    some = λ i low. order.some i (omega arith);
+    none = λ i low. order.none i (omega arith);
+    after_some = λ i low. order.after_some i (omega arith);
+    after_none = λ i low. order.after_none i (omega arith);
+  }
+
   -- each value has its place
+  pub places-before : (table : Table X) (k : ℕ) → k ≤ 4096 → length (members (is_taken table) 0 k) ≡ values_before_place table k
+  places-before table k few =
+      taken-count (is_taken table) (values_before_place table) (value_at table) table.items.items k (order-upto (is_taken table) (values_before_place table) (value_at table) table.items.items 4096 k few (table-order table))
+
   pub places-count : (table : Table X) → length (places_of_groups (bits_from 0 table.groups.word) table.groups.items.items) ≡ length table.items.items
   places-count table =
-      let taken = taken-count (is_taken table) (before_place table) (value_at table) table.items.items 4096 (table-order table) in
+      let taken = places-before table 4096 (omega arith) in
       let last = rank-none (group_word table 64) in
       let all = table.laid_out.all in
       rw (places-are table) (omega (arith, taken, last, all))
+
+  zip-take : (ps : List ℕ) (xs : List X) (n : ℕ) → length ps ≡ n → zip ps (take n xs) ≡ zip ps xs
+  zip-take [] xs n long = refl
+  zip-take (p ∷ ps) [] zero long = refl
+  zip-take (p ∷ ps) [] (suc n) long = refl
+  zip-take (p ∷ ps) (x ∷ xs) zero long = absurd (omega arith)
+  zip-take (p ∷ ps) (x ∷ xs) (suc n) long = ap (λ es. (p, x) ∷ es) (zip-take ps xs n (omega arith))
+
+  -- the same of the values before a place
+  pub blocks-before : (table : Table X) (k : ℕ) → k ≤ 4096 → (f : ℕ × X → List ℕ) (p : ℕ → Bool) (s size : ℕ) → ((i : ℕ) → i < 4096 → given f i (value_at table i) ≡ members p (s + i * size) size)
+      → flat_map f (zip (members (is_taken table) 0 k) (take (values_before_place table k) table.items.items)) ≡ members p s (k * size)
+  blocks-before table k few f p s size each =
+      let order = order-upto (is_taken table) (values_before_place table) (value_at table) table.items.items 4096 k few (table-order table) in
+      ap (flat_map f) (zip-take (members (is_taken table) 0 k) table.items.items (values_before_place table k) (places-before table k few))
+      ∙ blocks (is_taken table) (values_before_place table) (value_at table) table.items.items k order f p s size (λ i low. each i (omega arith))

@@ -16,3 +16,4 @@ pub mod WalkLemmas
 pub mod EntryLemmas
 pub mod MembersOfLemmas
 pub mod CountLemmas
+pub mod BeforeLemmas

@@ -19,19 +19,19 @@ use Rattle.hibitset_sparse.proofs.PackedArrayLemmas.{zero-is-clear}
 use Rattle.hibitset_sparse.proofs.SetLemmas.{has_under, holds-under, none-under}
 
 -- the indices of a word
-abbrev of_word : ℕ → ℕ × ℕ → List ℕ
+abbrev pub of_word : ℕ → ℕ × ℕ → List ℕ
 of_word base e = bits_from (base + 64 * e.0) e.1
 
 -- the indices of a chunk
-abbrev of_chunk : ℕ × Chunk → List ℕ
+abbrev pub of_chunk : ℕ × Chunk → List ℕ
 of_chunk e = in_words (262144 * e.0) (entries_of (e.1).words)
 
 module _ (chunks : Table Chunk) where
-  abbrev holds : ℕ → Bool
+  abbrev pub holds : ℕ → Bool
   holds = holds_at (word_in chunks)
 
   -- an index of a chunk that is there has its bit in a word of it
-  in-chunk : (c : ℕ) (chunk : Chunk) → value_at chunks c ≡ Some chunk → (j : ℕ) → j / 262144 ≡ c → holds j ≡ bit_is_set (or_zero (value_at chunk.words (j % 262144 / 64))) (j % 64)
+  pub in-chunk : (c : ℕ) (chunk : Chunk) → value_at chunks c ≡ Some chunk → (j : ℕ) → j / 262144 ≡ c → holds j ≡ bit_is_set (or_zero (value_at chunk.words (j % 262144 / 64))) (j % 64)
   in-chunk c chunk is j row =
       let bit : j % 262144 % 64 ≡ j % 64 = omega arith in
       holds-under chunks j ∙ (ap (λ o. has_under o (j % 262144)) (ap (value_at chunks) row ∙ is) ∙ ap (λ b. bit_is_set (or_zero (value_at chunk.words (j % 262144 / 64))) b) bit)
@@ -53,7 +53,7 @@ module _ (chunks : Table Chunk) where
       let word : or_zero (value_at chunk.words (j % 262144 / 64)) ≡ w = ap (λ k. or_zero (value_at chunk.words k)) place ∙ ap or_zero some in
       ap (λ b. bit_at w b == 1) bit ∙ sym (in-chunk c chunk is j row ∙ ap (λ v. bit_is_set v (j % 64)) word)))
 
-  chunk-gives : (c : ℕ) (o : Option Chunk) → value_at chunks c ≡ o → given of_chunk c o ≡ members holds (0 + c * 262144) 262144
+  pub chunk-gives : (c : ℕ) (o : Option Chunk) → value_at chunks c ≡ o → given of_chunk c o ≡ members holds (0 + c * 262144) 262144
   chunk-gives c None none =
       sym (members-none holds (0 + c * 262144) 262144 (λ j from below.
       let row : j / 262144 ≡ c = omega arith in

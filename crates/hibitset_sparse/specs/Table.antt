@@ -1,7 +1,8 @@
 -- What a contract sees of a table.
-use Rattle.std.specs.Prelude.{◌≡◌, ◌+◌, ◌<◌, ◌≤◌, ◌^◌, ℕ, length, Option, Some}
+use Rattle.std.specs.Prelude.{◌≡◌, ◌+◌, ◌/◌, ◌%◌, ◌<◌, ◌≤◌, ◌^◌, ℕ, length, Option, Some}
 use Rattle.std.specs.Vec.{vec_capacity}
-use Rattle.hibitset_sparse.specs.Layout.{value_of_place, word_or_none}
+use Rattle.hibitset_sparse.specs.Layout.{value_of_place, values_before, word_or_none}
+use Rattle.hibitset_sparse.specs.Rank.{rank_in}
 use Rattle.hibitset_sparse.specs.PackedArray.{HasRoomFor, value_in}
 use Rattle.hibitset_sparse.specs.declared.table.Table.{Table}
 use Rattle.hibitset_sparse.specs.declared.table.TheConstants.{PLACES_PER_TABLE}
@@ -25,6 +26,10 @@ module _ {T : Type 0} where
   -- the word of a group of a table
   abbrev pub group_word : Table T → ℕ → ℕ
   group_word table q = word_or_none (value_in table.groups q)
+
+  -- how many values of a table lie before a place
+  abbrev pub values_before_place : Table T → ℕ → ℕ
+  values_before_place table i = values_before (value_in table.groups) (i / 64) + rank_in (group_word table (i / 64)) (i % 64)
 
 -- a word that is there is one, and not 0
 abbrev pub AreNonzero : Table ℕ → Type 0

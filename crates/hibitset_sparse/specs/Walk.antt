@@ -1,7 +1,10 @@
 -- What a contract sees of a walk over a table, and of one over a set.
-use Rattle.std.specs.Prelude.{ℕ, ◌+◌, ◌*◌, List, ◌++◌, length}
+use Rattle.std.specs.Prelude.{ℕ, ◌+◌, ◌*◌, ◌/◌, ◌%◌, Bool, List, ◌++◌, length}
 use Rattle.std.specs.List.{flat_map, zip}
 use Rattle.hibitset_base.specs.Places.{bits_from}
+use Rattle.hibitset_sparse.specs.Chunk.{or_zero}
+use Rattle.hibitset_sparse.specs.Rank.{bit_is_set}
+use Rattle.hibitset_sparse.specs.Table.{value_at}
 use Rattle.hibitset_sparse.specs.declared.group.Group.{Group}
 use Rattle.hibitset_sparse.specs.declared.table.Table.{Table}
 use Rattle.hibitset_sparse.specs.declared.chunk.Chunk.{Chunk}
@@ -26,6 +29,10 @@ module _ {T : Type 0} where
   -- the same, each with its value
   unfoldable pub entries_left : TableIter T → List (ℕ × T)
   entries_left walk = zip (places_left walk) walk.items.now
+
+-- the words of a chunk have an index
+abbrev pub has_in_words : Table ℕ → ℕ → Bool
+has_in_words words i = bit_is_set (or_zero (value_at words (i / 64))) (i % 64)
 
 -- the members in words at these places of a chunk whose first index is `base`
 abbrev pub in_words : ℕ → List (ℕ × ℕ) → List ℕ

@@ -6,7 +6,7 @@ ghost use Rattle.hibitset_base.specs.Words.{SummariesExactEverywhere};
 ghost use Rattle.hibitset_base.specs.declared.util.TheConstants.{LAYERS, MAX_EID};
 ghost use Rattle.hibitset_sparse.specs.Chunks.{AreFull, word_in};
 
-use crate::bulk::{count_members, list_members};
+use crate::bulk::{count_before, count_members, list_members};
 use crate::chunk::{Chunk, INDICES_PER_CHUNK};
 use crate::table::{PLACES_PER_TABLE, Table};
 use crate::walk::SparseIter;
@@ -25,7 +25,7 @@ pub struct SparseBitSet {
 }
 
 impl SparseBitSet {
-    ghost use Rattle.std.specs.Prelude.{◌≤◌, length};
+    ghost use Rattle.std.specs.Prelude.{◌≤◌, length, min};
     ghost use Rattle.std.specs.Iterator.{YieldsFirst};
     ghost use Rattle.std.specs.Iterator.Runs.{YieldsInOrder};
     ghost use Rattle.hibitset_base.specs.Members.{members_below};
@@ -94,6 +94,9 @@ impl SparseBitSet {
     /// It goes along the stored words and looks none up. It reads 8 bytes for each nonzero word, 16 more for each run
     /// of 4,096 indices with members, and a table's head for each of 262,144. The walk itself takes 136 bytes, and does
     /// not allocate.
+    ///
+    /// Where `BitSetLike` is in scope, `set.iter()` of an owned set is the trait's, which takes the set: write
+    /// `(&set).iter()`, or `for index in &set`.
     #[inline]
     pub fn iter(&self) -> SparseIter<'_>
         ensures items { items_left result ≡ members_below MAX_EID (has self.now) }
@@ -116,6 +119,18 @@ impl SparseBitSet {
         ensures { result ≡ length (members_below MAX_EID (has self.now)) }
     {
         count_members(&self.chunks)
+    }
+
+    /// How many members lie before `end`: the position of `end` in the list of all, if it is a member. It reads each
+    /// stored word before `end` once, 8 bytes.
+    pub fn rank(&self, end: Index) -> usize
+        ensures { result ≡ length (members_below (min end MAX_EID) (has self.now)) }
+    {
+        let end = end as usize;
+        if end >= MAX_EID {
+            return self.len();
+        }
+        count_before(&self.chunks, end)
     }
 
     /// Takes all members out, and gives the memory back.

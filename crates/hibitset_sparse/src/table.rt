@@ -139,7 +139,7 @@ fn put<T: Drop>(items: &mut Vec<T>, at: usize, value: T)
 }
 
 impl<T: Drop> Table<T> {
-    ghost use Rattle.hibitset_sparse.specs.Table.{value_at, group_word, HasCapacityFor, IsSameTable};
+    ghost use Rattle.hibitset_sparse.specs.Table.{value_at, values_before_place, group_word, HasCapacityFor, IsSameTable};
 
     /// No place has a value. It does not allocate.
     #[inline]
@@ -231,6 +231,16 @@ impl<T: Drop> Table<T> {
             Some(group) => group.start,
             None => self.start_of_new(q),
         }
+    }
+
+    /// How many values lie before a place.
+    #[inline]
+    pub(crate) fn rank(&self, i: usize) -> usize
+        requires { i < PLACES_PER_TABLE }
+        ensures rank { result ≡ values_before_place self.now i }
+        ensures within { result ≤ length self.now.items.items }
+    {
+        self.start(i / 64) + rank(self.word(i / 64), i % 64)
     }
 
     /// Reserves capacity for so many values more. Whatever it returns, the table is the same.

@@ -60,7 +60,10 @@ impl<'a> WordIter<'a> {
     }
 }
 
-/// A walk over the members of a set, in ascending order.
+/// A walk over the members of a set, in ascending order, as `SparseBitSet::iter` makes.
+///
+/// It goes along the tables of the set, and keeps in 136 bytes where it is in them. A step reads the next nonzero word
+/// if the last one is passed, 8 bytes, and else nothing.
 #[derive(Drop)]
 pub struct SparseIter<'a> {
     pub(crate) words: WordIter<'a>,

@@ -141,7 +141,12 @@ fn ranks_agree(alloc: Global, range: u32, count: usize) -> Result<bool, AllocErr
     let set = set_of(alloc, &items)?;
     let list = sorted(alloc, &items)?;
     for (place, item) in list.iter().enumerate() {
-        if (&set).rank(*item) != place || (&set).select(place) != Some(*item) {
+        if set.rank(*item) != place
+            || BitSetLike::rank(&set, item.wrapping_add(1)) != place.wrapping_add(1)
+        {
+            return Ok(false);
+        }
+        if (&set).select(place) != Some(*item) {
             return Ok(false);
         }
     }
