@@ -72,9 +72,10 @@ def facts_as_clauses(function, generics):
 
 def own_generics(mutant, crate, function):
     """The generics of the impl of a function, for its twin; none where the twin stands in an impl that has them."""
-    place = next((each for each in crate.functions if each.block is not None and head(each).startswith(mutant.said.get("before", "\0"))), None)
+    before, path = mutant.said.get("before"), crate.folder / mutant.file
+    place = next((each for each in crate.functions if each.path == path and lines_of(path)[each.at].strip() == before), None)
     generics = re.match(r"impl(<.*?>) ", block_head(function))
-    has_them = place and generics and re.match(re.escape(f"impl{generics[1]} "), block_head(place))
+    has_them = place and generics and block_head(place).startswith(f"impl{generics[1]} ")
     return generics[1] if generics and not has_them else ""
 
 
