@@ -60,14 +60,23 @@ def types_of(function):
     return " ".join(re.findall(r"\btype \w+ = .*?;", code(lines_of(function.path)[function.block : function.at])))
 
 
-def facts_as_clauses(function):
+def facts_as_clauses(function, generics):
     """The head of a twin of a trait's function whose impl says in a fact what it gives, as `bitand_assign_gives`."""
     said = ghosts(function).get(f"{function.name}_gives")
     if not said:
         raise BadMutant(f"the impl of {function.names()[0]} has no fact {function.name}_gives")
-    clause = re.sub(r"\b(old|new)\b", r"self.\1", said.partition(". ")[2])
+    named = re.sub(r"\b(old|new)\b", r"self.\1", said.partition(". ")[2])
+    clause = named or f"{said} self.old result self.new"  # a definition takes them in this order
+    return re.sub(r"_twin\b", f"_twin{generics}", twin_head(function), count=1) + f" ensures {{ {clause} }}"
+
+
+def own_generics(mutant, crate, function):
+    """The generics of the impl of a function, for its twin; none where the twin stands in an impl that has them."""
+    before, path = mutant.said.get("before"), crate.folder / mutant.file
+    place = next((each for each in crate.functions if each.path == path and lines_of(path)[each.at].strip() == before), None)
     generics = re.match(r"impl(<.*?>) ", block_head(function))
-    return re.sub(r"_twin\b", f"_twin{generics[1] if generics else ''}", twin_head(function), count=1) + f" ensures {{ {clause} }}"
+    has_them = place and generics and block_head(place).startswith(f"impl{generics[1]} ")
+    return generics[1] if generics and not has_them else ""
 
 
 def promise_of_trait(mutant, crate, traits):
@@ -89,7 +98,7 @@ def twin_text(mutant, crate, traits):
     if own:
         said = twin_head(own[0])
     elif found and (found[0].trait, found[0].name) not in traits:
-        said = facts_as_clauses(found[0])
+        said = facts_as_clauses(found[0], own_generics(mutant, crate, found[0]))
     else:
         said = promise_of_trait(mutant, crate, traits)
     return f"{said} {{ {' '.join(mutant.body)} }}", own[0] if own else None

@@ -13,6 +13,32 @@ PLAIN = "## Set::has\nhas_none\n    - self.word(id) == 1\n    + self.word(id) ==
 TWIN = "## Set::has\nhas_all: twin, gate\n    self.has(id);\n    true\n"
 OPERATOR = "## Set::bitand\nand_is_or: twin\n    for: Set\n    parts: result.1, result.0\n    -> Or<Self, T> { Or(self, rhs) }\n"
 
+WALK = """\
+pub struct Walk<T> {
+    set: T,
+}
+
+impl<T: Sets> Walk<T> {
+    pub fn first(&self) -> bool {
+        true
+    }
+}
+
+impl<T: Sets> Iterator for Walk<T> {
+    ghost next_gives = { Steps T.holds };
+
+    fn next(&mut self) -> Option<usize> {
+        None
+    }
+}
+
+impl Other {
+    pub fn last(&self) -> bool {
+        true
+    }
+}
+"""
+
 
 def read(text):
     return tables.Reader(Path("t.mutants"), "src/set.rt").read(text)
@@ -75,6 +101,14 @@ class Edits(InRepository):
         ((_, old, new),) = self.pairs(OPERATOR)
         self.assertIn("type Output = Or<Self, T>; ghost bitand_gives = { λ set other result. (result.1 ≡ set)", new)
         self.assertTrue(new.endswith("{ Or(self, rhs) } } impl<'a, T: Sets> BitAnd<T> for &'a mut Set {"))
+
+    def test_a_twin_by_the_definition_that_a_fact_names(self):
+        crate = self.repository({"crates/low/src/set.rt": WALK}).crate("low")
+        for before, generics in (("pub fn first(&self) -> bool {", ""), ("pub fn last(&self) -> bool {", "<T: Sets>")):
+            (mutant,) = read(f"## Walk::next\nwalk_ends: twin\n    before: {before}\n    None\n")
+            ((_, _, new),) = edits.pairs_of(mutant, crate, {})
+            clause = "ensures { Steps T.holds self.old result self.new } { None }"
+            self.assertIn(f"fn next_twin{generics}(&mut self) -> Option<usize> {clause}", new)
 
     def test_a_twin_of_no_function(self):
         with self.assertRaises(edits.BadMutant):
