@@ -47,8 +47,6 @@ pub mod set;
 mod shrink;
 mod table;
 mod table_iter;
-#[cfg(test)]
-mod tests;
 pub mod walk;
 
 pub use set::SparseBitSet;

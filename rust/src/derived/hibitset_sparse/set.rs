@@ -4,7 +4,7 @@
 
 use crate::support::rattle_std::prelude::*;
 
-use crate::derived::hibitset_sparse::bulk::{count_members, list_members};
+use crate::derived::hibitset_sparse::bulk::{count_before, count_members, list_members};
 use crate::derived::hibitset_sparse::chunk::{Chunk, INDICES_PER_CHUNK};
 use crate::derived::hibitset_sparse::table::{PLACES_PER_TABLE, Table};
 use crate::derived::hibitset_sparse::walk::SparseIter;
@@ -99,6 +99,9 @@ impl SparseBitSet {
     /// of 4,096 indices with members, and a table's head for each of 262,144. The walk itself takes 136 bytes, and does
     /// not allocate.
     ///
+    /// Where `BitSetLike` is in scope, `set.iter()` of an owned set is the trait's, which takes the set: write
+    /// `(&set).iter()`, or `for index in &set`.
+    ///
     /// # Contract
     ///
     /// ```text
@@ -132,6 +135,22 @@ impl SparseBitSet {
     /// ```
     pub fn len(&self) -> usize {
         count_members(&self.chunks)
+    }
+
+    /// How many members lie before `end`: the position of `end` in the list of all, if it is a member. It reads each
+    /// stored word before `end` once, 8 bytes.
+    ///
+    /// # Contract
+    ///
+    /// ```text
+    /// ensures { result ≡ length (members_below (min end MAX_EID) (has self.now)) }
+    /// ```
+    pub fn rank(&self, end: Index) -> usize {
+        let end = end as usize;
+        if end >= MAX_EID {
+            return self.len();
+        }
+        count_before(&self.chunks, end)
     }
 
     /// Takes all members out, and gives the memory back.

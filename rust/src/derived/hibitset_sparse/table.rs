@@ -196,6 +196,20 @@ impl<T> Table<T> {
         }
     }
 
+    /// How many values lie before a place.
+    ///
+    /// # Contract
+    ///
+    /// ```text
+    /// requires { i < PLACES_PER_TABLE }
+    /// ensures rank { result ≡ values_before_place self.now i }
+    /// ensures within { result ≤ length self.now.items.items }
+    /// ```
+    #[inline]
+    pub(crate) fn rank(&self, i: usize) -> usize {
+        self.start(i / 64) + rank(self.word(i / 64), i % 64)
+    }
+
     /// Reserves capacity for so many values more. Whatever it returns, the table is the same.
     ///
     /// # Contract

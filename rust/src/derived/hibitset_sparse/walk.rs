@@ -61,7 +61,10 @@ impl<'a> WordIter<'a> {
     }
 }
 
-/// A walk over the members of a set, in ascending order.
+/// A walk over the members of a set, in ascending order, as `SparseBitSet::iter` makes.
+///
+/// It goes along the tables of the set, and keeps in 136 bytes where it is in them. A step reads the next nonzero word
+/// if the last one is passed, 8 bytes, and else nothing.
 pub struct SparseIter<'a> {
     pub(crate) words: WordIter<'a>,
     // What is left of the word at hand, whose first bit stands for the index `first`.
