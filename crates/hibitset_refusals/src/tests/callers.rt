@@ -7,6 +7,7 @@ use crate::tests::{
     ask, assert_has, assert_indices, atomic_of, has_exactly, say, shared_of, three_tags,
 };
 use hibitset::{AtomicBitSet, BitSet, BitSetLike, BuildError, Index, Seat, SharedBitSet};
+use hibitset_sparse::SparseBitSet;
 use hibitset_testing::sets::set_of;
 use std::alloc::{AllocError, Global};
 use std::process::Abort;
@@ -14,10 +15,12 @@ use std::test::Fail;
 use uses::filter::Tagged;
 use uses::ids::Ids;
 use uses::lists;
+use uses::marks::unmarked;
 use uses::pages::Pages;
 use uses::ready::Ready;
 use uses::results::{both_within, histogram, page, page_before, page_from};
 use uses::room::{saved, with_one_more};
+use uses::seen::Seen;
 use uses::shared_ids::take_many;
 use uses::walks::indices;
 use uses::workers::{Refused, add_lists};
@@ -335,6 +338,22 @@ fn lists_by_workers(rt: HostRuntime) -> Result<(), Fail> {
     Ok(())
 }
 
+fn seen(keys: &mut Seen) -> Result<bool, AllocError> {
+    keys.see(12_345_678_901)
+}
+
+// allocates: 4, 96 bytes: uses::Seen::see
+#[test]
+fn see_a_key(rt: HostRuntime) -> Result<(), Fail> {
+    let mut keys = Seen::new(rt.alloc());
+    let first = tried!(&rt, seen(&mut keys));
+    if first.is_err() {
+        assert!(rt; seen(&mut keys) == Ok(false));
+    }
+    assert!(rt; seen(&mut keys) == Ok(true));
+    Ok(())
+}
+
 const ROWS: [Index; 5] = [1, 2, 3, 5_000, 70_000];
 
 fn page_of(alloc: Global, found: &BitSet) -> Result<Vec<Index>, AllocError> {
@@ -400,5 +419,24 @@ fn rows_of_both(rt: HostRuntime) -> Result<(), Fail> {
     let other = set_of(rt.alloc(), &[1, 3, 5_000, 5_001])?;
     let made = retried!(&rt, rows_of(rt.alloc(), &found, &other));
     assert_indices(&rt, made.as_slice(), &[3, 5_000]);
+    Ok(())
+}
+
+fn rows_without(
+    alloc: Global,
+    rows: &BitSet,
+    marks: &SparseBitSet,
+) -> Result<Vec<Index>, AllocError> {
+    unmarked(alloc, rows, marks)
+}
+
+// allocates: 1, 16 bytes: uses::unmarked
+#[test]
+fn rows_without_marks(rt: HostRuntime) -> Result<(), Fail> {
+    let rows = set_of(rt.alloc(), &ROWS)?;
+    let mut marks = SparseBitSet::new(rt.alloc());
+    marks.add(3)?;
+    let made = retried!(&rt, rows_without(rt.alloc(), &rows, &marks));
+    assert_indices(&rt, made.as_slice(), &[1, 2, 5_000, 70_000]);
     Ok(())
 }
