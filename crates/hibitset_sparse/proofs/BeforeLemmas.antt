@@ -57,7 +57,8 @@ ranked p s w (suc k) same =
     let more = rank-more w k in
     rw (← one) (elim (cases_Bool (bit_is_set w k)) [
       | inl on ↦ let bit = set-is-one w k on in let here = last ∙ ap (λ b. length (cond b ((s + k) ∷ []) [])) on in omega (arith, split, lower, here, more, bit)
-      | inr off ↦ let bit = clear-is-zero w k off in let here = last ∙ ap (λ b. length (cond b ((s + k) ∷ []) [])) off in omega (arith, split, lower, here, more, bit)
+      | inr off ↦ let bit = clear-is-zero w k off in let here = last ∙ ap (λ b. length (cond b ((s + k) ∷ []) [])) off in omega
+          (arith, split, lower, here, more, bit)
     ])
 
 pub rank-few : (w b : ℕ) → rank_in w b ≤ b
@@ -67,10 +68,12 @@ rank-few w b =
     omega (arith, is, few)
 
 -- those before an index, by those before a part and in the part
-in-parts : (p : ℕ → Bool) (end size before more : ℕ) → 0 < size → before ≡ length (members p 0 (end / size * size)) → more ≡ length (members p (0 + end / size * size) (end % size))
+in-parts : (p : ℕ → Bool) (end size before more : ℕ) → 0 < size → before ≡ length (members p 0 (end / size * size)) → more
+    ≡ length (members p (0 + end / size * size) (end % size))
     → end / size * size + end % size ≡ end → before + more ≡ length (members p 0 end)
 in-parts p end size before more some first second whole =
-    let split = ap length (members-append p 0 (end / size * size) (end % size)) ∙ length-append (members p 0 (end / size * size)) (members p (0 + end / size * size) (end % size)) in
+    let split = ap length (members-append p 0 (end / size * size) (end % size)) ∙ length-append (members p 0 (end / size * size)) (members p
+    (0 + end / size * size) (end % size)) in
     let all = ap (λ n. length (members p 0 n)) whole in
     omega (arith, first, second, split, all)
 
@@ -90,7 +93,8 @@ module _ (words : Table ℕ) where
       ap (λ b. bit_at w b == 1) bit ∙ sym (ap (λ v. bit_is_set v (j % 64)) word)))
 
   -- the members in the words before a place
-  pub words-before : (k : ℕ) → k ≤ 4096 → length (in_words 0 (zip (members (is_taken words) 0 k) (take (values_before_place words k) words.items.items))) ≡ length (members (has_in_words words) 0 (k * 64))
+  pub words-before : (k : ℕ) → k ≤ 4096 → length (in_words 0 (zip (members (is_taken words) 0 k) (take
+      (values_before_place words k) words.items.items))) ≡ length (members (has_in_words words) 0 (k * 64))
   words-before k few = ap length (blocks-before words k few (of_word 0) (has_in_words words) 0 64 (λ i low. word-of i (value_at words i) refl))
 
   -- those in the word at a place before a bit
@@ -106,20 +110,24 @@ module _ (words : Table ℕ) where
       in-parts (has_in_words words) end 64 count (rank_in word (end % 64)) (omega arith) counted
       (ap (λ o. rank_in (or_zero o) (end % 64)) (sym is) ∙ sym (in-word (end / 64) (end % 64) (omega arith))) (omega arith)
 
-  pub before-none : (end count : ℕ) → value_at words (end / 64) ≡ None → count ≡ length (members (has_in_words words) 0 (end / 64 * 64)) → count ≡ length (members (has_in_words words) 0 end)
+  pub before-none : (end count : ℕ) → value_at words (end / 64) ≡ None → count ≡ length (members (has_in_words words) 0 (end / 64 * 64)) → count
+      ≡ length (members (has_in_words words) 0 end)
   before-none end count none counted =
       let zero_rank = ap (λ w. rank_in w (end % 64)) (ap or_zero none) in
       let empty = in-word (end / 64) (end % 64) (omega arith) in
-      let no : rank_in 0 (end % 64) ≡ 0 = sym (ranked (λ j. false) 0 0 (end % 64) (λ j low. sym (zero-is-clear 0 j (bit_at-zero j)))) ∙ ap length (members-none (λ j. false) 0 (end % 64) (λ j from below. refl)) in
+      let no : rank_in 0 (end % 64) ≡ 0 = sym (ranked (λ j. false) 0 0 (end % 64) (λ j low. sym (zero-is-clear 0 j (bit_at-zero j))))
+      ∙ ap length (members-none (λ j. false) 0 (end % 64) (λ j from below. refl)) in
       let all = in-parts (has_in_words words) end 64 count 0 (omega arith) counted (sym (empty ∙ (zero_rank ∙ no))) (omega arith) in
       omega (arith, all)
 
 module _ (chunks : Table Chunk) where
   -- the members in the chunks before a place
-  pub chunks-before : (k : ℕ) → k ≤ 4096 → length (in_chunks (zip (members (is_taken chunks) 0 k) (take (values_before_place chunks k) chunks.items.items))) ≡ length (members (holds chunks) 0 (k * 262144))
+  pub chunks-before : (k : ℕ) → k ≤ 4096 → length (in_chunks (zip (members (is_taken chunks) 0 k) (take
+      (values_before_place chunks k) chunks.items.items))) ≡ length (members (holds chunks) 0 (k * 262144))
   chunks-before k few = ap length (blocks-before chunks k few of_chunk (holds chunks) 0 262144 (λ c low. chunk-gives chunks c (value_at chunks c) refl))
 
-  pub before-chunk : (end count more : ℕ) (chunk : Chunk) → value_at chunks (end / 262144) ≡ Some chunk → count ≡ length (members (holds chunks) 0 (end / 262144 * 262144))
+  pub before-chunk : (end count more : ℕ) (chunk : Chunk) → value_at chunks (end / 262144) ≡ Some chunk → count
+      ≡ length (members (holds chunks) 0 (end / 262144 * 262144))
       → more ≡ length (members (has_in_words chunk.words) 0 (end % 262144)) → count + more ≡ length (members (holds chunks) 0 end)
   before-chunk end count more chunk is counted inside =
       let c : ℕ = end / 262144 in
@@ -130,7 +138,8 @@ module _ (chunks : Table Chunk) where
       sym (in-chunk chunks c chunk is (0 + c * 262144 + i) row ∙ rw (rest, bit) refl)) in
       in-parts (holds chunks) end 262144 count more (omega arith) counted (inside ∙ same) (omega arith)
 
-  pub before-gap : (end count : ℕ) → value_at chunks (end / 262144) ≡ None → count ≡ length (members (holds chunks) 0 (end / 262144 * 262144)) → count ≡ length (members (holds chunks) 0 end)
+  pub before-gap : (end count : ℕ) → value_at chunks (end / 262144) ≡ None → count ≡ length (members (holds chunks) 0 (end / 262144 * 262144)) → count
+      ≡ length (members (holds chunks) 0 end)
   before-gap end count none counted =
       let c : ℕ = end / 262144 in
       let empty = ap length (members-none (holds chunks) (0 + c * 262144) (end % 262144) (λ j from below.
@@ -140,7 +149,8 @@ module _ (chunks : Table Chunk) where
       omega (arith, all)
 
 -- the values before a place are as many as their places, and no more than places in all
-pub taken-long : {T : Type 0} (table : Table T) (k at : ℕ) (xs : List T) → k ≤ 4096 → at ≡ values_before_place table k → at ≤ length table.items.items → xs ≡ table.items.items
+pub taken-long : {T : Type 0} (table : Table T) (k at : ℕ) (xs : List T) → k ≤ 4096 → at ≡ values_before_place table k → at ≤ length table.items.items
+    → xs ≡ table.items.items
     → length (members (is_taken table) 0 k) ≡ length (take at xs)
 taken-long table k at xs few is within same =
     let long = length-take at xs in

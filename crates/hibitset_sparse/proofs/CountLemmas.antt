@@ -44,7 +44,8 @@ pub chunk-counted : (count more total i : ℕ) (x : Chunk) (ps : List ℕ) (xs :
     → ((base : ℕ) → more ≡ length (in_words base (entries_of x.words)))
     → count + length (in_chunks (zip_from i ps xs)) ≡ total → count + more + length (in_chunks (zip_from (i + 1) ps xs)) ≡ total
 chunk-counted count more total i x ps xs long low is counted so_far =
-    let begins : zip_from i ps xs ≡ (get_or ps i 0, x) ∷ zip_from (i + 1) ps xs = zip-next ps xs i x long low ∙ ap (λ y. (get_or ps i 0, y) ∷ zip_from (i + 1) ps xs) (sym is) in
+    let begins : zip_from i ps xs ≡ (get_or ps i 0, x) ∷ zip_from (i + 1) ps xs = zip-next ps xs i x long low
+    ∙ ap (λ y. (get_or ps i 0, y) ∷ zip_from (i + 1) ps xs) (sym is) in
     let next = ap (λ es. length (in_chunks es)) begins in
     let split = length-append (in_words (262144 * get_or ps i 0) (entries_of x.words)) (in_chunks (zip_from (i + 1) ps xs)) in
     let own = counted (262144 * get_or ps i 0) in

@@ -50,15 +50,18 @@ module _ {X : Type 0} where
     blocks-from a (suc k) all =
         let long : suc k * size ≡ size + k * size = omega arith in
         let next : s + suc a * size ≡ s + a * size + size = omega arith in
-        let rest : flat_map f (zip (members test (suc a) k) (drop (pos (suc a)) xs)) ≡ members p (s + a * size + size) (k * size) = rw next at (blocks-from (suc a) k (omega arith)) in
-        let both : members p (s + a * size) (suc k * size) ≡ members p (s + a * size) size ++ members p (s + a * size + size) (k * size) = ap (members p (s + a * size)) long ∙ members-append p (s + a * size) size (k * size) in
+        let rest : flat_map f (zip (members test (suc a) k) (drop (pos (suc a)) xs)) ≡ members p (s + a * size + size) (k * size) = rw next at
+        (blocks-from (suc a) k (omega arith)) in
+        let both : members p (s + a * size) (suc k * size) ≡ members p (s + a * size) size ++ members p (s + a * size + size) (k * size) = ap (members p
+        (s + a * size)) long ∙ members-append p (s + a * size) size (k * size) in
         let one : a + 1 ≡ suc a = omega arith in
         elim (cases_Bool (test a)) [
           | inl on ↦
               let found = order.some a (omega arith) on in
               let here : f (a, found.0) ≡ members p (s + a * size) size = ap (given f a) (sym found.1) ∙ each a (omega arith) in
               let step : pos (suc a) ≡ suc (pos a) = ap pos (sym one) ∙ (order.after_some a (omega arith) on ∙ omega arith) in
-              rw (on, drop-get xs (pos a) found.0 found.2, both, ← step) (ap (λ ys. ys ++ flat_map f (zip (members test (suc a) k) (drop (pos (suc a)) xs))) here ∙ ap (λ ys. members p (s + a * size) size ++ ys) rest)
+              rw (on, drop-get xs (pos a) found.0 found.2, both, ← step) (ap (λ ys. ys ++ flat_map f (zip (members test (suc a) k) (drop (pos
+              (suc a)) xs))) here ∙ ap (λ ys. members p (s + a * size) size ++ ys) rest)
           | inr off ↦
               let here : [] ≡ members p (s + a * size) size = ap (given f a) (sym (order.none a (omega arith) off)) ∙ each a (omega arith) in
               let step : pos (suc a) ≡ pos a = ap pos (sym one) ∙ order.after_none a (omega arith) off in
@@ -99,7 +102,8 @@ module _ {X : Type 0} where
   at-place items (Some g) b before on starts =
       value-on (λ k. slice_get items (g.start + k)) g.word b (one-is-set g.word b on) ∙ ap (λ k. slice_get items (k + rank_in g.word b)) (starts g refl)
 
-  next-place : (table : Table X) (i : ℕ) → i < 4096 → values_before_place table (i + 1) ≡ values_before (value_in table.groups) (i / 64) + rank_in (group_word table (i / 64)) (i % 64 + 1)
+  next-place : (table : Table X) (i : ℕ) → i < 4096 → values_before_place table (i + 1) ≡ values_before (value_in table.groups) (i / 64) + rank_in
+      (group_word table (i / 64)) (i % 64 + 1)
   next-place table i low = elim (cases_lt (i % 64) 63) [
     | inl within ↦
         let row : (i + 1) / 64 ≡ i / 64 = omega arith in
@@ -121,7 +125,8 @@ module _ {X : Type 0} where
     some = λ i low on.
         let bit = set-is-one (group_word table (i / 64)) (i % 64) on in
         let found = group-on table (i / 64) (i % 64) (omega arith) bit in
-        let at = at-place table.items.items (value_in table.groups (i / 64)) (i % 64) (values_before (value_in table.groups) (i / 64)) bit (λ g is. table.laid_out.starts (i / 64) g (omega arith) is) in
+        let at = at-place table.items.items (value_in table.groups (i / 64)) (i % 64) (values_before (value_in table.groups) (i / 64)) bit
+        (λ g is. table.laid_out.starts (i / 64) g (omega arith) is) in
         (found.0, found.1, sym at ∙ found.1);
     none = λ i low off. group-off table (i / 64) (i % 64) (clear-is-zero (group_word table (i / 64)) (i % 64) off);
     after_some = λ i low on.
@@ -154,12 +159,15 @@ module _ {X : Type 0} where
   pub places-are : (table : Table X) → places_of_groups (bits_from 0 table.groups.word) table.groups.items.items ≡ members (is_taken table) 0 4096
   places-are table =
       let root : bits_from 0 table.groups.word ≡ members (bit_is_set table.groups.word) 0 64 =
-      members-same (λ q. bit_at table.groups.word (q - 0) == 1) (bit_is_set table.groups.word) 0 64 (λ i from below. let e : i - 0 ≡ i = omega arith in ap (λ k. bit_at table.groups.word k == 1) e) in
-      rw root (blocks (bit_is_set table.groups.word) (rank_in table.groups.word) (value_in table.groups) table.groups.items.items 64 (row-order table.groups) in_group (is_taken table) 0 64
+      members-same (λ q. bit_at table.groups.word (q - 0) == 1) (bit_is_set table.groups.word) 0 64 (λ i from below. let e : i - 0
+      ≡ i = omega arith in ap (λ k. bit_at table.groups.word k == 1) e) in
+      rw root (blocks (bit_is_set table.groups.word) (rank_in table.groups.word) (value_in table.groups) table.groups.items.items 64
+      (row-order table.groups) in_group (is_taken table) 0 64
       (λ q low. group-gives table q (value_in table.groups q) refl))
 
   -- what the values of a table give, one after another, is a range of members
-  pub table-blocks : (table : Table X) (f : ℕ × X → List ℕ) (p : ℕ → Bool) (s size : ℕ) → ((i : ℕ) → i < 4096 → given f i (value_at table i) ≡ members p (s + i * size) size)
+  pub table-blocks : (table : Table X) (f : ℕ × X → List ℕ) (p : ℕ → Bool) (s size : ℕ) → ((i : ℕ) → i < 4096 → given f i (value_at table i)
+      ≡ members p (s + i * size) size)
       → flat_map f (entries_of table) ≡ members p s (4096 * size)
   table-blocks table f p s size each =
       rw (places-are table) (blocks (is_taken table) (values_before_place table) (value_at table) table.items.items 4096 (table-order table) f p s size each)
@@ -180,7 +188,8 @@ module _ {X : Type 0} (test : ℕ → Bool) (pos : ℕ → ℕ) (value : ℕ →
   taken-count = let all = taken-from 0 n (omega arith) in let begins = order.begins in omega (arith, all, begins)
 
 module _ {X : Type 0} where
-  order-upto : (test : ℕ → Bool) (pos : ℕ → ℕ) (value : ℕ → Option X) (xs : List X) (n k : ℕ) → k ≤ n → AreInOrder test pos value xs n → AreInOrder test pos value xs k
+  order-upto : (test : ℕ → Bool) (pos : ℕ → ℕ) (value : ℕ → Option X) (xs : List X) (n k : ℕ) → k ≤ n → AreInOrder test pos value xs n
+      → AreInOrder test pos value xs k
   order-upto test pos value xs n k few order = record {
     begins = order.begins;
     some = λ i low. order.some i (omega arith);
@@ -192,7 +201,8 @@ module _ {X : Type 0} where
   -- each value has its place
   pub places-before : (table : Table X) (k : ℕ) → k ≤ 4096 → length (members (is_taken table) 0 k) ≡ values_before_place table k
   places-before table k few =
-      taken-count (is_taken table) (values_before_place table) (value_at table) table.items.items k (order-upto (is_taken table) (values_before_place table) (value_at table) table.items.items 4096 k few (table-order table))
+      taken-count (is_taken table) (values_before_place table) (value_at table) table.items.items k (order-upto (is_taken table)
+      (values_before_place table) (value_at table) table.items.items 4096 k few (table-order table))
 
   pub places-count : (table : Table X) → length (places_of_groups (bits_from 0 table.groups.word) table.groups.items.items) ≡ length table.items.items
   places-count table =
@@ -209,7 +219,8 @@ module _ {X : Type 0} where
   zip-take (p ∷ ps) (x ∷ xs) (suc n) long = ap (λ es. (p, x) ∷ es) (zip-take ps xs n (omega arith))
 
   -- the same of the values before a place
-  pub blocks-before : (table : Table X) (k : ℕ) → k ≤ 4096 → (f : ℕ × X → List ℕ) (p : ℕ → Bool) (s size : ℕ) → ((i : ℕ) → i < 4096 → given f i (value_at table i) ≡ members p (s + i * size) size)
+  pub blocks-before : (table : Table X) (k : ℕ) → k ≤ 4096 → (f : ℕ × X → List ℕ) (p : ℕ → Bool) (s size : ℕ) → ((i : ℕ) → i < 4096
+      → given f i (value_at table i) ≡ members p (s + i * size) size)
       → flat_map f (zip (members (is_taken table) 0 k) (take (values_before_place table k) table.items.items)) ≡ members p s (k * size)
   blocks-before table k few f p s size each =
       let order = order-upto (is_taken table) (values_before_place table) (value_at table) table.items.items 4096 k few (table-order table) in

@@ -31,10 +31,12 @@ module _ (chunks : Table Chunk) where
   holds = holds_at (word_in chunks)
 
   -- an index of a chunk that is there has its bit in a word of it
-  pub in-chunk : (c : ℕ) (chunk : Chunk) → value_at chunks c ≡ Some chunk → (j : ℕ) → j / 262144 ≡ c → holds j ≡ bit_is_set (or_zero (value_at chunk.words (j % 262144 / 64))) (j % 64)
+  pub in-chunk : (c : ℕ) (chunk : Chunk) → value_at chunks c ≡ Some chunk → (j : ℕ) → j / 262144 ≡ c → holds j
+      ≡ bit_is_set (or_zero (value_at chunk.words (j % 262144 / 64))) (j % 64)
   in-chunk c chunk is j row =
       let bit : j % 262144 % 64 ≡ j % 64 = omega arith in
-      holds-under chunks j ∙ (ap (λ o. has_under o (j % 262144)) (ap (value_at chunks) row ∙ is) ∙ ap (λ b. bit_is_set (or_zero (value_at chunk.words (j % 262144 / 64))) b) bit)
+      holds-under chunks j ∙ (ap (λ o. has_under o (j % 262144)) (ap (value_at chunks) row ∙ is)
+      ∙ ap (λ b. bit_is_set (or_zero (value_at chunk.words (j % 262144 / 64))) b) bit)
 
   word-gives : (c : ℕ) (chunk : Chunk) → value_at chunks c ≡ Some chunk → (i : ℕ) → i < 4096 → (o : Option ℕ) → value_at chunk.words i ≡ o
       → given (of_word (262144 * c)) i o ≡ members holds (262144 * c + i * 64) 64

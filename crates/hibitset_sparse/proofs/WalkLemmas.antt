@@ -48,7 +48,8 @@ pub word-next : (base place word : ℕ) (old new : List (ℕ × ℕ)) (behind : 
 word-next base place word old new behind is = rw is (append_assoc (bits_from (base + 64 * place) word) (in_words base new) behind)
 
 -- no word is at hand, and the next chunk is taken
-pub chunk-next : (base place : ℕ) (words own : List (ℕ × ℕ)) (chunk : Chunk) (old new : List (ℕ × Chunk)) → words ≡ [] → old ≡ (place, chunk) ∷ new → own ≡ entries_of chunk.words
+pub chunk-next : (base place : ℕ) (words own : List (ℕ × ℕ)) (chunk : Chunk) (old new : List (ℕ × Chunk)) → words ≡ [] → old ≡ (place, chunk) ∷ new
+    → own ≡ entries_of chunk.words
     → in_words base words ++ in_chunks old ≡ in_words (262144 * place) own ++ in_chunks new
 chunk-next base place words own chunk old new none is all = rw (none, is, all) refl
 
@@ -57,7 +58,8 @@ pub words-done : (base : ℕ) (words : List (ℕ × ℕ)) (chunks : List (ℕ ×
 words-done base words chunks none empty = rw (none, empty) refl
 
 -- as many words are left then
-pub words-same : (words own : List (ℕ × ℕ)) (place : ℕ) (chunk : Chunk) (old new : List (ℕ × Chunk)) → words ≡ [] → old ≡ (place, chunk) ∷ new → own ≡ entries_of chunk.words
+pub words-same : (words own : List (ℕ × ℕ)) (place : ℕ) (chunk : Chunk) (old new : List (ℕ × Chunk)) → words ≡ [] → old ≡ (place, chunk) ∷ new → own
+    ≡ entries_of chunk.words
     → length (own ++ flat_map (λ (e : ℕ × Chunk). entries_of (e.1).words) new) ≡ length (words ++ flat_map (λ (e : ℕ × Chunk). entries_of (e.1).words) old)
 words-same words own place chunk old new none is all = rw (none, is, all) refl
 

@@ -16,7 +16,8 @@ returns-in-Some c =
     let low : place ≤ 4096 = omega arith in
     let same = c.deref.ensures.value in
     let long = taken-long chunks place c.rank.result c.deref.result.now low c.rank.ensures.rank c.rank.ensures.within same in
-    let is = ap (λ xs. length (in_chunks (zip (members (is_taken chunks) 0 place) xs))) (ap (λ k. take k c.deref.result.now) c.rank.ensures.rank ∙ ap (take _) same) in
+    let is = ap (λ xs. length (in_chunks (zip (members (is_taken chunks) 0 place) xs))) (ap (λ k. take k c.deref.result.now) c.rank.ensures.rank
+    ∙ ap (take _) same) in
     let counted = c.count_chunks-count.ensures.counted (members (is_taken chunks) 0 place) long ∙ (is ∙ chunks-before chunks place low) in
     before-chunk chunks c.args.end c.count_chunks-count.result c.count_words_before.result c.in-Some.chunk.now c.in-Some.ensures counted c.count_words_before.ensures.rank
 
@@ -27,7 +28,8 @@ returns-in-None c =
     let low : place ≤ 4096 = omega arith in
     let same = c.deref.ensures.value in
     let long = taken-long chunks place c.rank.result c.deref.result.now low c.rank.ensures.rank c.rank.ensures.within same in
-    let is = ap (λ xs. length (in_chunks (zip (members (is_taken chunks) 0 place) xs))) (ap (λ k. take k c.deref.result.now) c.rank.ensures.rank ∙ ap (take _) same) in
+    let is = ap (λ xs. length (in_chunks (zip (members (is_taken chunks) 0 place) xs))) (ap (λ k. take k c.deref.result.now) c.rank.ensures.rank
+    ∙ ap (take _) same) in
     let counted = c.count_chunks-count.ensures.counted (members (is_taken chunks) 0 place) long ∙ (is ∙ chunks-before chunks place low) in
     before-gap chunks c.args.end c.count_chunks-count.result c.in-None.ensures counted
 

@@ -24,8 +24,10 @@ chunks-preserved c =
     let more = c.count_words-count.ensures.few in
     let few = c.chunks.invariant.few in
     record {
-      counted = λ ps long. chunk-counted c.chunks.count c.count_words-count.result (length (in_chunks (zip ps chunks))) c.chunks.chunk-index c.chunk-item.result ps chunks long c.chunks-test.true c.chunk-item.is
-          (λ base. c.count_words-count.ensures.counted base places (places-count table ∙ ap length (sym same)) ∙ ap (λ ws. length (in_words base (zip places ws))) same)
+      counted = λ ps long. chunk-counted c.chunks.count c.count_words-count.result (length (in_chunks
+          (zip ps chunks))) c.chunks.chunk-index c.chunk-item.result ps chunks long c.chunks-test.true c.chunk-item.is
+          (λ base. c.count_words-count.ensures.counted base places (places-count table ∙ ap length (sym same))
+          ∙ ap (λ ws. length (in_words base (zip places ws))) same)
           (c.chunks.invariant.counted ps long);
       few = omega (arith, more, few);
     }

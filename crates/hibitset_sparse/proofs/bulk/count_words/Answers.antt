@@ -22,7 +22,8 @@ words-preserved c =
     let ones = few_ones (get_or words i 0) fits in
     let few = c.words.invariant.few in
     record {
-      counted = λ base places long. word-counted base c.words.count (length (in_words base (zip places words))) i places words long c.words-test.true fits (c.words.invariant.counted base places long);
+      counted = λ base places long. word-counted base c.words.count (length (in_words base
+          (zip places words))) i places words long c.words-test.true fits (c.words.invariant.counted base places long);
       few = omega (arith, ones, few);
     }
 

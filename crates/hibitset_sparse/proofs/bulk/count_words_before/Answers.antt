@@ -17,9 +17,11 @@ returns-in-Some-clause-rank c =
     let low : place ≤ 4096 = omega arith in
     let same = c.deref.ensures.value in
     let long = taken-long words place c.rank.result c.deref.result.now low c.rank.ensures.rank c.rank.ensures.within same in
-    let is = ap (λ ws. length (in_words 0 (zip (members (is_taken words) 0 place) ws))) (ap (λ k. take k c.deref.result.now) c.rank.ensures.rank ∙ ap (take _) same) in
+    let is = ap (λ ws. length (in_words 0 (zip (members (is_taken words) 0 place) ws))) (ap (λ k. take k c.deref.result.now) c.rank.ensures.rank
+    ∙ ap (take _) same) in
     let counted = c.count_words-count.ensures.counted 0 (members (is_taken words) 0 place) long ∙ (is ∙ words-before words place low) in
-    ap (λ k. c.count_words-count.result + k) c.rank-in-Some.ensures ∙ before-word words c.args.end c.count_words-count.result c.in-Some.word.now c.in-Some.ensures counted
+    ap (λ k. c.count_words-count.result + k) c.rank-in-Some.ensures
+    ∙ before-word words c.args.end c.count_words-count.result c.in-Some.word.now c.in-Some.ensures counted
 
 pub returns-in-Some-clause-few : goal.returns-in-Some-clause-few
 returns-in-Some-clause-few c =
@@ -34,7 +36,8 @@ returns-in-None-clause-rank c =
     let low : place ≤ 4096 = omega arith in
     let same = c.deref.ensures.value in
     let long = taken-long words place c.rank.result c.deref.result.now low c.rank.ensures.rank c.rank.ensures.within same in
-    let is = ap (λ ws. length (in_words 0 (zip (members (is_taken words) 0 place) ws))) (ap (λ k. take k c.deref.result.now) c.rank.ensures.rank ∙ ap (take _) same) in
+    let is = ap (λ ws. length (in_words 0 (zip (members (is_taken words) 0 place) ws))) (ap (λ k. take k c.deref.result.now) c.rank.ensures.rank
+    ∙ ap (take _) same) in
     let counted = c.count_words-count.ensures.counted 0 (members (is_taken words) 0 place) long ∙ (is ∙ words-before words place low) in
     before-none words c.args.end c.count_words-count.result c.in-None.ensures counted
 

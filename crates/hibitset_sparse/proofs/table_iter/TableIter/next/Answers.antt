@@ -36,5 +36,6 @@ pub returns-clause-steps : goal.returns-clause-steps
 unfolding entries_left
 returns-clause-steps g c =
     let walk = c.groups.self in
-    place-next walk.first walk.word c.take_first_bit-2.new.word c.take_first_bit-2.result _ (places_left c.args.self.now) c.in-Some.item.now c.in-Some.items.now c.args.self.now.items.now
+    place-next walk.first walk.word c.take_first_bit-2.new.word c.take_first_bit-2.result _
+    (places_left c.args.self.now) c.in-Some.item.now c.in-Some.items.now c.args.self.now.items.now
     c.groups.invariant.places c.in-Some.ensures.cases.0 c.take_first_bit-2.ensures.first
