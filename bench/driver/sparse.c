@@ -1,7 +1,11 @@
-// CRoaring's sets for the driver of sparse sets, many calls at once, and how many bytes malloc has in use.
+// For the driver of sparse sets: how many bytes malloc has in use, the thread's clock, and, with ROARING, CRoaring's calls many at once.
+#define _GNU_SOURCE
 #include <malloc.h>
-#include <roaring/roaring.h>
+#include <stddef.h>
 #include <time.h>
+#ifdef ROARING
+#include <roaring/roaring.h>
+#endif
 
 size_t bytes_in_use(void) {
     struct mallinfo2 info = mallinfo2();
@@ -14,6 +18,7 @@ double thread_seconds(void) {
     return (double)now.tv_sec + (double)now.tv_nsec * 1e-9;
 }
 
+#ifdef ROARING
 void roaring_add_all(roaring_bitmap_t *set, const uint32_t *ids, size_t count) {
     for (size_t i = 0; i < count; i++) roaring_bitmap_add(set, ids[i]);
 }
@@ -45,3 +50,4 @@ uint64_t roaring_sum_of_both(const roaring_bitmap_t *a, const roaring_bitmap_t *
     roaring_bitmap_free(both);
     return sum;
 }
+#endif

@@ -10,6 +10,7 @@ use uses::walks::{first, indices};
 mod atomic_lists;
 mod held;
 mod ids;
+mod marks;
 mod meeting;
 mod rows;
 mod shared;
