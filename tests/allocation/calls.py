@@ -5,7 +5,7 @@ from checks.sources import head_end, lines_of
 
 from . import lines
 
-CRATES = "hibitset_base hibitset_atomic hibitset hibitset_store hibitset_roaring uses hibitset_run".split()
+CRATES = "hibitset_base hibitset_atomic hibitset hibitset_store hibitset_roaring hibitset_sparse uses hibitset_run".split()
 
 # Calls of the program: by two tests of its own, and by the scripts of scripts.py.
 OF_PROGRAM = {f"hibitset_run::{name}" for name in ("run", "run_text", "Printed::put_line", "Reply::put_line", "StoreReply::put_line")}

@@ -27,7 +27,7 @@ class Turns:
         if "refused" in said:
             place = said.index("refused")
             (self.before if place == 0 else self.after if place == parts - 1 else self.call).append(number)
-        elif not self.after and (self.wanted.goes_on or self.wanted.is_unmeasured):
+        elif not self.after and (self.wanted.goes_on or self.wanted.passes or self.wanted.is_unmeasured):
             self.went_on.append(number)
         elif not self.after:
             self.fail(f"request {number}: was not refused")
@@ -44,8 +44,11 @@ class Turns:
         if sorted(self.call + self.went_on) != list(self.numbers):
             self.fail(f"between {self.before} and {self.after} only {self.call} were refused")
         if self.wanted.is_unmeasured:
-            self.fail(f"write above it: // allocates: {len(self.numbers)}, {self.bytes:_} bytes{', or goes on' if self.went_on else ''}")
-        if len(self.went_on) > 1:
+            went_on = ", or goes on" if self.call and self.went_on else ", and passes" if self.went_on else ""
+            self.fail(f"write above it: // allocates: {len(self.numbers)}, {self.bytes:_} bytes{went_on}")
+        if self.wanted.passes and self.call:
+            self.fail(f"it did not pass where the requests {self.call} were refused")
+        if len(self.went_on) > 1 and not self.wanted.passes:
             self.fail(f"it went on where the requests {self.went_on} were refused")
         if self.wanted.is_none == bool(self.numbers) and not self.is_alone:
             self.fail(f"{len(self.numbers)} requests")

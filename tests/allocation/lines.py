@@ -8,6 +8,7 @@ In place of the figures may stand
     none                               the call allocates nothing, as things are
     1, 96 bytes, or goes on            where one of them alone fails, the call may pass: std's `collect` allocates again, for one
                                        item, where it does not get the capacity that a walk hints at
+    8, 96 bytes, and passes            the call passes, whichever of them fails: it does its work without
     11, in threads                     the bytes depend on the processors
     5 at most, 0 bytes on 1 processor  so many threads as there are processors; on one, so many bytes in one allocation or none
     unmeasured                         the run prints the figures, and fails
@@ -18,7 +19,8 @@ import re
 from dataclasses import dataclass
 
 FIGURES = re.compile(
-    r"(?P<none>none)|(?P<unmeasured>unmeasured)|(?P<requests>\d+), (?:(?P<bytes>[\d_]+) bytes(?P<goes_on>, or goes on)?|in threads)"
+    r"(?P<none>none)|(?P<unmeasured>unmeasured)"
+    r"|(?P<requests>\d+), (?:(?P<bytes>[\d_]+) bytes(?:, (?:(?P<goes_on>or goes on)|(?P<passes>and passes)))?|in threads)"
     r"|(?P<most>\d+) at most, (?P<alone>[\d_]+) bytes on 1 processor"
 )
 LINE = re.compile(r"// allocates: (.*?)(?:: (.*))?$")
@@ -37,6 +39,7 @@ class Wanted:
     most: int = None  # requests, by so many threads as there are processors
     alone: int = None  # bytes on one processor
     goes_on: bool = False
+    passes: bool = False
     is_none: bool = False
     is_unmeasured: bool = False
     calls: tuple = ()
@@ -52,7 +55,8 @@ def wanted(figures, calls):
 
     said = {name: count(name) for name in ("requests", "bytes", "most", "alone")}
     listed = tuple(call.strip() for call in calls.split(",")) if calls else ()
-    return Wanted(**said, goes_on=bool(found["goes_on"]), is_none=bool(found["none"]), is_unmeasured=bool(found["unmeasured"]), calls=listed)
+    marks = {"goes_on": "goes_on", "passes": "passes", "is_none": "none", "is_unmeasured": "unmeasured"}
+    return Wanted(**said, **{mark: bool(found[name]) for mark, name in marks.items()}, calls=listed)
 
 
 def line_above(lines, at):

@@ -64,6 +64,7 @@ class Lines(InRepository):
     def test_figures(self):
         self.assertTrue(lines.wanted("none", None).is_none)
         self.assertTrue(lines.wanted("1, 96 bytes, or goes on", "low::f").goes_on)
+        self.assertTrue(lines.wanted("8, 96 bytes, and passes", None).passes)
         self.assertEqual(lines.wanted("11, in threads", "low::f").bytes, None)
         self.assertEqual(lines.wanted("5 at most, 2_048 bytes on 1 processor", "low::f").alone, 2048)
         for figures in ("1", "1, 2 byte", "some, 2 bytes", ""):
@@ -111,6 +112,7 @@ class Runs(unittest.TestCase):
     def test_what_is_right(self):
         self.assertIn("2 refused in turn, 48 bytes: ok", self.closed(Fake([16, 32]), "2, 48 bytes"))
         self.assertIn("1 gone on without", self.closed(Fake([16], goes_on=True), "1, 16 bytes, or goes on"))
+        self.assertIn("2 gone on without", self.closed(Fake([16, 32], goes_on=True), "2, 48 bytes, and passes"))
         self.assertIn("2 refused in turn", self.closed(Fake([16, 32]), "2, in threads"))
         self.assertIn("on one processor", self.closed(Fake([64]), "5 at most, 64 bytes on 1 processor", is_alone=True))
 
@@ -123,6 +125,8 @@ class Runs(unittest.TestCase):
 
     def test_a_call_that_passes_or_breaks(self):
         self.refuses(Fake([16], goes_on=True), "1, 16 bytes", "request 2: was not refused")
+        self.refuses(Fake([16, 32], goes_on=True), "2, 48 bytes, or goes on", "it went on where the requests [2, 3]")
+        self.refuses(Fake([16, 32]), "2, 48 bytes, and passes", "it did not pass where the requests [2, 3]")
         self.refuses(Fake([16, 32], broken=3), "2, 48 bytes", "request 3")
         self.refuses(Fake([16] * 70), "70, 1120 bytes", "and there are more")
 

@@ -61,6 +61,7 @@ mod copies;
 mod parts;
 mod room;
 mod sets;
+mod sparse;
 mod streams;
 mod worlds;
 
