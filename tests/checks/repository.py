@@ -6,7 +6,7 @@ from pathlib import Path
 from .pages import files_of_crate
 from .sources import Crate, is_test, text_of
 
-LIBRARY = "hibitset_base hibitset_atomic hibitset hibitset_store hibitset_roaring hibitset_c".split()
+LIBRARY = "hibitset_base hibitset_sparse hibitset_atomic hibitset hibitset_store hibitset_roaring hibitset_c".split()
 PAGES = ("*.md", "docs/*.md", "bench/*.md", "tests/**/*.md", "crates/*/*.md", "bindings/*/*.md", "rust/*.md")
 
 
