@@ -342,7 +342,7 @@ fn seen(keys: &mut Seen) -> Result<bool, AllocError> {
     keys.see(12_345_678_901)
 }
 
-// allocates: 4, 96 bytes: uses::Seen::see
+// allocates: 4, 384 bytes: uses::Seen::see
 #[test]
 fn see_a_key(rt: HostRuntime) -> Result<(), Fail> {
     let mut keys = Seen::new(rt.alloc());

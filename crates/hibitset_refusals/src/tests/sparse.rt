@@ -346,3 +346,30 @@ fn extend_from_slice(rt: HostRuntime) -> Result<(), Fail> {
     assert_has(&rt, &set, &[5, 6, 7, FAR]);
     Ok(())
 }
+
+fn copied(set: &SparseBitSet) -> Result<SparseBitSet, AllocError> {
+    set.clone()
+}
+
+// allocates: 6, 192 bytes: hibitset_sparse::SparseBitSet::clone, hibitset_sparse::Chunk::clone
+#[test]
+fn copy_of_a_set(rt: HostRuntime) -> Result<(), Fail> {
+    let set = sparse_of(rt.alloc(), &[5, FAR])?;
+    let copy = retried!(&rt, copied(&set));
+    assert!(rt; copy == set);
+    assert_has(&rt, &copy, &[5, FAR]);
+    Ok(())
+}
+
+fn listed(alloc: Global, set: &SparseBitSet) -> Result<Vec<Index>, AllocError> {
+    set.to_vec(alloc)
+}
+
+// allocates: 1, 8 bytes: hibitset_sparse::SparseBitSet::to_vec
+#[test]
+fn list_of_a_set(rt: HostRuntime) -> Result<(), Fail> {
+    let set = sparse_of(rt.alloc(), &[5, FAR])?;
+    let list = retried!(&rt, listed(rt.alloc(), &set));
+    assert!(rt; list.as_slice() == [5, FAR].as_slice());
+    Ok(())
+}
