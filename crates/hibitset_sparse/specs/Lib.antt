@@ -3,6 +3,7 @@ pub mod PackedArray
 pub mod Layout
 pub mod Table
 pub mod Chunk
+pub mod Parts
 pub mod Chunks
 pub mod Replacement
 pub mod SparseBitSet
