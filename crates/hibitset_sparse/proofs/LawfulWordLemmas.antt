@@ -1,5 +1,5 @@
 -- The words of a chunk in any lawful set.
-use Rattle.std.proofs.Common.{◌≡◌, ℕ, ◌+◌, ◌-◌, ◌*◌, ◌/◌, ◌%◌, ◌^◌, ◌<◌, ◌==◌, Bool, true, false, refl, ◌∙◌, ap, arith, inl, inr}
+use Rattle.std.proofs.Common.{sym, ◌∙◌, ◌≡◌, ℕ, ◌+◌, ◌-◌, ◌*◌, ◌/◌, ◌%◌, ◌^◌, ◌<◌, ◌==◌, Bool, true, false, refl, ap, arith, inl, inr}
 use Rattle.std.specs.Int.{bit_at}
 use Rattle.std.proofs.lemmas.Bool.{cases_lt}
 use Rattle.std.proofs.lemmas.Nat.Bits.{bit_at-zero}
@@ -36,8 +36,11 @@ module _ (holds : ℕ → Bool) (word : ℕ → ℕ → ℕ) (lawful : IsLawful 
       let here : 64 * position + p % 64 ≡ 4096 * c + p = omega arith in
       rw here at (clear-in_group position (p % 64) (omega (arith, small, low)) (omega arith) (ap (λ w. bit_at w (p % 64)) none ∙ bit_at-zero (p % 64)))
 
-  -- the members of a chunk
-  pub holds-in_chunk : (c i : ℕ) → c < 4096 → i < 262144 → bit_is_set (word 0 (4096 * c + i / 64)) (i % 64) ≡ holds (262144 * c + i)
-  holds-in_chunk c i small low =
-      let whole : 64 * (4096 * c + i / 64) + i % 64 ≡ 262144 * c + i = omega arith in
-      ap (λ x. x == 1) (lawful.members (4096 * c + i / 64) (i % 64) (omega (arith, small, low)) (omega arith)) ∙ (bit-test (holds (64 * (4096 * c + i / 64) + i % 64)) ∙ ap holds whole)
+  -- the bits of a word are members
+  pub holds-by_word : (p b : ℕ) → p < 16777216 → b < 64 → bit_is_set (word 0 p) b ≡ holds (64 * p + b)
+  holds-by_word p b low small = ap (λ x. x == 1) (lawful.members p b (omega (arith, low)) small) ∙ bit-test (holds (64 * p + b))
+
+  -- a chunk has no members under a clear bit
+  pub holds-clear : (c p b : ℕ) → c < 4096 → p < 4096 → b < 64 → bit_at (word 2 c) (p / 64) ≡ 0 → bit_is_set 0 b ≡ holds (64 * (4096 * c + p) + b)
+  holds-clear c p b small low few off =
+      ap (λ w. bit_is_set w b) (sym (clear-in_chunk c p small low off)) ∙ holds-by_word (4096 * c + p) b (omega (arith, small, low)) few

@@ -4,6 +4,7 @@ pub mod Layout
 pub mod Table
 pub mod Chunk
 pub mod Parts
+pub mod GroupView
 pub mod Chunks
 pub mod Replacement
 pub mod SparseBitSet

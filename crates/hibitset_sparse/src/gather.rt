@@ -1,9 +1,10 @@
 //! Chunks made of the words of any set.
-ghost use Rattle.std.specs.Prelude.{◌≡◌, ◌≢◌, ℕ, ◌+◌, ◌*◌, ◌/◌, ◌%◌, ◌<◌, length, None, Some, IfOk, OnOk};
+ghost use Rattle.std.specs.Prelude.{◌≡◌, ◌≢◌, ℕ, ◌+◌, ◌*◌, ◌/◌, ◌%◌, ◌<◌, Bool, length, None, Some, IfOk, OnOk};
 ghost use Rattle.hibitset_sparse.specs.Replacement.{AreChunksOf, HasNoneIn, IsChunkOf};
 ghost use Rattle.hibitset_sparse.specs.Chunk.{or_zero};
 ghost use Rattle.hibitset_sparse.specs.Layout.{value_of_place};
 ghost use Rattle.hibitset_sparse.specs.PackedArray.{value_in};
+ghost use Rattle.hibitset_sparse.specs.Rank.{bit_is_set};
 ghost use Rattle.hibitset_sparse.specs.Parts.{AreWordsFrom, BeginsWith, IsMadeUpTo};
 ghost use Rattle.hibitset_sparse.specs.Table.{value_at};
 ghost use Rattle.hibitset_sparse.specs.declared.chunk.Chunk.{Chunk};
@@ -43,9 +44,9 @@ fn push_words<S: BitSetLike>(
     Ok(bits)
 }
 
-// Appends group q, with the words of a set under a word of its layer 1, where no group is there from q on.
+/// Appends group q, with the words of a set under a word of its layer 1, where no group is there from q on.
 #[inline]
-fn push_group<S: BitSetLike>(
+pub(crate) fn push_group<S: BitSetLike>(
     groups: &mut PackedArray<Group>,
     items: &mut Vec<usize>,
     set: &S,
@@ -56,9 +57,9 @@ fn push_group<S: BitSetLike>(
     requires group { q < GROUPS_PER_TABLE }
     requires made { IsMadeUpTo q (value_in groups.old) items.old.items }
     ensures made { OnOk result (IsMadeUpTo (q + 1) (value_in groups.new) items.new.items) }
-    ensures pushed { OnOk result ((p : ℕ) → p < PLACES_PER_TABLE → p / 64 ≡ q
-        → or_zero (value_of_place (value_in groups.new) items.new.items p)
-        ≡ S.word set.now 0 (64 * position + p % 64)) }
+    ensures pushed { OnOk result ((p b : ℕ) → p < PLACES_PER_TABLE → p / 64 ≡ q → b < 64
+        → bit_is_set (or_zero (value_of_place (value_in groups.new) items.new.items p)) b
+            ≡ S.holds set.now (64 * (64 * position + p % 64) + b)) }
     ensures others { OnOk result ((p : ℕ) → p < PLACES_PER_TABLE → p / 64 ≢ q
         → value_of_place (value_in groups.new) items.new.items p
         ≡ value_of_place (value_in groups.old) items.old.items p) }
@@ -89,19 +90,43 @@ fn chunk_of<S: BitSetLike>(alloc: Global, set: &S, c: usize) -> Result<Chunk, Al
     })
 }
 
-// The chunks of a set in one group, put into a table that has none in this group: those in which `touched` has a
+/// What chunks can be made of.
+pub(crate) trait ChunkSource: Drop {
+    // Holds of the numbers that the chunks have.
+    ghost holds: { Self → ℕ → Bool };
+
+    /// Makes chunk c.
+    fn make_chunk(&self, alloc: Global, c: usize) -> Result<Chunk, AllocError>
+        requires { c < PLACES_PER_TABLE }
+        ensures { IfOk result (IsChunkOf (holds self.now) c) };
+}
+
+/// The chunks of any set, made of its words.
+#[derive(Drop)]
+struct ChunksOfSet<'a, S: BitSetLike>(&'a S);
+
+impl<S: BitSetLike> ChunkSource for ChunksOfSet<'_, S> {
+    ghost holds = { λ s. S.holds s.0.now };
+
+    #[inline]
+    fn make_chunk(&self, alloc: Global, c: usize) -> Result<Chunk, AllocError> {
+        chunk_of(alloc, self.0, c)
+    }
+}
+
+// The chunks of a source in one group, put into a table that has none in this group: those in which `touched` has a
 // member, and maybe others.
-fn push_chunks<S: BitSetLike, T: BitSetLike>(
+fn push_chunks<S: ChunkSource, T: BitSetLike>(
     chunks: &mut Table<Chunk>,
     alloc: Global,
-    set: &S,
+    source: &S,
     touched: &T,
     q: usize,
 ) -> Result<(), AllocError>
     requires group { q < GROUPS_PER_TABLE }
     requires none { (c : ℕ) → c < PLACES_PER_TABLE → c / 64 ≡ q → value_at chunks.old c ≡ None }
     ensures is { OnOk result ((c : ℕ) (chunk : Chunk) → c < PLACES_PER_TABLE → c / 64 ≡ q
-        → value_at chunks.new c ≡ Some chunk → IsChunkOf (S.holds set.now) c chunk) }
+        → value_at chunks.new c ≡ Some chunk → IsChunkOf (S.holds source.now) c chunk) }
     ensures all { OnOk result ((c : ℕ) → c < PLACES_PER_TABLE → c / 64 ≡ q
         → value_at chunks.new c ≡ None → HasNoneIn (T.holds touched.now) c) }
     ensures others { (c : ℕ) → c < PLACES_PER_TABLE → c / 64 ≢ q
@@ -110,10 +135,27 @@ fn push_chunks<S: BitSetLike, T: BitSetLike>(
     let mut places = touched.layer3(q);
     'places: while places != 0 {
         let c = 64 * q + take_bit(&mut places);
-        let chunk = chunk_of(alloc, set, c)?;
+        let chunk = source.make_chunk(alloc, c)?;
         chunks.insert(c, chunk)?;
     }
     Ok(())
+}
+
+/// The chunks of a source: those in which `touched` has a member, and maybe others.
+pub(crate) fn chunks_from<S: ChunkSource, T: BitSetLike>(
+    alloc: Global,
+    source: &S,
+    touched: &T,
+) -> Result<Table<Chunk>, AllocError>
+    ensures { IfOk result (AreChunksOf (S.holds source.now) (T.holds touched.now)) }
+{
+    let mut chunks = Table::new(alloc);
+    let mut groups = touched.layer4();
+    'groups: while groups != 0 {
+        let q = take_bit(&mut groups);
+        push_chunks(&mut chunks, alloc, source, touched, q)?;
+    }
+    Ok(chunks)
 }
 
 /// The chunks of a set: those in which `touched` has a member, and maybe others.
@@ -124,11 +166,5 @@ pub(crate) fn chunks_of<S: BitSetLike, T: BitSetLike>(
 ) -> Result<Table<Chunk>, AllocError>
     ensures { IfOk result (AreChunksOf (S.holds set.now) (T.holds touched.now)) }
 {
-    let mut chunks = Table::new(alloc);
-    let mut groups = touched.layer4();
-    'groups: while groups != 0 {
-        let q = take_bit(&mut groups);
-        push_chunks(&mut chunks, alloc, set, touched, q)?;
-    }
-    Ok(chunks)
+    chunks_from(alloc, &ChunksOfSet(set), touched)
 }

@@ -1,5 +1,7 @@
-use Rattle.std.proofs.Common.{arith}
+use Rattle.std.proofs.Common.{◌*◌, ◌+◌, ◌%◌, ◌∙◌, ap, arith}
 use Rattle.hibitset_sparse.specs.PackedArray.{value_in}
+use Rattle.hibitset_sparse.specs.Rank.{bit_is_set}
+use Rattle.hibitset_sparse.proofs.LawfulWordLemmas.{holds-by_word}
 use Rattle.hibitset_sparse.proofs.AppendLemmas.{none-bit, none-made, one-made-at}
 use Rattle.hibitset_sparse.proofs.SetLemmas.{on_ok}
 use Rattle.hibitset_sparse.proofs.gather.push_group.Goals as goal
@@ -10,9 +12,11 @@ returns-then-word-eq0-clause-made g c =
     c.push_words.ensures.before c.in_ok-word.ensures.pushed c.if-word-eq0.true).made
 
 pub returns-then-word-eq0-clause-pushed : goal.returns-then-word-eq0-clause-pushed
-returns-then-word-eq0-clause-pushed g c =
-    (none-made c.args.q c.in_ok-word.word (value_in c.args.groups.now) c.args.items.now.items c.push_words.new.items.items _ c.requires.group c.requires.made
-    c.push_words.ensures.before c.in_ok-word.ensures.pushed c.if-word-eq0.true).pushed
+returns-then-word-eq0-clause-pushed g c = λ p b low here few.
+    ap (λ w. bit_is_set w b) ((none-made c.args.q c.in_ok-word.word (value_in c.args.groups.now) c.args.items.now.items c.push_words.new.items.items _ c.requires.group
+    c.requires.made c.push_words.ensures.before c.in_ok-word.ensures.pushed c.if-word-eq0.true).pushed p low here)
+    ∙ holds-by_word (g.S.BitSetLike.holds c.args.set.now) (g.S.BitSetLike.word c.args.set.now) (g.met.S.BitSetLike.lawful c.args.set.now) (64 * c.args.position + p % 64) b
+    (omega (arith, c.requires.position)) few
 
 pub returns-then-word-eq0-clause-others : goal.returns-then-word-eq0-clause-others
 returns-then-word-eq0-clause-others g c =
@@ -28,9 +32,11 @@ returns-clause-made g c = on_ok c.push.result c.push.ensures.put (λ put.
     c.push_words.ensures.before c.in_ok-word.ensures.pushed c.len-start.result (value_in c.push.new.self) (omega arith) put (omega arith) (omega arith)).made)
 
 pub returns-clause-pushed : goal.returns-clause-pushed
-returns-clause-pushed g c = on_ok c.push.result c.push.ensures.put (λ put.
-    (one-made-at c.args.q c.in_ok-word.word (value_in c.args.groups.now) c.args.items.now.items c.push_words.new.items.items _ c.requires.group c.requires.made
-    c.push_words.ensures.before c.in_ok-word.ensures.pushed c.len-start.result (value_in c.push.new.self) (omega arith) put (omega arith) (omega arith)).pushed)
+returns-clause-pushed g c = on_ok c.push.result c.push.ensures.put (λ put. λ p b low here few.
+    ap (λ w. bit_is_set w b) ((one-made-at c.args.q c.in_ok-word.word (value_in c.args.groups.now) c.args.items.now.items c.push_words.new.items.items _ c.requires.group
+    c.requires.made c.push_words.ensures.before c.in_ok-word.ensures.pushed c.len-start.result (value_in c.push.new.self) (omega arith) put (omega arith) (omega arith)).pushed p low here)
+    ∙ holds-by_word (g.S.BitSetLike.holds c.args.set.now) (g.S.BitSetLike.word c.args.set.now) (g.met.S.BitSetLike.lawful c.args.set.now) (64 * c.args.position + p % 64) b
+    (omega (arith, c.requires.position)) few)
 
 pub returns-clause-others : goal.returns-clause-others
 returns-clause-others g c = on_ok c.push.result c.push.ensures.put (λ put.
