@@ -210,7 +210,7 @@ module _ {T : Type 0} where
     | inr off ↦ value-off g w b off ∙ sym (value-off f w b off)
   ]
 
-  same-group : (xs ys : List T) (b : ℕ) (o : Option Group) → ((g : Group) → o ≡ Some g → value_by_group ys b g ≡ value_by_group xs b g)
+  pub same-group : (xs ys : List T) (b : ℕ) (o : Option Group) → ((g : Group) → o ≡ Some g → value_by_group ys b g ≡ value_by_group xs b g)
       → option_and_then (value_by_group ys b) o ≡ option_and_then (value_by_group xs b) o
   same-group xs ys b None same = refl
   same-group xs ys b (Some g) same = same g refl

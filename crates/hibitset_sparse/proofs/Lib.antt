@@ -3,6 +3,8 @@ pub mod EditLemmas
 pub mod PackedArrayLemmas
 pub mod LayoutLemmas
 pub mod WordLemmas
+pub mod AppendLemmas
+pub mod LawfulWordLemmas
 pub mod ExactLemmas
 pub mod ChunkLemmas
 pub mod SetLemmas

@@ -3,6 +3,8 @@ pub mod PackedArray
 pub mod Layout
 pub mod Table
 pub mod Chunk
+pub mod Parts
+pub mod GroupView
 pub mod Chunks
 pub mod Replacement
 pub mod Copy

@@ -1,5 +1,5 @@
 //! Values of the 64 bits of a word: one for each bit that is set.
-ghost use Rattle.std.specs.Prelude.{◌≡◌, ℕ, ◌+◌, ◌^◌, ◌<◌, ◌==◌, if◌then◌else◌, true, false, length, Some, None, IsOk, OnOk, OnErr, MatchOption};
+ghost use Rattle.std.specs.Prelude.{◌≡◌, ℕ, ◌+◌, ◌^◌, ◌<◌, ◌≤◌, ◌==◌, if◌then◌else◌, true, false, length, Some, None, IsOk, OnOk, OnErr, MatchOption};
 ghost use Rattle.std.specs.Int.{bit_at};
 ghost use Rattle.std.specs.Int.RustNames.{count_ones};
 
@@ -45,6 +45,15 @@ impl<T: Drop> PackedArray<T> {
         Some(&self.items[rank(self.word, bit)])
     }
 
+    /// Reserves capacity for so many values more. Whatever it returns, the values are the same.
+    #[inline]
+    pub(crate) fn reserve(&mut self, count: usize) -> Result<(), AllocError>
+        ensures word { self.new.word ≡ self.old.word }
+        ensures items { self.new.items.items ≡ self.old.items.items }
+    {
+        self.items.reserve(count)
+    }
+
     /// Gives a value to a bit that has none. If an allocation fails, nothing changes.
     pub(crate) fn insert(&mut self, bit: usize, value: T) -> Result<(), AllocError>
         requires bit { bit < 64 }
@@ -58,6 +67,19 @@ impl<T: Drop> PackedArray<T> {
         ensures succeeds { (n : ℕ) → HasRoomFor (n + 1) self.old → IsOk result × HasRoomFor n self.new }
     {
         self.items.insert(rank(self.word, bit), value)?;
+        self.word = with_bit(self.word, bit, true);
+        Ok(())
+    }
+
+    /// Gives a value to a bit above all that have one. It moves no value.
+    #[inline]
+    pub(crate) fn push(&mut self, bit: usize, value: T) -> Result<(), AllocError>
+        requires bit { bit < 64 }
+        requires last { (b : ℕ) → bit ≤ b → b < 64 → bit_at self.old.word b ≡ 0 }
+        ensures put { OnOk result ((b : ℕ) → b < 64
+            → value_in self.new b ≡ (if b == bit then Some value else value_in self.old b)) }
+    {
+        self.items.push(value)?;
         self.word = with_bit(self.word, bit, true);
         Ok(())
     }

@@ -5,38 +5,65 @@
 use crate::support::rattle_std::prelude::*;
 
 use crate::derived::hibitset_sparse::chunk::Chunk;
+use crate::derived::hibitset_sparse::group::Group;
+use crate::derived::hibitset_sparse::packed_array::PackedArray;
+use crate::derived::hibitset_sparse::rank::take_lowest;
 use crate::derived::hibitset_sparse::table::{GROUPS_PER_TABLE, PLACES_PER_TABLE, Table};
-use crate::derived::hibitset_base::bits::take_bit;
+use crate::derived::hibitset_base::bits::{take_bit, with_bit};
 use crate::derived::hibitset_base::like::BitSetLike;
 use crate::support::rattle_std::alloc::{AllocError, Global};
 
-// The words of a set in group q of chunk c, put into a table that has none in this group.
-fn push_group<S: BitSetLike>(
-    words: &mut Table<usize>,
+// Appends the nonzero words of a set under a word of its layer 1, and returns which of the 64 they are, as bits.
+#[inline]
+fn push_words<S: BitSetLike>(
+    items: &mut Vec<usize>,
     set: &S,
-    c: usize,
-    q: usize,
-) -> Result<(), AllocError> {
-    let mut places = set.layer1(GROUPS_PER_TABLE * c + q);
+    position: usize,
+) -> Result<usize, AllocError> {
+    let mut places = set.layer1(position);
+    items.reserve(places.count_ones() as usize)?;
+    let mut bits = 0;
     'places: while places != 0 {
-        let place = 64 * q + take_bit(&mut places);
-        let word = set.layer0(PLACES_PER_TABLE * c + place);
+        let bit = take_lowest(&mut places);
+        let word = set.layer0(64 * position + bit);
         if word != 0 {
-            words.insert(place, word)?;
+            items.push_reserved(word);
+            bits = with_bit(bits, bit, true);
         }
     }
-    Ok(())
+    Ok(bits)
+}
+
+// Appends group q, with the words of a set under a word of its layer 1, where no group is there from q on.
+#[inline]
+fn push_group<S: BitSetLike>(
+    groups: &mut PackedArray<Group>,
+    items: &mut Vec<usize>,
+    set: &S,
+    position: usize,
+    q: usize,
+) -> Result<(), AllocError> {
+    let start = items.len();
+    let word = push_words(items, set, position)?;
+    if word == 0 {
+        return Ok(());
+    }
+    groups.push(q, Group { word, start })
 }
 
 // What a set has of the indices of chunk c.
 fn chunk_of<S: BitSetLike>(alloc: Global, set: &S, c: usize) -> Result<Chunk, AllocError> {
-    let mut words = Table::new(alloc);
-    let mut groups = set.layer2(c);
-    'groups: while groups != 0 {
-        let q = take_bit(&mut groups);
-        push_group(&mut words, set, c, q)?;
+    let mut groups = PackedArray::new(alloc);
+    let mut items = Vec::new(alloc);
+    let mut left = set.layer2(c);
+    groups.reserve(left.count_ones() as usize)?;
+    'groups: while left != 0 {
+        let q = take_lowest(&mut left);
+        push_group(&mut groups, &mut items, set, GROUPS_PER_TABLE * c + q, q)?;
     }
-    Ok(Chunk { words })
+    Ok(Chunk {
+        words: Table { groups, items },
+    })
 }
 
 // The chunks of a set in one group, put into a table that has none in this group: those in which `touched` has a

@@ -48,6 +48,19 @@ impl<T> PackedArray<T> {
         Some(&self.items[rank(self.word, bit)])
     }
 
+    /// Reserves capacity for so many values more. Whatever it returns, the values are the same.
+    ///
+    /// # Contract
+    ///
+    /// ```text
+    /// ensures word { self.new.word ≡ self.old.word }
+    /// ensures items { self.new.items.items ≡ self.old.items.items }
+    /// ```
+    #[inline]
+    pub(crate) fn reserve(&mut self, count: usize) -> Result<(), AllocError> {
+        self.items.reserve(count)
+    }
+
     /// Gives a value to a bit that has none. If an allocation fails, nothing changes.
     ///
     /// # Contract
@@ -65,6 +78,23 @@ impl<T> PackedArray<T> {
     /// ```
     pub(crate) fn insert(&mut self, bit: usize, value: T) -> Result<(), AllocError> {
         self.items.insert(rank(self.word, bit), value)?;
+        self.word = with_bit(self.word, bit, true);
+        Ok(())
+    }
+
+    /// Gives a value to a bit above all that have one. It moves no value.
+    ///
+    /// # Contract
+    ///
+    /// ```text
+    /// requires bit { bit < 64 }
+    /// requires last { (b : ℕ) → bit ≤ b → b < 64 → bit_at self.old.word b ≡ 0 }
+    /// ensures put { OnOk result ((b : ℕ) → b < 64
+    ///     → value_in self.new b ≡ (if b == bit then Some value else value_in self.old b)) }
+    /// ```
+    #[inline]
+    pub(crate) fn push(&mut self, bit: usize, value: T) -> Result<(), AllocError> {
+        self.items.push(value)?;
         self.word = with_bit(self.word, bit, true);
         Ok(())
     }

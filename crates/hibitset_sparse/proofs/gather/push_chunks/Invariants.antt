@@ -6,7 +6,7 @@ use Rattle.hibitset_sparse.proofs.gather.push_chunks.Given as goal
 
 abbrev pub invariant-places : goal.invariant-places
 invariant-places g l = record {
-  done : IsGroupDoneBut (g.S.BitSetLike.holds l.fn.set) (g.T.BitSetLike.holds l.fn.touched) l.fn.q l.places (value_at l.chunks);
+  done : IsGroupDoneBut (g.S.ChunkSource.holds l.fn.source) (g.T.BitSetLike.holds l.fn.touched) l.fn.q l.places (value_at l.chunks);
   others : (c : ℕ) → c < PLACES_PER_TABLE → c / 64 ≢ l.fn.q → value_at l.chunks c ≡ value_at l.fn.chunks c;
 }
 

@@ -1,21 +1,44 @@
-use Rattle.std.proofs.Common.{ℕ, ◌+◌, ◌*◌, ◌<◌, sym, ◌∙◌, arith}
-use Rattle.std.proofs.lemmas.Grind.{common_steps}
-use Rattle.hibitset_sparse.specs.Table.{value_at}
-use Rattle.hibitset_sparse.proofs.ChunkLemmas.{nonzero-put, same-value}
+use Rattle.std.proofs.Common.{◌*◌, ◌+◌, ◌%◌, ◌∙◌, ap, arith}
+use Rattle.hibitset_sparse.specs.PackedArray.{value_in}
+use Rattle.hibitset_sparse.specs.Rank.{bit_is_set}
+use Rattle.hibitset_sparse.proofs.LawfulWordLemmas.{holds-by_word}
+use Rattle.hibitset_sparse.proofs.AppendLemmas.{none-bit, none-made, one-made-at}
+use Rattle.hibitset_sparse.proofs.SetLemmas.{on_ok}
 use Rattle.hibitset_sparse.proofs.gather.push_group.Goals as goal
 
-pub places-preserved-in-Continue-1 : goal.places-preserved-in-Continue-1
-places-preserved-in-Continue-1 g c =
-    let place : ℕ = 64 * c.args.q + c.take_bit.result in
-    let some : 0 < c.layer0-word.result = (let nonzero = c.if-word-ne0.true in omega (arith, nonzero)) in
-    let put = c.in_ok-insert.ensures.put in
-    record {
-      nonzero = nonzero-put (value_at c.places.words) (value_at c.insert.new.self) place c.layer0-word.result some (omega arith) put c.places.invariant.nonzero;
-      todo = grind (arith, common_steps, put, c.places.invariant.todo);
-      done = grind (arith, common_steps, put, c.places.invariant.done);
-      others = grind (arith, common_steps, put, c.places.invariant.others);
-    }
+pub returns-then-word-eq0-clause-made : goal.returns-then-word-eq0-clause-made
+returns-then-word-eq0-clause-made g c =
+    (none-made c.args.q c.in_ok-word.word (value_in c.args.groups.now) c.args.items.now.items c.push_words.new.items.items _ c.requires.group c.requires.made
+    c.push_words.ensures.before c.in_ok-word.ensures.pushed c.if-word-eq0.true).made
 
-pub returns-in_err-insert-clause-nonzero : goal.returns-in_err-insert-clause-nonzero
-returns-in_err-insert-clause-nonzero g c = λ p w low is.
-    c.places.invariant.nonzero p w low (sym (same-value c.places.words c.insert.new.self c.in_err-insert.ensures.err p) ∙ is)
+pub returns-then-word-eq0-clause-pushed : goal.returns-then-word-eq0-clause-pushed
+returns-then-word-eq0-clause-pushed g c = λ p b low here few.
+    ap (λ w. bit_is_set w b) ((none-made c.args.q c.in_ok-word.word (value_in c.args.groups.now) c.args.items.now.items c.push_words.new.items.items _ c.requires.group
+    c.requires.made c.push_words.ensures.before c.in_ok-word.ensures.pushed c.if-word-eq0.true).pushed p low here)
+    ∙ holds-by_word (g.S.BitSetLike.holds c.args.set.now) (g.S.BitSetLike.word c.args.set.now) (g.met.S.BitSetLike.lawful c.args.set.now) (64 * c.args.position + p % 64) b
+    (omega (arith, c.requires.position)) few
+
+pub returns-then-word-eq0-clause-others : goal.returns-then-word-eq0-clause-others
+returns-then-word-eq0-clause-others g c =
+    (none-made c.args.q c.in_ok-word.word (value_in c.args.groups.now) c.args.items.now.items c.push_words.new.items.items _ c.requires.group c.requires.made
+    c.push_words.ensures.before c.in_ok-word.ensures.pushed c.if-word-eq0.true).others
+
+pub push-requires-clause-last : goal.push-requires-clause-last
+push-requires-clause-last g c = λ b from small. none-bit c.args.groups.now b (c.requires.made.none b from small)
+
+pub returns-clause-made : goal.returns-clause-made
+returns-clause-made g c = on_ok c.push.result c.push.ensures.put (λ put.
+    (one-made-at c.args.q c.in_ok-word.word (value_in c.args.groups.now) c.args.items.now.items c.push_words.new.items.items _ c.requires.group c.requires.made
+    c.push_words.ensures.before c.in_ok-word.ensures.pushed c.len-start.result (value_in c.push.new.self) (omega arith) put (omega arith) (omega arith)).made)
+
+pub returns-clause-pushed : goal.returns-clause-pushed
+returns-clause-pushed g c = on_ok c.push.result c.push.ensures.put (λ put. λ p b low here few.
+    ap (λ w. bit_is_set w b) ((one-made-at c.args.q c.in_ok-word.word (value_in c.args.groups.now) c.args.items.now.items c.push_words.new.items.items _ c.requires.group
+    c.requires.made c.push_words.ensures.before c.in_ok-word.ensures.pushed c.len-start.result (value_in c.push.new.self) (omega arith) put (omega arith) (omega arith)).pushed p low here)
+    ∙ holds-by_word (g.S.BitSetLike.holds c.args.set.now) (g.S.BitSetLike.word c.args.set.now) (g.met.S.BitSetLike.lawful c.args.set.now) (64 * c.args.position + p % 64) b
+    (omega (arith, c.requires.position)) few)
+
+pub returns-clause-others : goal.returns-clause-others
+returns-clause-others g c = on_ok c.push.result c.push.ensures.put (λ put.
+    (one-made-at c.args.q c.in_ok-word.word (value_in c.args.groups.now) c.args.items.now.items c.push_words.new.items.items _ c.requires.group c.requires.made
+    c.push_words.ensures.before c.in_ok-word.ensures.pushed c.len-start.result (value_in c.push.new.self) (omega arith) put (omega arith) (omega arith)).others)

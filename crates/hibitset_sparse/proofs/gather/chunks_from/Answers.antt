@@ -1,7 +1,7 @@
 use Rattle.std.proofs.Common.{◌/◌, sym, ◌∙◌, ap}
 use Rattle.std.specs.Int.{bit_at}
 use Rattle.hibitset_sparse.proofs.ChunksOfLemmas.{done-first, none-in_group}
-use Rattle.hibitset_sparse.proofs.gather.chunks_of.Goals as goal
+use Rattle.hibitset_sparse.proofs.gather.chunks_from.Goals as goal
 
 pub groups-init : goal.groups-init
 groups-init g c =
