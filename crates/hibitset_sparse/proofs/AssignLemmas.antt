@@ -1,10 +1,12 @@
 -- A set's members, once chunks that were made for it have taken the place of its own.
-use Rattle.std.proofs.Common.{◌≡◌, ℕ, ◌+◌, ◌*◌, ◌/◌, ◌%◌, ◌^◌, ◌<◌, ◌≤◌, ◌||◌, ◌&&◌, not, Bool, true, false, nat_lt, length, Option, Some, None, Result, Ok, IfOk, w64, refl, sym, ◌∙◌, ap, arith, inr}
-use Rattle.std.proofs.Math.Bool.{or-false}
+use Rattle.std.proofs.Common.{◌≡◌, ℕ, ◌+◌, ◌*◌, ◌/◌, ◌%◌, ◌^◌, ◌<◌, ◌≤◌, ◌||◌, ◌&&◌, not, Bool, true, false, nat_lt, length, [], Option, Some, None, Result, Ok, IfOk, w64, refl, sym, ◌∙◌, ap, arith, inr, inl}
+use Rattle.std.proofs.Math.Bool.{and-false, or-false}
 use Rattle.std.specs.Int.{bit_at, trailing_zeros}
-use Rattle.std.proofs.lemmas.Bool.{false≢true}
+use Rattle.std.proofs.lemmas.Bool.{cases_lt, false≢true}
 use Rattle.std.proofs.lemmas.Bool.Decides.{nat_tests}
 use Rattle.std.proofs.lemmas.Nat.Bits.{bit_at-trailing_zeros}
+use Rattle.hibitset_base.specs.Connectives.{is_member}
+use Rattle.hibitset_base.specs.Members.{members_below}
 use Rattle.hibitset_base.specs.Virtual.{differ}
 use Rattle.hibitset_base.specs.Words.{holds_at}
 use Rattle.hibitset_base.specs.declared.util.TheConstants.{MAX_EID}
@@ -18,6 +20,7 @@ use Rattle.hibitset_sparse.specs.Table.{group_word, value_at}
 use Rattle.hibitset_sparse.specs.declared.chunk.Chunk.{Chunk}
 use Rattle.hibitset_sparse.specs.declared.set.SparseBitSet.{SparseBitSet}
 use Rattle.hibitset_sparse.specs.declared.table.Table.{Table}
+use Rattle.hibitset_base.proofs.FirstLemmas.{none_below}
 use Rattle.hibitset_sparse.proofs.ExactLemmas.{members-within}
 use Rattle.hibitset_sparse.proofs.LayoutLemmas.{word-fits}
 use Rattle.hibitset_sparse.proofs.PackedArrayLemmas.{one-is-set}
@@ -128,6 +131,13 @@ lt-no i n past = grind (arith, nat_tests)
 one-alone : (a b : Bool) → b ≡ false → differ a b ≡ a
 one-alone true b off = ap not off
 one-alone false b off = off
+
+-- a set without members has none
+pub empty-member : (p : ℕ → Bool) (i : ℕ) → members_below MAX_EID p ≡ [] → is_member p i ≡ false
+empty-member p i none = elim (cases_lt i MAX_EID) [
+  | inl low ↦ ap (λ b. nat_lt i MAX_EID && b) (none_below MAX_EID p none i low) ∙ and-false (nat_lt i MAX_EID)
+  | inr past ↦ (let no : nat_lt i MAX_EID ≡ false = lt-no i MAX_EID past in rw no refl)
+]
 
 -- The parts of a union and of a symmetric difference with the members of another.
 module _ (a b : Bool) where

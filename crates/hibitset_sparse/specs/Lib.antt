@@ -4,7 +4,6 @@ pub mod Layout
 pub mod Table
 pub mod Chunk
 pub mod Parts
-pub mod GroupView
 pub mod Chunks
 pub mod Replacement
 pub mod Copy

@@ -1,6 +1,8 @@
 //! Assignments: a set put together with any other.
-ghost use Rattle.std.specs.Prelude.{◌≡◌, ℕ, ◌&&◌, not, IfOk, OnOk, OnErr};
+ghost use Rattle.std.specs.Prelude.{◌≡◌, ℕ, ◌&&◌, not, [], IfOk, IsOk, OnOk, OnErr};
 ghost use Rattle.hibitset_base.specs.Connectives.{IsDifference, IsIntersection, IsSymmetricDifference, IsUnion, is_member};
+ghost use Rattle.hibitset_base.specs.Members.{members_below};
+ghost use Rattle.hibitset_base.specs.declared.util.TheConstants.{MAX_EID};
 ghost use Rattle.hibitset_sparse.specs.Replacement.{AreChunksOf};
 ghost use Rattle.hibitset_sparse.specs.SparseBitSet.{has};
 
@@ -27,12 +29,16 @@ impl SparseBitSet {
     /// Adds the members of any other set. If an allocation fails, the members stay.
     ///
     /// Only chunks in which the other has members are made anew, each beside its old form; the others stay where they
-    /// are.
+    /// are. It can't fail if the other has none.
     pub fn bitor_assign<B: BitSetLike>(&mut self, other: &B) -> Result<(), AllocError>
         ensures members { OnOk result (IsUnion (has self.old) (is_member (B.holds other.now))
             (has self.new)) }
         ensures err { OnErr result ((i : ℕ) → has self.new i ≡ has self.old i) }
+        ensures none { members_below MAX_EID (B.holds other.now) ≡ [] → IsOk result }
     {
+        if other.is_empty() {
+            return Ok(());
+        }
         let alloc = self.allocator();
         let chunks = chunks_of(alloc, &BitSetOr(&*self, other), other)?;
         self.reserve_chunks(chunks.items.len())?;
@@ -44,12 +50,16 @@ impl SparseBitSet {
     /// the members stay.
     ///
     /// Only chunks in which the other has members are made anew, each beside its old form; the others stay where they
-    /// are.
+    /// are. It can't fail if the other has none.
     pub fn bitxor_assign<B: BitSetLike>(&mut self, other: &B) -> Result<(), AllocError>
         ensures members { OnOk result (IsSymmetricDifference (has self.old)
             (is_member (B.holds other.now)) (has self.new)) }
         ensures err { OnErr result ((i : ℕ) → has self.new i ≡ has self.old i) }
+        ensures none { members_below MAX_EID (B.holds other.now) ≡ [] → IsOk result }
     {
+        if other.is_empty() {
+            return Ok(());
+        }
         let alloc = self.allocator();
         let chunks = chunks_of(alloc, &BitSetXor(&*self, other), other)?;
         self.reserve_chunks(chunks.items.len())?;

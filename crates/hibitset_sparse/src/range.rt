@@ -1,5 +1,5 @@
 //! Ranges of indices, added, taken out and flipped by whole words.
-ghost use Rattle.std.specs.Prelude.{◌≡◌, ℕ, ◌≤◌, ◌||◌, ◌&&◌, not, OnOk, OnErr};
+ghost use Rattle.std.specs.Prelude.{◌≡◌, ℕ, ◌≤◌, ◌||◌, ◌&&◌, not, IsOk, OnOk, OnErr};
 ghost use Rattle.hibitset_base.specs.Ranges.{in_range};
 ghost use Rattle.hibitset_base.specs.Virtual.{differ};
 ghost use Rattle.hibitset_base.specs.declared.util.TheConstants.{MAX_EID};
@@ -18,7 +18,11 @@ impl SparseBitSet {
         ensures added { OnOk result ((i : ℕ)
             → has self.new i ≡ (has self.old i || in_range start end i)) }
         ensures err { OnErr result ((i : ℕ) → has self.new i ≡ has self.old i) }
+        ensures none { end ≤ start → IsOk result }
     {
+        if start >= end {
+            return Ok(());
+        }
         self.bitor_assign(&BitSetRange { start, end })
     }
 
@@ -36,7 +40,11 @@ impl SparseBitSet {
         ensures flipped { OnOk result ((i : ℕ)
             → has self.new i ≡ differ (has self.old i) (in_range start end i)) }
         ensures err { OnErr result ((i : ℕ) → has self.new i ≡ has self.old i) }
+        ensures none { end ≤ start → IsOk result }
     {
+        if start >= end {
+            return Ok(());
+        }
         self.bitxor_assign(&BitSetRange { start, end })
     }
 }

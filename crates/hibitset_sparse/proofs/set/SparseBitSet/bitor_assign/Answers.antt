@@ -1,7 +1,8 @@
-use Rattle.std.proofs.Common.{◌^◌, ◌||◌, sym, ◌∙◌, inl, inr}
+use Rattle.std.proofs.Common.{◌^◌, ◌||◌, sym, ◌∙◌, inl, inr, ℕ, Bool}
 use Rattle.std.proofs.lemmas.Bool.{cases_lt}
+use Rattle.hibitset_base.specs.Connectives.{is_member}
 use Rattle.hibitset_sparse.specs.SparseBitSet.{has}
-use Rattle.hibitset_sparse.proofs.AssignLemmas.{either-past, either-same, either-within, none-past, replaced}
+use Rattle.hibitset_sparse.proofs.AssignLemmas.{empty-member, either-past, either-same, either-within, none-past, replaced}
 use Rattle.hibitset_sparse.proofs.set.SparseBitSet.bitor_assign.Goals as goal
 
 pub returns-clause-members : goal.returns-clause-members
@@ -13,3 +14,8 @@ returns-clause-members g c = λ i. elim (cases_lt i (2 ^ 30)) [
       ∙ either-within (has c.args.self.now i) (g.B.BitSetLike.holds c.args.other.now i) i low)
   | inr past ↦ either-past (has c.args.self.now i) (g.B.BitSetLike.holds c.args.other.now i) i (has c.put_chunks.new.self i) past (none-past c.args.self.now i past) (none-past c.put_chunks.new.self i past)
 ]
+
+pub returns-then-is_empty-clause-members : goal.returns-then-is_empty-clause-members
+returns-then-is_empty-clause-members g c = λ i.
+    let other : ℕ → Bool = g.B.BitSetLike.holds c.args.other.now in
+    sym (either-same (has c.args.self.now i) (is_member other i) (empty-member other i (c.is_empty.ensures.0 c.if-is_empty.true)))
