@@ -97,10 +97,10 @@ left-above left rest b c is small on = elim (cases_order c b) [
 pub ones-taken : (left rest b : ℕ) → TakesLowest left rest b → left < 2 ^ 64 → rest < 2 ^ 64 → count_ones left ≡ count_ones rest + 1
 ones-taken left rest b is fits_l fits_r = ones-set left rest b fits_l fits_r is.below is.gone is.stood (λ c small other. sym (is.same c small other))
 
-no-word : (items : List ℕ) (start b : ℕ) → word_from items start 0 b ≡ None
+pub no-word : (items : List ℕ) (start b : ℕ) → word_from items start 0 b ≡ None
 no-word items start b = value-off (λ k. slice_get items (start + k)) 0 b (zero-is-clear 0 b (bit_at-zero b))
 
-no-ones : count_ones 0 ≡ 0
+pub no-ones : count_ones 0 ≡ 0
 no-ones = let few = ones_le_self 0 in omega (arith, few)
 
 -- Words are appended for some bits, and those of the bits that are left come behind them.

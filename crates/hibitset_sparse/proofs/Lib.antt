@@ -5,10 +5,12 @@ pub mod LayoutLemmas
 pub mod WordLemmas
 pub mod AppendLemmas
 pub mod LawfulWordLemmas
+pub mod GroupViewLemmas
 pub mod ExactLemmas
 pub mod ChunkLemmas
 pub mod SetLemmas
 pub mod ReplaceLemmas
 pub mod ChunksOfLemmas
 pub mod AssignLemmas
+pub mod MergeLemmas
 pub mod MemberWordLemmas

@@ -5,6 +5,7 @@ pub mod Table
 pub mod Chunk
 pub mod Parts
 pub mod GroupView
+pub mod Merge
 pub mod Chunks
 pub mod Replacement
 pub mod SparseBitSet

@@ -59,7 +59,7 @@ pub(crate) fn push_group<S: BitSetLike>(
     ensures made { OnOk result (IsMadeUpTo (q + 1) (value_in groups.new) items.new.items) }
     ensures pushed { OnOk result ((p b : ℕ) → p < PLACES_PER_TABLE → p / 64 ≡ q → b < 64
         → bit_is_set (or_zero (value_of_place (value_in groups.new) items.new.items p)) b
-            ≡ S.holds set.now (64 * (64 * position + p % 64) + b)) }
+        ≡ S.holds set.now (64 * (64 * position + p % 64) + b)) }
     ensures others { OnOk result ((p : ℕ) → p < PLACES_PER_TABLE → p / 64 ≢ q
         → value_of_place (value_in groups.new) items.new.items p
         ≡ value_of_place (value_in groups.old) items.old.items p) }

@@ -1,0 +1,19 @@
+use Rattle.std.proofs.Common.{◌≡◌, ℕ, ◌^◌, ◌<◌, ◌≤◌, ◌||◌, Bool, false, refl, sym, ◌∙◌, inl, inr}
+use Rattle.std.proofs.lemmas.Bool.{cases_lt}
+use Rattle.hibitset_base.specs.Virtual.{differ}
+use Rattle.hibitset_sparse.specs.SparseBitSet.{has}
+use Rattle.hibitset_sparse.proofs.AssignLemmas.{one-same, none-past, replaced}
+use Rattle.hibitset_sparse.proofs.set.SparseBitSet.symmetric_difference_with.Goals as goal
+
+pub returns-clause-members : goal.returns-clause-members
+returns-clause-members c = λ i. elim (cases_lt i (2 ^ 30)) [
+  | inl low ↦
+      c.put_chunks.ensures i low
+      ∙ replaced (λ j. (differ (has c.args.self.now j) (has c.args.other.now j))) (has c.args.other.now) (has c.reserve_chunks.new.self) c.in_ok-chunks.chunks c.in_ok-chunks.ensures
+      (λ j small off. one-same (has c.args.self.now j) (has c.args.other.now j) off ∙ sym (c.reserve_chunks.ensures.same j)) i low
+  | inr past ↦
+      let old = none-past c.args.self.now i past in
+      let other = none-past c.args.other.now i past in
+      let new = none-past c.put_chunks.new.self i past in
+      rw (old, other, new) refl
+]
