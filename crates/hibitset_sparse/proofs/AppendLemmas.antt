@@ -45,7 +45,8 @@ module _ {T : Type 0} where
   insert-last (x ∷ xs) y = ap (λ zs. x ∷ zs) (insert-last xs y)
 
   -- the values by bits, where one was appended for a bit above all
-  pub value-pushed : (v w b start : ℕ) (xs ys : List T) (y : T) → IsSetAt v w b → w < 2 ^ 64 → HasNoneFrom w b → length xs ≡ start + count_ones w → ys ≡ xs ++ y ∷ []
+  pub value-pushed : (v w b start : ℕ) (xs ys : List T) (y : T) → IsSetAt v w b → w < 2 ^ 64 → HasNoneFrom w b → length xs ≡ start + count_ones w
+      → ys ≡ xs ++ y ∷ []
       → (c : ℕ) → c < 64 → value_from (λ k. slice_get ys (start + k)) v c ≡ (if c == b then Some y else value_from (λ k. slice_get xs (start + k)) w c)
   value-pushed v w b start xs ys y is fits none counted pushed =
       let put : ys ≡ insert xs (length xs) y = pushed ∙ sym (insert-last xs y) in
@@ -110,7 +111,8 @@ pub record AreBeingPushed (start left bits : ℕ) (items : List ℕ) (word : ℕ
   pub todo : (b c : ℕ) → b ≤ c → c < 64 → bit_at left b ≡ 1 → bit_at bits c ≡ 0
   pub done : (b : ℕ) → b < 64 → bit_at left b ≡ 0 → or_zero (word_from items start bits b) ≡ word b
 
-pub words-first : (start left : ℕ) (items : List ℕ) (word : ℕ → ℕ) → length items ≡ start → ((b : ℕ) → b < 64 → bit_at left b ≡ 0 → word b ≡ 0) → AreBeingPushed start left 0 items word
+pub words-first : (start left : ℕ) (items : List ℕ) (word : ℕ → ℕ) → length items ≡ start → ((b : ℕ) → b < 64 → bit_at left b ≡ 0 → word b ≡ 0)
+    → AreBeingPushed start left 0 items word
 words-first start left items word long none = record {
   counted = (let ones = no-ones in omega (arith, ones, long));
   nonzero = λ b w small is. absurd (none-some w (sym (no-word items start b) ∙ is));
@@ -178,7 +180,8 @@ words-last start bits items word was = record {
 }
 
 -- The groups of a table, of which none lies at q or after it, have all their values before q.
-before-end : (group : ℕ → Option Group) (q k : ℕ) → ((p : ℕ) → q ≤ p → p < 64 → group p ≡ None) → q + k ≤ 64 → values_before group (q + k) ≡ values_before group q
+before-end : (group : ℕ → Option Group) (q k : ℕ) → ((p : ℕ) → q ≤ p → p < 64 → group p ≡ None) → q + k ≤ 64
+    → values_before group (q + k) ≡ values_before group q
 before-end group q zero none few = let e : q + 0 ≡ q = omega arith in ap (values_before group) e
 before-end group q (suc k) none few =
     let e : q + suc k ≡ suc (q + k) = omega arith in
@@ -192,7 +195,8 @@ pub before-all : (group : ℕ → Option Group) (q : ℕ) → q ≤ 64 → ((p :
 before-all group q few none = let e : q + (64 - q) ≡ 64 = omega arith in rw e at (before-end group q (64 - q) none (omega arith))
 
 -- the values stay where the list grows
-pub same-values : (group : ℕ → Option Group) (xs ys : List ℕ) → AreLaidOut group (length xs) → BeginsWith xs ys → (p : ℕ) → p < 4096 → value_of_place group ys p ≡ value_of_place group xs p
+pub same-values : (group : ℕ → Option Group) (xs ys : List ℕ) → AreLaidOut group (length xs) → BeginsWith xs ys → (p : ℕ) → p < 4096
+    → value_of_place group ys p ≡ value_of_place group xs p
 same-values group xs ys laid begins p low = same-group xs ys (p % 64) (group (p / 64)) (λ g some.
     from-same (λ k. slice_get xs (g.start + k)) (λ k. slice_get ys (g.start + k)) g.word (p % 64) (λ on.
     begins (g.start + rank_in g.word (p % 64)) (place-inside group (length xs) (p / 64) (p % 64) g laid (omega arith) some on)))
@@ -289,7 +293,8 @@ module _ (q bits : ℕ) (old : ℕ → Option Group) (xs ys : List ℕ) (word : 
       others = value-there;
     }
 
-  pub one-made-at : (start : ℕ) (new : ℕ → Option Group) → start ≡ length xs → ((p : ℕ) → p < 64 → new p ≡ (if p == q then Some (record { word = bits; start = start }) else old p))
+  pub one-made-at : (start : ℕ) (new : ℕ → Option Group) → start ≡ length xs
+      → ((p : ℕ) → p < 64 → new p ≡ (if p == q then Some (record { word = bits; start = start }) else old p))
       → 0 < bits → bits < 2 ^ 64 → IsOneMade q old new xs ys word
   one-made-at start new is put =
       one-made new (subst (λ s. (p : ℕ) → p < 64 → new p ≡ (if p == q then Some (record { word = bits; start = s }) else old p)) is put)

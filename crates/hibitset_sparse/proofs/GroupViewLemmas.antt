@@ -60,7 +60,8 @@ module _ (group : ℕ → Option Group) (xs ys : List ℕ) (q i : ℕ) (low : i 
 
 -- What reading a word by its bit gives.
 module _ (items : List ℕ) (start word i : ℕ) where
-  pub read-on : (w : ℕ) → i < 64 → bit_is_set word i ≡ true → slice_get items (start + rank_in word i) ≡ Some w → w ≡ (if nat_lt i 64 then or_zero (word_from items start word i) else 0)
+  pub read-on : (w : ℕ) → i < 64 → bit_is_set word i ≡ true → slice_get items (start + rank_in word i) ≡ Some w
+      → w ≡ (if nat_lt i 64 then or_zero (word_from items start word i) else 0)
   read-on w small on found = let yes : nat_lt i 64 ≡ true = lt-yes i 64 small in rw yes (sym (ap or_zero (value-on (λ k. slice_get items (start + k)) word i on ∙ found)))
 
   pub read-off : i < 64 → bit_is_set word i ≡ false → 0 ≡ (if nat_lt i 64 then or_zero (word_from items start word i) else 0)

@@ -26,7 +26,8 @@ root-clear chunk p b few off =
 
 module _ (test : Bool → Bool → Bool) (own other : Chunk) where
   -- where no group is made nothing is
-  pub word-skipped : (x y left p : ℕ) → x ≡ own.words.groups.word → y ≡ other.words.groups.word → CoversTest test x y left → p < 4096 → bit_at left (p / 64) ≡ 0
+  pub word-skipped : (x y left p : ℕ) → x ≡ own.words.groups.word → y ≡ other.words.groups.word → CoversTest test x y left → p < 4096
+      → bit_at left (p / 64) ≡ 0
       → IsWordOf test (has_in own) (has_in other) (64 * p) 0
   word-skipped x y left p x-is y-is covers low off b few =
       zero-is-clear 0 b (bit_at-zero b)
@@ -35,7 +36,8 @@ module _ (test : Bool → Bool → Bool) (own other : Chunk) where
       (λ clear. root-clear other p b few (ap (λ w. bit_at w (p / 64)) (sym y-is) ∙ clear)))
 
   -- a word of a group is one of the chunk
-  pub word-of-group : (view_own view_other : ℕ → Bool) (q p w : ℕ) → p / 64 ≡ q → ((i : ℕ) → i < 4096 → view_own i ≡ has_in own (4096 * q + i)) → ((i : ℕ) → i < 4096 → view_other i ≡ has_in other (4096 * q + i))
+  pub word-of-group : (view_own view_other : ℕ → Bool) (q p w : ℕ) → p / 64 ≡ q → ((i : ℕ) → i < 4096 → view_own i ≡ has_in own (4096 * q + i))
+      → ((i : ℕ) → i < 4096 → view_other i ≡ has_in other (4096 * q + i))
       → IsWordOf test view_own view_other (64 * (p % 64)) w → IsWordOf test (has_in own) (has_in other) (64 * p) w
   word-of-group view_own view_other q p w here is_own is_other is b few =
       let place : 4096 * q + (64 * (p % 64) + b) ≡ 64 * p + b = omega (arith, here) in
