@@ -207,7 +207,8 @@ pub record IsOneMade (q : ℕ) (old new : ℕ → Option Group) (xs ys : List �
   pub pushed : (p : ℕ) → p < 4096 → p / 64 ≡ q → or_zero (value_of_place new ys p) ≡ word (p % 64)
   pub others : (p : ℕ) → p < 4096 → p / 64 ≢ q → value_of_place new ys p ≡ value_of_place old xs p
 
-module _ (q bits : ℕ) (old : ℕ → Option Group) (xs ys : List ℕ) (word : ℕ → ℕ) (group : q < 64) (was : IsMadeUpTo q old xs) (begins : BeginsWith xs ys) (are : AreWordsFrom (length xs) bits ys word) where
+module _ (q bits : ℕ) (old : ℕ → Option Group) (xs ys : List ℕ) (word : ℕ → ℕ) (group : q < 64) (was : IsMadeUpTo q old xs) (begins : BeginsWith xs ys)
+    (are : AreWordsFrom (length xs) bits ys word) where
   -- all words were 0
   pub none-made : bits ≡ 0 → IsOneMade q old old xs ys word
   none-made none = record {
@@ -219,7 +220,8 @@ module _ (q bits : ℕ) (old : ℕ → Option Group) (xs ys : List ℕ) (word : 
     };
     pushed = λ p low here.
         let clear : word_from ys (length xs) bits (p % 64) ≡ None = ap (λ v. word_from ys (length xs) v (p % 64)) none ∙ no-word ys (length xs) (p % 64) in
-        ap or_zero (ap (option_and_then (value_by_group ys (p % 64))) (was.none (p / 64) (omega (arith, here)) (omega (arith, low)))) ∙ (sym (ap or_zero clear) ∙ are.words (p % 64) (omega arith));
+        ap or_zero (ap (option_and_then (value_by_group ys (p % 64))) (was.none (p / 64) (omega (arith, here)) (omega (arith, low))))
+        ∙ (sym (ap or_zero clear) ∙ are.words (p % 64) (omega arith));
     others = λ p low other. stay p low;
   }
     where
@@ -256,7 +258,8 @@ module _ (q bits : ℕ) (old : ℕ → Option Group) (xs ys : List ℕ) (word : 
     laid-at : 0 < bits → bits < 2 ^ 64 → (p : ℕ) (g : Group) → p < 64 → new p ≡ Some g → (0 < g.word) × (g.word < 2 ^ 64) × (g.start ≡ values_before new p)
     laid-at some fits p g low is = elim (cases_order p q) [
       | inl same ↦
-          let g-is : record { word = bits; start = length xs } ≡ g = same_Some (record { word = bits; start = length xs }) g (sym at-group ∙ (ap new (sym same) ∙ is)) in
+          let g-is : record { word = bits; start = length xs } ≡ g = same_Some (record { word = bits; start = length xs }) g
+          (sym at-group ∙ (ap new (sym same) ∙ is)) in
           let word-is : bits ≡ g.word = ap (λ h. h.word) g-is in
           let start-is : length xs ≡ g.start = ap (λ h. h.start) g-is in
           let before : values_before new p ≡ values_before old q = ap (values_before new) same ∙ below q (omega arith) in
@@ -272,7 +275,8 @@ module _ (q bits : ℕ) (old : ℕ → Option Group) (xs ys : List ℕ) (word : 
     value-here p here = ap (option_and_then (value_by_group ys (p % 64))) (ap new here ∙ at-group)
 
     value-there : (p : ℕ) → p < 4096 → p / 64 ≢ q → value_of_place new ys p ≡ value_of_place old xs p
-    value-there p low other = ap (option_and_then (value_by_group ys (p % 64))) (at-other (p / 64) (omega arith) other) ∙ same-values old xs ys was.laid_out begins p low
+    value-there p low other = ap (option_and_then (value_by_group ys (p % 64))) (at-other (p / 64) (omega arith) other)
+        ∙ same-values old xs ys was.laid_out begins p low
 
     pub one-made : 0 < bits → bits < 2 ^ 64 → IsOneMade q old new xs ys word
     one-made some fits = record {
@@ -338,7 +342,8 @@ module _ (left rest q : ℕ) (old : ℕ → Option Group) (xs : List ℕ) (Is : 
   group-made new ys made pushed others = record {
     laid_out = made.laid_out;
     nonzero = made.nonzero;
-    todo = λ b p order low on. let above = left-above left rest q b takes (omega (arith, order, low)) on in let later = above.0 in made.none p (omega (arith, later, order)) low;
+    todo = λ b p order low on. let above = left-above left rest q b takes (omega (arith, order, low)) on in let later = above.0 in made.none p
+        (omega (arith, later, order)) low;
     done = λ p low off. elim (same_or_not (p / 64) q) [
       | inl here ↦ pushed p low here
       | inr other ↦ subst (Is p) (sym (ap or_zero (others p low other))) (was.done p low (sym (takes.same (p / 64) (omega arith) other) ∙ off))

@@ -1,11 +1,11 @@
 -- One group of a chunk as a set of indices below 4,096.
-use Rattle.std.specs.Prelude.{slice_get, ◌≤◌, true, false, Option, ◌≡◌, ◌≢◌, ℕ, zero, suc, ◌+◌, ◌-◌, ◌*◌, ◌/◌, ◌%◌, ◌^◌, ◌<◌, ◌==◌, Bool, nat_lt, if◌then◌else◌, refl}
+use Rattle.std.specs.Prelude.{slice_get, ◌≤◌, true, false, Option, ◌≡◌, ◌≢◌, ℕ, zero, suc, ◌+◌, ◌*◌, ◌/◌, ◌%◌, ◌<◌, ◌==◌, Bool, nat_lt, if◌then◌else◌, refl}
 use Rattle.std.specs.Int.{bit_at}
-use Rattle.std.proofs.Common.{arith, sym, ◌∙◌, ap, inl, inr}
+use Rattle.std.proofs.Common.{arith, inl, inr}
 use Rattle.std.proofs.lemmas.Bool.{cases_lt}
 use Rattle.std.proofs.lemmas.Bool.Decides.{nat_tests}
 use Rattle.std.proofs.lemmas.Nat.Bits.{bit_at-lt}
-use Rattle.hibitset_base.specs.Decisions.{eq_other, eq_same, same_or_not}
+use Rattle.hibitset_base.specs.Decisions.{eq_other, same_or_not}
 use Rattle.hibitset_base.specs.Sets.{IsLawful, bit_of}
 use Rattle.hibitset_base.specs.Words.{holds_at}
 use Rattle.hibitset_base.specs.declared.util.TheConstants.{LAYERS}

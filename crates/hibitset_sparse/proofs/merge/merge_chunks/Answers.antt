@@ -1,4 +1,4 @@
-use Rattle.std.proofs.Common.{◌≡◌, ℕ, ◌+◌, length, ◌∙◌, ap, arith}
+use Rattle.std.proofs.Common.{◌≡◌, length, ◌∙◌, ap, arith}
 use Rattle.std.specs.List.{slice_get}
 use Rattle.hibitset_sparse.specs.Chunk.{or_zero}
 use Rattle.hibitset_sparse.specs.GroupView.{view_has}
@@ -32,6 +32,8 @@ groups-preserved g c =
     } in
     group-made c.groups.left c.take_lowest-q.new.word c.take_lowest-q.result (value_in c.groups.groups) c.groups.items.items _ takes c.groups.invariant
     (value_in c.push_merged.new.groups) c.push_merged.new.items.items made.made
-    (λ p low here. word-of-group g.M.Merge.test c.args.own.now c.args.other.now (view_has c.of-of_own.result) (view_has c.of-of_other.result) c.take_lowest-q.result p
-    (or_zero (value_of_place (value_in c.push_merged.new.groups) c.push_merged.new.items.items p)) here c.of-of_own.ensures c.of-of_other.ensures (made.pushed p low here))
+    (λ p low here. word-of-group g.M.Merge.test c.args.own.now c.args.other.now (view_has c.of-of_own.result)
+    (view_has c.of-of_other.result) c.take_lowest-q.result p
+    (or_zero (value_of_place (value_in c.push_merged.new.groups) c.push_merged.new.items.items p)) here c.of-of_own.ensures c.of-of_other.ensures
+    (made.pushed p low here))
     made.others

@@ -1,4 +1,4 @@
-use Rattle.std.proofs.Common.{ℕ, ◌*◌}
+use Rattle.std.proofs.Common.{◌*◌}
 use Rattle.hibitset_sparse.specs.Chunk.{has_in}
 use Rattle.hibitset_sparse.specs.Merge.{IsWordOf}
 use Rattle.hibitset_sparse.specs.PackedArray.{value_in}

@@ -1,6 +1,6 @@
-use Rattle.std.proofs.Common.{◌≡◌, ℕ, ◌+◌, ◌<◌, ◌≤◌, length, sym, ap, arith}
+use Rattle.std.proofs.Common.{◌≡◌, length, ap, arith}
 use Rattle.hibitset_sparse.specs.PackedArray.{value_in}
-use Rattle.hibitset_sparse.proofs.GroupViewLemmas.{group-ends, view-some, view-none}
+use Rattle.hibitset_sparse.proofs.GroupViewLemmas.{group-ends}
 use Rattle.hibitset_sparse.proofs.group_view.GroupView.of.Goals as goal
 
 pub invariant_of-result-2 : goal.invariant_of-result-2

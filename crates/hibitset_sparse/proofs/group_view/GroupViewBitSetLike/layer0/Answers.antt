@@ -1,8 +1,7 @@
-use Rattle.std.proofs.Common.{◌≡◌, ℕ, ◌+◌, ◌<◌, ◌≤◌, true, nat_lt, length, Some, sym, ◌∙◌, ap, arith}
+use Rattle.std.proofs.Common.{◌≡◌, ◌+◌, ◌≤◌, length, Some, sym, ◌∙◌, ap, arith}
 use Rattle.std.specs.List.{slice_get}
 use Rattle.std.proofs.lemmas.Option.{slice_get_read}
 use Rattle.std.proofs.lemmas.Grind.{common_steps}
-use Rattle.hibitset_sparse.specs.Chunk.{or_zero}
 use Rattle.hibitset_sparse.specs.Rank.{rank_in}
 use Rattle.hibitset_sparse.proofs.RankLemmas.{rank-most}
 use Rattle.hibitset_sparse.proofs.GroupViewLemmas.{read-on, read-off, read-past}
@@ -25,9 +24,11 @@ returns c =
       | in-Some w ↦
           let lookup = rw w.in-Some.is at c.get.ensures.lookup in
           let found : slice_get view.items.now (view.start + c.rank.result) ≡ Some w.in-Some.value.now = grind (arith, common_steps, lookup, slice_get_read) in
-          ap (λ r. r.now) w.source-is ∙ read-on view.items.now view.start view.word c.args.i w.in-Some.value.now (omega (arith, small)) (sym w.is_set.ensures ∙ w.if-is_set.true) (sym (ap (slice_get view.items.now) at) ∙ found)
+          ap (λ r. r.now) w.source-is ∙ read-on view.items.now view.start view.word c.args.i w.in-Some.value.now (omega (arith, small))
+          (sym w.is_set.ensures ∙ w.if-is_set.true) (sym (ap (slice_get view.items.now) at) ∙ found)
       | in_default w ↦ elim w.in_default.branch [
-        | in_default-via-in-Some+else-is_set v ↦ ap (λ r. r.now) w.source-is ∙ read-off view.items.now view.start view.word c.args.i (omega (arith, small)) (sym v.is_set.ensures ∙ v.if-is_set.false)
+        | in_default-via-in-Some+else-is_set v ↦ ap (λ r. r.now) w.source-is
+            ∙ read-off view.items.now view.start view.word c.args.i (omega (arith, small)) (sym v.is_set.ensures ∙ v.if-is_set.false)
         | in_default-via-in_default v ↦
             let lookup = rw v.in_default.is at c.get.ensures.lookup in
             let past : length view.items.now ≤ view.start + c.rank.result = lookup.3 in

@@ -1,4 +1,4 @@
-use Rattle.std.proofs.Common.{◌≡◌, ℕ, ◌+◌, ◌*◌, ◌%◌, ◌||◌, ◌&&◌, not, ◌∙◌, ap, arith}
+use Rattle.std.proofs.Common.{◌≡◌, ◌+◌, ◌*◌, ◌%◌, ◌∙◌, ap, arith}
 use Rattle.hibitset_base.specs.Virtual.{differ}
 use Rattle.hibitset_sparse.specs.GroupView.{view_has}
 use Rattle.hibitset_sparse.proofs.SetLemmas.{on_ok}

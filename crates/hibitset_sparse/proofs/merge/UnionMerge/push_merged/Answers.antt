@@ -1,5 +1,4 @@
-use Rattle.std.proofs.Common.{◌≡◌, ℕ, ◌+◌, ◌*◌, ◌%◌, ◌||◌, ◌&&◌, not, ◌∙◌, ap, arith}
-use Rattle.hibitset_base.specs.Virtual.{differ}
+use Rattle.std.proofs.Common.{◌≡◌, ◌+◌, ◌*◌, ◌%◌, ◌||◌, ◌∙◌, ap, arith}
 use Rattle.hibitset_sparse.specs.GroupView.{view_has}
 use Rattle.hibitset_sparse.proofs.SetLemmas.{on_ok}
 use Rattle.hibitset_sparse.proofs.merge.UnionMerge.push_merged.Goals as goal

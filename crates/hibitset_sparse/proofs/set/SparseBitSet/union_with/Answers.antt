@@ -1,6 +1,5 @@
-use Rattle.std.proofs.Common.{◌≡◌, ℕ, ◌^◌, ◌<◌, ◌≤◌, ◌||◌, Bool, false, refl, sym, ◌∙◌, inl, inr}
+use Rattle.std.proofs.Common.{◌^◌, ◌||◌, refl, sym, ◌∙◌, inl, inr}
 use Rattle.std.proofs.lemmas.Bool.{cases_lt}
-use Rattle.hibitset_base.specs.Virtual.{differ}
 use Rattle.hibitset_sparse.specs.SparseBitSet.{has}
 use Rattle.hibitset_sparse.proofs.AssignLemmas.{either-same, none-past, replaced}
 use Rattle.hibitset_sparse.proofs.set.SparseBitSet.union_with.Goals as goal
