@@ -45,7 +45,8 @@ module _ {T : Type 0} where
   insert-last (x ∷ xs) y = ap (λ zs. x ∷ zs) (insert-last xs y)
 
   -- the values by bits, where one was appended for a bit above all
-  pub value-pushed : (v w b start : ℕ) (xs ys : List T) (y : T) → IsSetAt v w b → w < 2 ^ 64 → HasNoneFrom w b → length xs ≡ start + count_ones w → ys ≡ xs ++ y ∷ []
+  pub value-pushed : (v w b start : ℕ) (xs ys : List T) (y : T) → IsSetAt v w b → w < 2 ^ 64 → HasNoneFrom w b → length xs ≡ start + count_ones w
+      → ys ≡ xs ++ y ∷ []
       → (c : ℕ) → c < 64 → value_from (λ k. slice_get ys (start + k)) v c ≡ (if c == b then Some y else value_from (λ k. slice_get xs (start + k)) w c)
   value-pushed v w b start xs ys y is fits none counted pushed =
       let put : ys ≡ insert xs (length xs) y = pushed ∙ sym (insert-last xs y) in
@@ -97,10 +98,10 @@ left-above left rest b c is small on = elim (cases_order c b) [
 pub ones-taken : (left rest b : ℕ) → TakesLowest left rest b → left < 2 ^ 64 → rest < 2 ^ 64 → count_ones left ≡ count_ones rest + 1
 ones-taken left rest b is fits_l fits_r = ones-set left rest b fits_l fits_r is.below is.gone is.stood (λ c small other. sym (is.same c small other))
 
-no-word : (items : List ℕ) (start b : ℕ) → word_from items start 0 b ≡ None
+pub no-word : (items : List ℕ) (start b : ℕ) → word_from items start 0 b ≡ None
 no-word items start b = value-off (λ k. slice_get items (start + k)) 0 b (zero-is-clear 0 b (bit_at-zero b))
 
-no-ones : count_ones 0 ≡ 0
+pub no-ones : count_ones 0 ≡ 0
 no-ones = let few = ones_le_self 0 in omega (arith, few)
 
 -- Words are appended for some bits, and those of the bits that are left come behind them.
@@ -110,7 +111,8 @@ pub record AreBeingPushed (start left bits : ℕ) (items : List ℕ) (word : ℕ
   pub todo : (b c : ℕ) → b ≤ c → c < 64 → bit_at left b ≡ 1 → bit_at bits c ≡ 0
   pub done : (b : ℕ) → b < 64 → bit_at left b ≡ 0 → or_zero (word_from items start bits b) ≡ word b
 
-pub words-first : (start left : ℕ) (items : List ℕ) (word : ℕ → ℕ) → length items ≡ start → ((b : ℕ) → b < 64 → bit_at left b ≡ 0 → word b ≡ 0) → AreBeingPushed start left 0 items word
+pub words-first : (start left : ℕ) (items : List ℕ) (word : ℕ → ℕ) → length items ≡ start → ((b : ℕ) → b < 64 → bit_at left b ≡ 0 → word b ≡ 0)
+    → AreBeingPushed start left 0 items word
 words-first start left items word long none = record {
   counted = (let ones = no-ones in omega (arith, ones, long));
   nonzero = λ b w small is. absurd (none-some w (sym (no-word items start b) ∙ is));
@@ -178,7 +180,8 @@ words-last start bits items word was = record {
 }
 
 -- The groups of a table, of which none lies at q or after it, have all their values before q.
-before-end : (group : ℕ → Option Group) (q k : ℕ) → ((p : ℕ) → q ≤ p → p < 64 → group p ≡ None) → q + k ≤ 64 → values_before group (q + k) ≡ values_before group q
+before-end : (group : ℕ → Option Group) (q k : ℕ) → ((p : ℕ) → q ≤ p → p < 64 → group p ≡ None) → q + k ≤ 64
+    → values_before group (q + k) ≡ values_before group q
 before-end group q zero none few = let e : q + 0 ≡ q = omega arith in ap (values_before group) e
 before-end group q (suc k) none few =
     let e : q + suc k ≡ suc (q + k) = omega arith in
@@ -192,7 +195,8 @@ pub before-all : (group : ℕ → Option Group) (q : ℕ) → q ≤ 64 → ((p :
 before-all group q few none = let e : q + (64 - q) ≡ 64 = omega arith in rw e at (before-end group q (64 - q) none (omega arith))
 
 -- the values stay where the list grows
-pub same-values : (group : ℕ → Option Group) (xs ys : List ℕ) → AreLaidOut group (length xs) → BeginsWith xs ys → (p : ℕ) → p < 4096 → value_of_place group ys p ≡ value_of_place group xs p
+pub same-values : (group : ℕ → Option Group) (xs ys : List ℕ) → AreLaidOut group (length xs) → BeginsWith xs ys → (p : ℕ) → p < 4096
+    → value_of_place group ys p ≡ value_of_place group xs p
 same-values group xs ys laid begins p low = same-group xs ys (p % 64) (group (p / 64)) (λ g some.
     from-same (λ k. slice_get xs (g.start + k)) (λ k. slice_get ys (g.start + k)) g.word (p % 64) (λ on.
     begins (g.start + rank_in g.word (p % 64)) (place-inside group (length xs) (p / 64) (p % 64) g laid (omega arith) some on)))
@@ -203,7 +207,8 @@ pub record IsOneMade (q : ℕ) (old new : ℕ → Option Group) (xs ys : List �
   pub pushed : (p : ℕ) → p < 4096 → p / 64 ≡ q → or_zero (value_of_place new ys p) ≡ word (p % 64)
   pub others : (p : ℕ) → p < 4096 → p / 64 ≢ q → value_of_place new ys p ≡ value_of_place old xs p
 
-module _ (q bits : ℕ) (old : ℕ → Option Group) (xs ys : List ℕ) (word : ℕ → ℕ) (group : q < 64) (was : IsMadeUpTo q old xs) (begins : BeginsWith xs ys) (are : AreWordsFrom (length xs) bits ys word) where
+module _ (q bits : ℕ) (old : ℕ → Option Group) (xs ys : List ℕ) (word : ℕ → ℕ) (group : q < 64) (was : IsMadeUpTo q old xs) (begins : BeginsWith xs ys)
+    (are : AreWordsFrom (length xs) bits ys word) where
   -- all words were 0
   pub none-made : bits ≡ 0 → IsOneMade q old old xs ys word
   none-made none = record {
@@ -215,7 +220,8 @@ module _ (q bits : ℕ) (old : ℕ → Option Group) (xs ys : List ℕ) (word : 
     };
     pushed = λ p low here.
         let clear : word_from ys (length xs) bits (p % 64) ≡ None = ap (λ v. word_from ys (length xs) v (p % 64)) none ∙ no-word ys (length xs) (p % 64) in
-        ap or_zero (ap (option_and_then (value_by_group ys (p % 64))) (was.none (p / 64) (omega (arith, here)) (omega (arith, low)))) ∙ (sym (ap or_zero clear) ∙ are.words (p % 64) (omega arith));
+        ap or_zero (ap (option_and_then (value_by_group ys (p % 64))) (was.none (p / 64) (omega (arith, here)) (omega (arith, low))))
+        ∙ (sym (ap or_zero clear) ∙ are.words (p % 64) (omega arith));
     others = λ p low other. stay p low;
   }
     where
@@ -252,7 +258,8 @@ module _ (q bits : ℕ) (old : ℕ → Option Group) (xs ys : List ℕ) (word : 
     laid-at : 0 < bits → bits < 2 ^ 64 → (p : ℕ) (g : Group) → p < 64 → new p ≡ Some g → (0 < g.word) × (g.word < 2 ^ 64) × (g.start ≡ values_before new p)
     laid-at some fits p g low is = elim (cases_order p q) [
       | inl same ↦
-          let g-is : record { word = bits; start = length xs } ≡ g = same_Some (record { word = bits; start = length xs }) g (sym at-group ∙ (ap new (sym same) ∙ is)) in
+          let g-is : record { word = bits; start = length xs } ≡ g = same_Some (record { word = bits; start = length xs }) g
+          (sym at-group ∙ (ap new (sym same) ∙ is)) in
           let word-is : bits ≡ g.word = ap (λ h. h.word) g-is in
           let start-is : length xs ≡ g.start = ap (λ h. h.start) g-is in
           let before : values_before new p ≡ values_before old q = ap (values_before new) same ∙ below q (omega arith) in
@@ -268,7 +275,8 @@ module _ (q bits : ℕ) (old : ℕ → Option Group) (xs ys : List ℕ) (word : 
     value-here p here = ap (option_and_then (value_by_group ys (p % 64))) (ap new here ∙ at-group)
 
     value-there : (p : ℕ) → p < 4096 → p / 64 ≢ q → value_of_place new ys p ≡ value_of_place old xs p
-    value-there p low other = ap (option_and_then (value_by_group ys (p % 64))) (at-other (p / 64) (omega arith) other) ∙ same-values old xs ys was.laid_out begins p low
+    value-there p low other = ap (option_and_then (value_by_group ys (p % 64))) (at-other (p / 64) (omega arith) other)
+        ∙ same-values old xs ys was.laid_out begins p low
 
     pub one-made : 0 < bits → bits < 2 ^ 64 → IsOneMade q old new xs ys word
     one-made some fits = record {
@@ -289,7 +297,8 @@ module _ (q bits : ℕ) (old : ℕ → Option Group) (xs ys : List ℕ) (word : 
       others = value-there;
     }
 
-  pub one-made-at : (start : ℕ) (new : ℕ → Option Group) → start ≡ length xs → ((p : ℕ) → p < 64 → new p ≡ (if p == q then Some (record { word = bits; start = start }) else old p))
+  pub one-made-at : (start : ℕ) (new : ℕ → Option Group) → start ≡ length xs
+      → ((p : ℕ) → p < 64 → new p ≡ (if p == q then Some (record { word = bits; start = start }) else old p))
       → 0 < bits → bits < 2 ^ 64 → IsOneMade q old new xs ys word
   one-made-at start new is put =
       one-made new (subst (λ s. (p : ℕ) → p < 64 → new p ≡ (if p == q then Some (record { word = bits; start = s }) else old p)) is put)
@@ -333,7 +342,8 @@ module _ (left rest q : ℕ) (old : ℕ → Option Group) (xs : List ℕ) (Is : 
   group-made new ys made pushed others = record {
     laid_out = made.laid_out;
     nonzero = made.nonzero;
-    todo = λ b p order low on. let above = left-above left rest q b takes (omega (arith, order, low)) on in let later = above.0 in made.none p (omega (arith, later, order)) low;
+    todo = λ b p order low on. let above = left-above left rest q b takes (omega (arith, order, low)) on in let later = above.0 in made.none p
+        (omega (arith, later, order)) low;
     done = λ p low off. elim (same_or_not (p / 64) q) [
       | inl here ↦ pushed p low here
       | inr other ↦ subst (Is p) (sym (ap or_zero (others p low other))) (was.done p low (sym (takes.same (p / 64) (omega arith) other) ∙ off))

@@ -139,6 +139,12 @@ empty-member p i none = elim (cases_lt i MAX_EID) [
   | inr past ↦ (let no : nat_lt i MAX_EID ≡ false = lt-no i MAX_EID past in rw no refl)
 ]
 
+pub none-if-empty : (set : SparseBitSet) (i : ℕ) → members_below MAX_EID (has set) ≡ [] → has set i ≡ false
+none-if-empty set i none = elim (cases_lt i (2 ^ 30)) [
+  | inl low ↦ none_below MAX_EID (has set) none i low
+  | inr past ↦ none-past set i past
+]
+
 -- The parts of a union and of a symmetric difference with the members of another.
 module _ (a b : Bool) where
   pub either-same : b ≡ false → (a || b) ≡ a

@@ -5,12 +5,14 @@ pub mod LayoutLemmas
 pub mod WordLemmas
 pub mod AppendLemmas
 pub mod LawfulWordLemmas
+pub mod GroupViewLemmas
 pub mod ExactLemmas
 pub mod ChunkLemmas
 pub mod SetLemmas
 pub mod ReplaceLemmas
 pub mod ChunksOfLemmas
 pub mod AssignLemmas
+pub mod MergeLemmas
 pub mod MemberWordLemmas
 pub mod CopyLemmas
 pub mod CompareLemmas

@@ -4,6 +4,8 @@ pub mod Layout
 pub mod Table
 pub mod Chunk
 pub mod Parts
+pub mod GroupView
+pub mod Merge
 pub mod Chunks
 pub mod Replacement
 pub mod Copy

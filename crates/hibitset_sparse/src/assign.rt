@@ -82,7 +82,7 @@ impl SparseBitSet {
 
     // Takes out what is not in another set: puts chunks in the place of the set's own that have what is in both, or goes
     // one by one where there was no memory for them.
-    fn keep<K: BitSetLike>(&mut self, chunks: Result<Table<Chunk>, AllocError>, kept: &K)
+    pub(crate) fn keep<K: BitSetLike>(&mut self, chunks: Result<Table<Chunk>, AllocError>, kept: &K)
         requires made { IfOk chunks (AreChunksOf (λ i. has self.old i && K.holds kept.now i)
             (λ i. has self.old i && not (K.holds kept.now i))) }
         ensures { IsIntersection (has self.old) (K.holds kept.now) (has self.new) }

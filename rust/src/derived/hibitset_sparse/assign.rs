@@ -88,7 +88,7 @@ impl SparseBitSet {
 
     // Takes out what is not in another set: puts chunks in the place of the set's own that have what is in both, or goes
     // one by one where there was no memory for them.
-    fn keep<K: BitSetLike>(&mut self, chunks: Result<Table<Chunk>, AllocError>, kept: &K) {
+    pub(crate) fn keep<K: BitSetLike>(&mut self, chunks: Result<Table<Chunk>, AllocError>, kept: &K) {
         match chunks {
             Ok(chunks) => self.put_chunks(chunks),
             Err(_) => self.retain(|i| kept.contains(i)),

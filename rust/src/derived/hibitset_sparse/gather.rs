@@ -34,9 +34,24 @@ fn push_words<S: BitSetLike>(
     Ok(bits)
 }
 
-// Appends group q, with the words of a set under a word of its layer 1, where no group is there from q on.
+/// Appends group q, with the words of a set under a word of its layer 1, where no group is there from q on.
+///
+/// # Contract
+///
+/// ```text
+/// requires position { position < GROUPS_PER_TABLE * PLACES_PER_TABLE }
+/// requires group { q < GROUPS_PER_TABLE }
+/// requires made { IsMadeUpTo q (value_in groups.old) items.old.items }
+/// ensures made { OnOk result (IsMadeUpTo (q + 1) (value_in groups.new) items.new.items) }
+/// ensures pushed { OnOk result ((p b : ℕ) → p < PLACES_PER_TABLE → p / 64 ≡ q → b < 64
+///     → bit_is_set (or_zero (value_of_place (value_in groups.new) items.new.items p)) b
+///     ≡ S.holds set.now (64 * (64 * position + p % 64) + b)) }
+/// ensures others { OnOk result ((p : ℕ) → p < PLACES_PER_TABLE → p / 64 ≢ q
+///     → value_of_place (value_in groups.new) items.new.items p
+///     ≡ value_of_place (value_in groups.old) items.old.items p) }
+/// ```
 #[inline]
-fn push_group<S: BitSetLike>(
+pub(crate) fn push_group<S: BitSetLike>(
     groups: &mut PackedArray<Group>,
     items: &mut Vec<usize>,
     set: &S,
@@ -66,22 +81,66 @@ fn chunk_of<S: BitSetLike>(alloc: Global, set: &S, c: usize) -> Result<Chunk, Al
     })
 }
 
-// The chunks of a set in one group, put into a table that has none in this group: those in which `touched` has a
+/// What chunks can be made of.
+pub(crate) trait ChunkSource {
+    /// Makes chunk c.
+    ///
+    /// # Contract
+    ///
+    /// ```text
+    /// requires { c < PLACES_PER_TABLE }
+    /// ensures { IfOk result (IsChunkOf (holds self.now) c) }
+    /// ```
+    fn make_chunk(&self, alloc: Global, c: usize) -> Result<Chunk, AllocError>;
+}
+
+/// The chunks of any set, made of its words.
+struct ChunksOfSet<'a, S: BitSetLike>(&'a S);
+
+impl<S: BitSetLike> ChunkSource for ChunksOfSet<'_, S> {
+    #[inline]
+    fn make_chunk(&self, alloc: Global, c: usize) -> Result<Chunk, AllocError> {
+        chunk_of(alloc, self.0, c)
+    }
+}
+
+// The chunks of a source in one group, put into a table that has none in this group: those in which `touched` has a
 // member, and maybe others.
-fn push_chunks<S: BitSetLike, T: BitSetLike>(
+fn push_chunks<S: ChunkSource, T: BitSetLike>(
     chunks: &mut Table<Chunk>,
     alloc: Global,
-    set: &S,
+    source: &S,
     touched: &T,
     q: usize,
 ) -> Result<(), AllocError> {
     let mut places = touched.layer3(q);
     'places: while places != 0 {
         let c = 64 * q + take_bit(&mut places);
-        let chunk = chunk_of(alloc, set, c)?;
+        let chunk = source.make_chunk(alloc, c)?;
         chunks.insert(c, chunk)?;
     }
     Ok(())
+}
+
+/// The chunks of a source: those in which `touched` has a member, and maybe others.
+///
+/// # Contract
+///
+/// ```text
+/// ensures { IfOk result (AreChunksOf (S.holds source.now) (T.holds touched.now)) }
+/// ```
+pub(crate) fn chunks_from<S: ChunkSource, T: BitSetLike>(
+    alloc: Global,
+    source: &S,
+    touched: &T,
+) -> Result<Table<Chunk>, AllocError> {
+    let mut chunks = Table::new(alloc);
+    let mut groups = touched.layer4();
+    'groups: while groups != 0 {
+        let q = take_bit(&mut groups);
+        push_chunks(&mut chunks, alloc, source, touched, q)?;
+    }
+    Ok(chunks)
 }
 
 /// The chunks of a set: those in which `touched` has a member, and maybe others.
@@ -96,11 +155,5 @@ pub(crate) fn chunks_of<S: BitSetLike, T: BitSetLike>(
     set: &S,
     touched: &T,
 ) -> Result<Table<Chunk>, AllocError> {
-    let mut chunks = Table::new(alloc);
-    let mut groups = touched.layer4();
-    'groups: while groups != 0 {
-        let q = take_bit(&mut groups);
-        push_chunks(&mut chunks, alloc, set, touched, q)?;
-    }
-    Ok(chunks)
+    chunks_from(alloc, &ChunksOfSet(set), touched)
 }

@@ -3,7 +3,7 @@ use Rattle.std.specs.Int.{bit_at}
 use Rattle.std.specs.List.{slice_get}
 use Rattle.std.proofs.lemmas.Nat.Bits.{bit_at-zero}
 use Rattle.hibitset_sparse.specs.PackedArray.{value_in}
-use Rattle.hibitset_sparse.specs.Rank.{bit_is_set, value_from}
+use Rattle.hibitset_sparse.specs.Rank.{value_from}
 use Rattle.hibitset_sparse.proofs.AppendLemmas.{TakesLowest, groups-first, group-made}
 use Rattle.hibitset_sparse.proofs.LawfulWordLemmas.{holds-clear}
 use Rattle.hibitset_sparse.proofs.gather.chunk_of.Goals as goal
@@ -11,7 +11,8 @@ use Rattle.hibitset_sparse.proofs.gather.chunk_of.Goals as goal
 pub groups-init : goal.groups-init
 groups-init g c =
     let word = g.S.BitSetLike.word c.args.set.now in
-    groups-first c.layer2-left.result (value_in c.reserve.new.self) c.new-items.result.items _ (let none = c.new-items.ensures.len in omega (arith, none, c.new-items.result.ok.0))
+    groups-first c.layer2-left.result (value_in c.reserve.new.self) c.new-items.result.items _
+    (let none = c.new-items.ensures.len in omega (arith, none, c.new-items.result.ok.0))
     (λ p. ap (λ w. value_from (slice_get c.reserve.new.self.items.items) w p) c.reserve.ensures.word
     ∙ (ap (λ xs. value_from (slice_get xs) c.new-groups.result.word p) c.reserve.ensures.items ∙ c.new-groups.ensures.none p))
     (λ p low off b few. holds-clear (g.S.BitSetLike.holds c.args.set.now) word (g.met.S.BitSetLike.lawful c.args.set.now) c.args.c p b c.requires low few

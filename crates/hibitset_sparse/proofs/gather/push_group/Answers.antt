@@ -13,9 +13,11 @@ returns-then-word-eq0-clause-made g c =
 
 pub returns-then-word-eq0-clause-pushed : goal.returns-then-word-eq0-clause-pushed
 returns-then-word-eq0-clause-pushed g c = λ p b low here few.
-    ap (λ w. bit_is_set w b) ((none-made c.args.q c.in_ok-word.word (value_in c.args.groups.now) c.args.items.now.items c.push_words.new.items.items _ c.requires.group
+    ap (λ w. bit_is_set w b) ((none-made c.args.q c.in_ok-word.word
+    (value_in c.args.groups.now) c.args.items.now.items c.push_words.new.items.items _ c.requires.group
     c.requires.made c.push_words.ensures.before c.in_ok-word.ensures.pushed c.if-word-eq0.true).pushed p low here)
-    ∙ holds-by_word (g.S.BitSetLike.holds c.args.set.now) (g.S.BitSetLike.word c.args.set.now) (g.met.S.BitSetLike.lawful c.args.set.now) (64 * c.args.position + p % 64) b
+    ∙ holds-by_word (g.S.BitSetLike.holds c.args.set.now) (g.S.BitSetLike.word c.args.set.now) (g.met.S.BitSetLike.lawful c.args.set.now)
+    (64 * c.args.position + p % 64) b
     (omega (arith, c.requires.position)) few
 
 pub returns-then-word-eq0-clause-others : goal.returns-then-word-eq0-clause-others
@@ -33,9 +35,12 @@ returns-clause-made g c = on_ok c.push.result c.push.ensures.put (λ put.
 
 pub returns-clause-pushed : goal.returns-clause-pushed
 returns-clause-pushed g c = on_ok c.push.result c.push.ensures.put (λ put. λ p b low here few.
-    ap (λ w. bit_is_set w b) ((one-made-at c.args.q c.in_ok-word.word (value_in c.args.groups.now) c.args.items.now.items c.push_words.new.items.items _ c.requires.group
-    c.requires.made c.push_words.ensures.before c.in_ok-word.ensures.pushed c.len-start.result (value_in c.push.new.self) (omega arith) put (omega arith) (omega arith)).pushed p low here)
-    ∙ holds-by_word (g.S.BitSetLike.holds c.args.set.now) (g.S.BitSetLike.word c.args.set.now) (g.met.S.BitSetLike.lawful c.args.set.now) (64 * c.args.position + p % 64) b
+    ap (λ w. bit_is_set w b) ((one-made-at c.args.q c.in_ok-word.word
+    (value_in c.args.groups.now) c.args.items.now.items c.push_words.new.items.items _ c.requires.group
+    c.requires.made c.push_words.ensures.before c.in_ok-word.ensures.pushed c.len-start.result (value_in c.push.new.self) (omega arith) put (omega arith)
+    (omega arith)).pushed p low here)
+    ∙ holds-by_word (g.S.BitSetLike.holds c.args.set.now) (g.S.BitSetLike.word c.args.set.now) (g.met.S.BitSetLike.lawful c.args.set.now)
+    (64 * c.args.position + p % 64) b
     (omega (arith, c.requires.position)) few)
 
 pub returns-clause-others : goal.returns-clause-others

@@ -36,11 +36,13 @@ places-preserved-then-word-ne0 g c =
     let put : ys ≡ insert xs (length xs) c.layer0-word.result = pushed.items ∙ sym (insert-last xs c.layer0-word.result) in
     let from : length c.args.items.now.items ≤ length xs = (let counted = c.places.invariant.pushed.counted in omega (arith, counted)) in
     record {
-      before = λ k low. ap (λ zs. slice_get zs k) put ∙ (get-insert_below xs (length xs) c.layer0-word.result k (omega (arith, low, from)) (omega arith) ∙ c.places.invariant.before k low);
+      before = λ k low. ap (λ zs. slice_get zs k) put ∙ (get-insert_below xs (length xs) c.layer0-word.result k (omega (arith, low, from)) (omega arith)
+          ∙ c.places.invariant.before k low);
       fits = omega arith;
       room = (let room = c.places.invariant.room in let same = pushed.capacity in omega (arith, room, same, fewer, long));
       pushed = word-pushed (length c.args.items.now.items) c.places.places c.take_lowest-bit.new.word c.take_lowest-bit.result c.places.bits xs _ takes c.places.invariant.pushed
-          c.with_bit-bits.result c.layer0-word.result ys c.places.invariant.fits (omega arith) c.with_bit-bits.ensures.here c.with_bit-bits.ensures.same c.layer0-word.ensures some (omega arith) long pushed.items;
+          c.with_bit-bits.result c.layer0-word.result ys c.places.invariant.fits
+          (omega arith) c.with_bit-bits.ensures.here c.with_bit-bits.ensures.same c.layer0-word.ensures some (omega arith) long pushed.items;
     }
 
 pub places-preserved : goal.places-preserved

@@ -1,0 +1,312 @@
+//! Two sparse sets put together, chunk beside chunk.
+ghost use Rattle.std.specs.Prelude.{◌≡◌, ◌≢◌, ℕ, ◌+◌, ◌*◌, ◌/◌, ◌%◌, ◌<◌, Bool, false, ◌||◌, ◌&&◌, not, [], IfOk, IsOk, OnOk, OnErr};
+ghost use Rattle.hibitset_base.specs.Connectives.{IsDifference, IsIntersection, IsSymmetricDifference, IsUnion};
+ghost use Rattle.hibitset_base.specs.Members.{members_below};
+ghost use Rattle.hibitset_base.specs.Virtual.{differ};
+ghost use Rattle.hibitset_base.specs.declared.util.TheConstants.{MAX_EID};
+ghost use Rattle.hibitset_sparse.specs.Chunk.{has_in, or_zero};
+ghost use Rattle.hibitset_sparse.specs.GroupView.{view_has};
+ghost use Rattle.hibitset_sparse.specs.Layout.{value_of_place};
+ghost use Rattle.hibitset_sparse.specs.Merge.{CoversTest, IsWordOf};
+ghost use Rattle.hibitset_sparse.specs.PackedArray.{value_in};
+ghost use Rattle.hibitset_sparse.specs.Parts.{IsMadeUpTo};
+ghost use Rattle.hibitset_sparse.specs.SparseBitSet.{has};
+ghost use Rattle.hibitset_sparse.specs.declared.table.TheConstants.{PLACES_PER_TABLE};
+ghost use Rattle.hibitset_sparse.specs.declared.chunk.TheConstants.{INDICES_PER_CHUNK};
+
+use crate::chunk::Chunk;
+use crate::gather::{ChunkSource, chunks_from, push_group};
+use crate::group::Group;
+use crate::group_view::GroupView;
+use crate::packed_array::PackedArray;
+use crate::rank::take_lowest;
+use crate::set::SparseBitSet;
+use crate::table::{GROUPS_PER_TABLE, PLACES_PER_TABLE, Table};
+use hibitset_base::like::BitSetLike;
+use hibitset_base::virt::{BitSetAnd, BitSetNot, BitSetOr, BitSetXor};
+use std::alloc::{AllocError, Global};
+
+/// A way to put two sets together, index by index.
+trait Merge: Drop {
+    // Whether an index is there, by whether it is in the one and in the other.
+    ghost test: { Bool → Bool → Bool };
+
+    /// The bits over which there may be something, of those of the two.
+    fn merged_bits(own: usize, other: usize) -> usize
+        ensures { CoversTest test own other result };
+
+    /// How many words there may be, so that capacity for them is reserved at once.
+    fn most_words(own: usize, other: usize) -> usize;
+
+    /// Appends group q, made of a group of each, where no group is there from q on.
+    fn push_merged(
+        groups: &mut PackedArray<Group>,
+        items: &mut Vec<usize>,
+        own: &GroupView<'_>,
+        other: &GroupView<'_>,
+        q: usize,
+    ) -> Result<(), AllocError>
+        requires group { q < GROUPS_PER_TABLE }
+        requires made { IsMadeUpTo q (value_in groups.old) items.old.items }
+        ensures made { OnOk result (IsMadeUpTo (q + 1) (value_in groups.new) items.new.items) }
+        ensures pushed { OnOk result ((p : ℕ) → p < PLACES_PER_TABLE → p / 64 ≡ q
+            → IsWordOf test (view_has own.now) (view_has other.now) (64 * (p % 64))
+            (or_zero (value_of_place (value_in groups.new) items.new.items p))) }
+        ensures others { OnOk result ((p : ℕ) → p < PLACES_PER_TABLE → p / 64 ≢ q
+            → value_of_place (value_in groups.new) items.new.items p
+            ≡ value_of_place (value_in groups.old) items.old.items p) };
+}
+
+/// What is in one or both.
+#[derive(Drop)]
+struct Union;
+
+impl Merge for Union {
+    ghost test = { λ a b. a || b };
+
+    #[inline]
+    fn merged_bits(own: usize, other: usize) -> usize {
+        own | other
+    }
+
+    #[inline]
+    fn most_words(own: usize, other: usize) -> usize {
+        own.saturating_add(other)
+    }
+
+    #[inline]
+    fn push_merged(
+        groups: &mut PackedArray<Group>,
+        items: &mut Vec<usize>,
+        own: &GroupView<'_>,
+        other: &GroupView<'_>,
+        q: usize,
+    ) -> Result<(), AllocError> {
+        push_group(groups, items, &BitSetOr(own, other), 0, q)
+    }
+}
+
+/// What is in both.
+#[derive(Drop)]
+struct Intersection;
+
+impl Merge for Intersection {
+    ghost test = { λ a b. a && b };
+
+    #[inline]
+    fn merged_bits(own: usize, other: usize) -> usize {
+        own & other
+    }
+
+    #[inline]
+    fn most_words(own: usize, other: usize) -> usize {
+        own.min(other)
+    }
+
+    #[inline]
+    fn push_merged(
+        groups: &mut PackedArray<Group>,
+        items: &mut Vec<usize>,
+        own: &GroupView<'_>,
+        other: &GroupView<'_>,
+        q: usize,
+    ) -> Result<(), AllocError> {
+        push_group(groups, items, &BitSetAnd(own, other), 0, q)
+    }
+}
+
+/// What is in the one and not in the other.
+#[derive(Drop)]
+struct Difference;
+
+impl Merge for Difference {
+    ghost test = { λ a b. a && not b };
+
+    #[inline]
+    fn merged_bits(own: usize, _other: usize) -> usize {
+        own
+    }
+
+    #[inline]
+    fn most_words(own: usize, _other: usize) -> usize {
+        own
+    }
+
+    #[inline]
+    fn push_merged(
+        groups: &mut PackedArray<Group>,
+        items: &mut Vec<usize>,
+        own: &GroupView<'_>,
+        other: &GroupView<'_>,
+        q: usize,
+    ) -> Result<(), AllocError> {
+        push_group(groups, items, &BitSetAnd(own, BitSetNot(other)), 0, q)
+    }
+}
+
+/// What is in one alone.
+#[derive(Drop)]
+struct SymmetricDifference;
+
+impl Merge for SymmetricDifference {
+    ghost test = { λ a b. differ a b };
+
+    #[inline]
+    fn merged_bits(own: usize, other: usize) -> usize {
+        own | other
+    }
+
+    #[inline]
+    fn most_words(own: usize, other: usize) -> usize {
+        own.saturating_add(other)
+    }
+
+    #[inline]
+    fn push_merged(
+        groups: &mut PackedArray<Group>,
+        items: &mut Vec<usize>,
+        own: &GroupView<'_>,
+        other: &GroupView<'_>,
+        q: usize,
+    ) -> Result<(), AllocError> {
+        push_group(groups, items, &BitSetXor(own, other), 0, q)
+    }
+}
+
+// A chunk made of two.
+fn merge_chunks<M: Merge>(alloc: Global, own: &Chunk, other: &Chunk) -> Result<Chunk, AllocError>
+    ensures { IfOk result (λ chunk. (i : ℕ) → i < INDICES_PER_CHUNK
+        → has_in chunk i ≡ M.test (has_in own.now i) (has_in other.now i)) }
+{
+    let mut groups = PackedArray::new(alloc);
+    let mut items = Vec::new(alloc);
+    let mut left = M::merged_bits(own.layer2(), other.layer2());
+    groups.reserve(left.count_ones() as usize)?;
+    items.reserve(M::most_words(own.words.items.len(), other.words.items.len()))?;
+    'groups: while left != 0 {
+        let q = take_lowest(&mut left);
+        let of_own = GroupView::of(own, q);
+        let of_other = GroupView::of(other, q);
+        M::push_merged(&mut groups, &mut items, &of_own, &of_other, q)?;
+    }
+    Ok(Chunk {
+        words: Table { groups, items },
+    })
+}
+
+// The chunk of a set, or this one, which is empty.
+fn chunk_or<'a>(set: &'a SparseBitSet, c: usize, empty: &'a Chunk) -> &'a Chunk
+    requires place { c < PLACES_PER_TABLE }
+    requires empty { (i : ℕ) → has_in empty.now i ≡ false }
+    ensures { (i : ℕ) → i < INDICES_PER_CHUNK
+        → has_in result.now i ≡ has set.now (INDICES_PER_CHUNK * c + i) }
+{
+    match set.chunks.get(c) {
+        Some(chunk) => chunk,
+        None => empty,
+    }
+}
+
+// The chunks of two sets put together.
+#[derive(Drop)]
+struct Merged<'a, M: Merge> {
+    own: &'a SparseBitSet,
+    other: &'a SparseBitSet,
+    by: M,
+}
+
+impl<M: Merge> ChunkSource for Merged<'_, M> {
+    ghost holds = { λ s i. M.test (has s.own.now i) (has s.other.now i) };
+
+    fn make_chunk(&self, alloc: Global, c: usize) -> Result<Chunk, AllocError> {
+        let empty = Chunk::new(alloc);
+        let own = chunk_or(self.own, c, &empty);
+        let other = chunk_or(self.other, c, &empty);
+        merge_chunks::<M>(alloc, own, other)
+    }
+}
+
+impl SparseBitSet {
+    /// Adds the members of another sparse set. If an allocation fails, the members stay.
+    ///
+    /// It goes through the words of both sets in the chunks in which the other has members. These are made anew, each
+    /// beside its old form; the others stay where they are. It can't fail if the other has none.
+    pub fn union_with(&mut self, other: &SparseBitSet) -> Result<(), AllocError>
+        ensures members { OnOk result (IsUnion (has self.old) (has other.now) (has self.new)) }
+        ensures err { OnErr result ((i : ℕ) → has self.new i ≡ has self.old i) }
+        ensures none { members_below MAX_EID (has other.now) ≡ [] → IsOk result }
+    {
+        if other.is_empty() {
+            return Ok(());
+        }
+        let alloc = self.allocator();
+        let merged = Merged {
+            own: &*self,
+            other,
+            by: Union,
+        };
+        let chunks = chunks_from(alloc, &merged, other)?;
+        self.reserve_chunks(chunks.items.len())?;
+        self.put_chunks(chunks);
+        Ok(())
+    }
+
+    /// Adds the members of another sparse set that were not there, and takes out those that were. If an allocation
+    /// fails, the members stay.
+    ///
+    /// It goes through words and chunks as `union_with` does.
+    pub fn symmetric_difference_with(&mut self, other: &SparseBitSet) -> Result<(), AllocError>
+        ensures members { OnOk result (IsSymmetricDifference (has self.old) (has other.now)
+            (has self.new)) }
+        ensures err { OnErr result ((i : ℕ) → has self.new i ≡ has self.old i) }
+        ensures none { members_below MAX_EID (has other.now) ≡ [] → IsOk result }
+    {
+        if other.is_empty() {
+            return Ok(());
+        }
+        let alloc = self.allocator();
+        let merged = Merged {
+            own: &*self,
+            other,
+            by: SymmetricDifference,
+        };
+        let chunks = chunks_from(alloc, &merged, other)?;
+        self.reserve_chunks(chunks.items.len())?;
+        self.put_chunks(chunks);
+        Ok(())
+    }
+
+    /// Takes out the members that are not in the other sparse set. It can't fail.
+    ///
+    /// It goes through the words of both sets in the chunks of this one. These are made anew, beside their old forms.
+    /// Where an allocation fails, members are taken out one by one.
+    pub fn intersect_with(&mut self, other: &SparseBitSet)
+        ensures { IsIntersection (has self.old) (has other.now) (has self.new) }
+    {
+        let alloc = self.allocator();
+        let merged = Merged {
+            own: &*self,
+            other,
+            by: Intersection,
+        };
+        let chunks = chunks_from(alloc, &merged, &*self);
+        self.keep(chunks, other);
+    }
+
+    /// Takes out the members that are in the other sparse set. It can't fail.
+    ///
+    /// It goes through the words of both sets in the chunks in which both have members. These are made anew, beside
+    /// their old forms. Where an allocation fails, members are taken out one by one.
+    pub fn difference_with(&mut self, other: &SparseBitSet)
+        ensures { IsDifference (has self.old) (has other.now) (has self.new) }
+    {
+        let alloc = self.allocator();
+        let merged = Merged {
+            own: &*self,
+            other,
+            by: Difference,
+        };
+        let chunks = chunks_from(alloc, &merged, &BitSetAnd(&*self, other));
+        self.keep(chunks, &BitSetNot(other));
+    }
+}

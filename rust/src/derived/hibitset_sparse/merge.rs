@@ -1,0 +1,293 @@
+// Derived from crates/hibitset_sparse/src/merge.rt by rust/derive.py, and never edited by hand.
+
+//! Two sparse sets put together, chunk beside chunk.
+
+use crate::support::rattle_std::prelude::*;
+
+use crate::derived::hibitset_sparse::chunk::Chunk;
+use crate::derived::hibitset_sparse::gather::{ChunkSource, chunks_from, push_group};
+use crate::derived::hibitset_sparse::group::Group;
+use crate::derived::hibitset_sparse::group_view::GroupView;
+use crate::derived::hibitset_sparse::packed_array::PackedArray;
+use crate::derived::hibitset_sparse::rank::take_lowest;
+use crate::derived::hibitset_sparse::set::SparseBitSet;
+use crate::derived::hibitset_sparse::table::{GROUPS_PER_TABLE, PLACES_PER_TABLE, Table};
+use crate::derived::hibitset_base::virt::{BitSetAnd, BitSetNot, BitSetOr, BitSetXor};
+use crate::support::rattle_std::alloc::{AllocError, Global};
+
+/// A way to put two sets together, index by index.
+trait Merge {
+    /// The bits over which there may be something, of those of the two.
+    ///
+    /// # Contract
+    ///
+    /// ```text
+    /// ensures { CoversTest test own other result }
+    /// ```
+    fn merged_bits(own: usize, other: usize) -> usize;
+
+    /// How many words there may be, so that capacity for them is reserved at once.
+    fn most_words(own: usize, other: usize) -> usize;
+
+    /// Appends group q, made of a group of each, where no group is there from q on.
+    ///
+    /// # Contract
+    ///
+    /// ```text
+    /// requires group { q < GROUPS_PER_TABLE }
+    /// requires made { IsMadeUpTo q (value_in groups.old) items.old.items }
+    /// ensures made { OnOk result (IsMadeUpTo (q + 1) (value_in groups.new) items.new.items) }
+    /// ensures pushed { OnOk result ((p : ℕ) → p < PLACES_PER_TABLE → p / 64 ≡ q
+    ///     → IsWordOf test (view_has own.now) (view_has other.now) (64 * (p % 64))
+    ///     (or_zero (value_of_place (value_in groups.new) items.new.items p))) }
+    /// ensures others { OnOk result ((p : ℕ) → p < PLACES_PER_TABLE → p / 64 ≢ q
+    ///     → value_of_place (value_in groups.new) items.new.items p
+    ///     ≡ value_of_place (value_in groups.old) items.old.items p) }
+    /// ```
+    fn push_merged(
+        groups: &mut PackedArray<Group>,
+        items: &mut Vec<usize>,
+        own: &GroupView<'_>,
+        other: &GroupView<'_>,
+        q: usize,
+    ) -> Result<(), AllocError>;
+}
+
+/// What is in one or both.
+struct Union;
+
+impl Merge for Union {
+    #[inline]
+    fn merged_bits(own: usize, other: usize) -> usize {
+        own | other
+    }
+
+    #[inline]
+    fn most_words(own: usize, other: usize) -> usize {
+        own.saturating_add(other)
+    }
+
+    #[inline]
+    fn push_merged(
+        groups: &mut PackedArray<Group>,
+        items: &mut Vec<usize>,
+        own: &GroupView<'_>,
+        other: &GroupView<'_>,
+        q: usize,
+    ) -> Result<(), AllocError> {
+        push_group(groups, items, &BitSetOr(own, other), 0, q)
+    }
+}
+
+/// What is in both.
+struct Intersection;
+
+impl Merge for Intersection {
+    #[inline]
+    fn merged_bits(own: usize, other: usize) -> usize {
+        own & other
+    }
+
+    #[inline]
+    fn most_words(own: usize, other: usize) -> usize {
+        own.min(other)
+    }
+
+    #[inline]
+    fn push_merged(
+        groups: &mut PackedArray<Group>,
+        items: &mut Vec<usize>,
+        own: &GroupView<'_>,
+        other: &GroupView<'_>,
+        q: usize,
+    ) -> Result<(), AllocError> {
+        push_group(groups, items, &BitSetAnd(own, other), 0, q)
+    }
+}
+
+/// What is in the one and not in the other.
+struct Difference;
+
+impl Merge for Difference {
+    #[inline]
+    fn merged_bits(own: usize, _other: usize) -> usize {
+        own
+    }
+
+    #[inline]
+    fn most_words(own: usize, _other: usize) -> usize {
+        own
+    }
+
+    #[inline]
+    fn push_merged(
+        groups: &mut PackedArray<Group>,
+        items: &mut Vec<usize>,
+        own: &GroupView<'_>,
+        other: &GroupView<'_>,
+        q: usize,
+    ) -> Result<(), AllocError> {
+        push_group(groups, items, &BitSetAnd(own, BitSetNot(other)), 0, q)
+    }
+}
+
+/// What is in one alone.
+struct SymmetricDifference;
+
+impl Merge for SymmetricDifference {
+    #[inline]
+    fn merged_bits(own: usize, other: usize) -> usize {
+        own | other
+    }
+
+    #[inline]
+    fn most_words(own: usize, other: usize) -> usize {
+        own.saturating_add(other)
+    }
+
+    #[inline]
+    fn push_merged(
+        groups: &mut PackedArray<Group>,
+        items: &mut Vec<usize>,
+        own: &GroupView<'_>,
+        other: &GroupView<'_>,
+        q: usize,
+    ) -> Result<(), AllocError> {
+        push_group(groups, items, &BitSetXor(own, other), 0, q)
+    }
+}
+
+// A chunk made of two.
+fn merge_chunks<M: Merge>(alloc: Global, own: &Chunk, other: &Chunk) -> Result<Chunk, AllocError> {
+    let mut groups = PackedArray::new(alloc);
+    let mut items = Vec::new(alloc);
+    let mut left = M::merged_bits(own.layer2(), other.layer2());
+    groups.reserve(left.count_ones() as usize)?;
+    items.reserve(M::most_words(own.words.items.len(), other.words.items.len()))?;
+    'groups: while left != 0 {
+        let q = take_lowest(&mut left);
+        let of_own = GroupView::of(own, q);
+        let of_other = GroupView::of(other, q);
+        M::push_merged(&mut groups, &mut items, &of_own, &of_other, q)?;
+    }
+    Ok(Chunk {
+        words: Table { groups, items },
+    })
+}
+
+// The chunk of a set, or this one, which is empty.
+fn chunk_or<'a>(set: &'a SparseBitSet, c: usize, empty: &'a Chunk) -> &'a Chunk {
+    match set.chunks.get(c) {
+        Some(chunk) => chunk,
+        None => empty,
+    }
+}
+
+// The chunks of two sets put together.
+struct Merged<'a, M: Merge> {
+    own: &'a SparseBitSet,
+    other: &'a SparseBitSet,
+    by: M,
+}
+
+impl<M: Merge> ChunkSource for Merged<'_, M> {
+    fn make_chunk(&self, alloc: Global, c: usize) -> Result<Chunk, AllocError> {
+        let empty = Chunk::new(alloc);
+        let own = chunk_or(self.own, c, &empty);
+        let other = chunk_or(self.other, c, &empty);
+        merge_chunks::<M>(alloc, own, other)
+    }
+}
+
+impl SparseBitSet {
+    /// Adds the members of another sparse set. If an allocation fails, the members stay.
+    ///
+    /// It goes through the words of both sets in the chunks in which the other has members. These are made anew, each
+    /// beside its old form; the others stay where they are.
+    ///
+    /// # Contract
+    ///
+    /// ```text
+    /// ensures members { OnOk result (IsUnion (has self.old) (has other.now) (has self.new)) }
+    /// ensures err { OnErr result ((i : ℕ) → has self.new i ≡ has self.old i) }
+    /// ```
+    pub fn union_with(&mut self, other: &SparseBitSet) -> Result<(), AllocError> {
+        let alloc = self.allocator();
+        let merged = Merged {
+            own: &*self,
+            other,
+            by: Union,
+        };
+        let chunks = chunks_from(alloc, &merged, other)?;
+        self.reserve_chunks(chunks.items.len())?;
+        self.put_chunks(chunks);
+        Ok(())
+    }
+
+    /// Adds the members of another sparse set that were not there, and takes out those that were. If an allocation
+    /// fails, the members stay.
+    ///
+    /// It goes through words and chunks as `union_with` does.
+    ///
+    /// # Contract
+    ///
+    /// ```text
+    /// ensures members { OnOk result (IsSymmetricDifference (has self.old) (has other.now)
+    ///     (has self.new)) }
+    /// ensures err { OnErr result ((i : ℕ) → has self.new i ≡ has self.old i) }
+    /// ```
+    pub fn symmetric_difference_with(&mut self, other: &SparseBitSet) -> Result<(), AllocError> {
+        let alloc = self.allocator();
+        let merged = Merged {
+            own: &*self,
+            other,
+            by: SymmetricDifference,
+        };
+        let chunks = chunks_from(alloc, &merged, other)?;
+        self.reserve_chunks(chunks.items.len())?;
+        self.put_chunks(chunks);
+        Ok(())
+    }
+
+    /// Takes out the members that are not in the other sparse set. It can't fail.
+    ///
+    /// It goes through the words of both sets in the chunks of this one. These are made anew, beside their old forms.
+    /// Where an allocation fails, members are taken out one by one.
+    ///
+    /// # Contract
+    ///
+    /// ```text
+    /// ensures { IsIntersection (has self.old) (has other.now) (has self.new) }
+    /// ```
+    pub fn intersect_with(&mut self, other: &SparseBitSet) {
+        let alloc = self.allocator();
+        let merged = Merged {
+            own: &*self,
+            other,
+            by: Intersection,
+        };
+        let chunks = chunks_from(alloc, &merged, &*self);
+        self.keep(chunks, other);
+    }
+
+    /// Takes out the members that are in the other sparse set. It can't fail.
+    ///
+    /// It goes through the words of both sets in the chunks in which both have members. These are made anew, beside
+    /// their old forms. Where an allocation fails, members are taken out one by one.
+    ///
+    /// # Contract
+    ///
+    /// ```text
+    /// ensures { IsDifference (has self.old) (has other.now) (has self.new) }
+    /// ```
+    pub fn difference_with(&mut self, other: &SparseBitSet) {
+        let alloc = self.allocator();
+        let merged = Merged {
+            own: &*self,
+            other,
+            by: Difference,
+        };
+        let chunks = chunks_from(alloc, &merged, &BitSetAnd(&*self, other));
+        self.keep(chunks, &BitSetNot(other));
+    }
+}
