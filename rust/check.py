@@ -122,6 +122,8 @@ def drop(words, at):
         return drop_impl(words, at)
     if word == "#" and words[at + 1 : at + 7] == ["[", "derive", "(", "Drop", ")", "]"]:
         return at + 7
+    if word == "where" and words[at + 2 : at + 5] == [":", "Drop", ","] and words[at + 5] in ("requires", "ensures", "{"):
+        return at + 5
     if word == "Drop" and words[at - 1] == ":" and after[:1] == ["+"]:
         return at + 2
     if word == "Drop" and words[at - 1] == "(" and after[:1] == [","]:
