@@ -15,8 +15,8 @@ from pathlib import Path
 TOP = Path(__file__).resolve().parent
 LIBRARIES = "hibitset_base hibitset_sparse hibitset_atomic hibitset hibitset_store hibitset_roaring".split()
 TESTS = (
-    "hibitset_run hibitset_testing hibitset_tests hibitset_atomic_tests hibitset_store_tests hibitset_roaring_tests"
-    " hibitset_word_reads uses uses_tests hibitset_refusals"
+    "hibitset_run hibitset_testing hibitset_tests hibitset_atomic_tests hibitset_sparse_tests hibitset_store_tests"
+    " hibitset_roaring_tests hibitset_word_reads uses uses_tests hibitset_refusals"
 ).split()
 
 LEXER = re.compile(

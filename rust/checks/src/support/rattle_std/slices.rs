@@ -11,6 +11,14 @@ impl<T> Vec<T> {
     }
 }
 
+impl<T: PartialEq> Vec<T> {
+    pub fn dedup(&mut self) {
+        let mut list = ::core::mem::replace(self, Vec::new(Global)).into_rust();
+        list.dedup();
+        *self = Vec::from_rust(list);
+    }
+}
+
 impl<T: Clone> Clone for Vec<T> {
     fn clone(&self) -> Vec<T> {
         Vec::from_rust(self.as_slice().to_vec())
