@@ -15,8 +15,8 @@ from pathlib import Path
 TOP = Path(__file__).resolve().parent
 LIBRARIES = "hibitset_base hibitset_sparse hibitset_atomic hibitset hibitset_store hibitset_roaring".split()
 TESTS = (
-    "hibitset_run hibitset_testing hibitset_tests hibitset_atomic_tests hibitset_store_tests hibitset_roaring_tests"
-    " hibitset_word_reads uses uses_tests hibitset_refusals"
+    "hibitset_run hibitset_testing hibitset_tests hibitset_atomic_tests hibitset_sparse_tests hibitset_store_tests"
+    " hibitset_roaring_tests hibitset_word_reads uses uses_tests hibitset_refusals"
 ).split()
 
 LEXER = re.compile(
@@ -122,6 +122,8 @@ def drop(words, at):
         return drop_impl(words, at)
     if word == "#" and words[at + 1 : at + 7] == ["[", "derive", "(", "Drop", ")", "]"]:
         return at + 7
+    if word == "where" and words[at + 2 : at + 5] == [":", "Drop", ","] and words[at + 5] in ("requires", "ensures", "{"):
+        return at + 5
     if word == "Drop" and words[at - 1] == ":" and after[:1] == ["+"]:
         return at + 2
     if word == "Drop" and words[at - 1] == "(" and after[:1] == [","]:

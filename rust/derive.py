@@ -24,6 +24,7 @@ TESTS = (
     "hibitset_testing",
     "hibitset_tests",
     "hibitset_atomic_tests",
+    "hibitset_sparse_tests",
     "hibitset_store_tests",
     "hibitset_roaring_tests",
     "hibitset_word_reads",

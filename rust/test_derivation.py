@@ -39,6 +39,8 @@ class Erasing(unittest.TestCase):
         self.assertEqual(derived("#[derive(Drop, Debug)]\nstruct S;\n"), "#[derive(Debug)]\nstruct S;\n")
         self.assertEqual(derived("fn f<R: Send + Drop, S: Drop>() {}\n"), "fn f<R: Send, S>() {}\n")
         self.assertEqual(derived("fn f<R: Drop + Send>() {}\n"), "fn f<R: Send>() {}\n")
+        where = "fn f<T>(a: T)\nwhere\n    T: Drop,\n    ensures { ⊤ }\n{\n    g\n}\n"
+        self.assertEqual(derived(where), "fn f<T>(a: T) {\n    g\n}\n")
         impl = "impl Drop for S {\n    fn drop(self)\n        ensures { ⊤ }\n    {\n        let S { a: _, b } = self;\n        drop(b);\n    }\n}\n"
         self.assertEqual(derived("struct S;\n\n" + impl), "struct S;\n")
 
@@ -51,7 +53,7 @@ class Erasing(unittest.TestCase):
         self.assertEqual(derived(source), "fn fmt(&self, f: &mut Formatter) -> fmt::Result { Ok(()) }\n")
 
     def test_what_no_rule_knows(self):
-        for source in ("let a = b ∧ c;", "ghost 5;", "prove!(a);", "fn fmt<W>(&self) {}", "fn f() where Drop {}"):
+        for source in ("let a = b ∧ c;", "ghost 5;", "prove!(a);", "fn fmt<W>(&self) {}", "fn f() where Drop {}", "fn f() where T: Drop, U: Send, {}"):
             with self.subTest(source), self.assertRaisesRegex(Unknown, r"crates/hibitset/src/set.rt:1: "):
                 derived(source)
 

@@ -85,11 +85,20 @@ def drop(source, at):
         source.leave_out_within_line(source.space_before(before), at, "drop")
     elif source.text(before) == ":" and source.text(after) == "+":
         source.leave_out_within_line(at, source.space_after(after), "drop")
+    elif source.text(before) == ":" and source.text(source.last(source.last(before))) == "where":
+        where_drop(source, before, after)
     elif source.text(before) == ":" and source.text(after) in (",", ">", "{"):
         source.leave_out_within_line(before, at, "drop")
     else:
         source.fail(at, "Drop in an unknown place")
     return at
+
+
+def where_drop(source, colon, comma):
+    """`where T: Drop,` before the clauses or the body of a function: nothing else is behind the `where`."""
+    if source.text(comma) != "," or source.text(source.next(comma)) not in ("requires", "ensures", "{"):
+        source.fail(colon, "a where with Drop and more")
+    source.leave_out(source.last(source.last(colon)), comma, "drop")
 
 
 def drop_impl(source, at):

@@ -24,26 +24,39 @@
 //!
 //! A set has five layers of 64-bit words. Layer 0 has one bit for each index. A bit of a layer above says whether a word
 //! below it is nonzero, and layer 4 is one word. So an iteration never looks where no member is, and indices lie below
-//! 64<sup>5</sup>: [`MAX_EID`] is 2<sup>30</sup>. One index near it makes a set of 136 MB.
+//! 64<sup>5</sup>: [`MAX_EID`] is 2<sup>30</sup>. One index near it makes a set of 136 MB. A [`SparseBitSet`] keeps the
+//! nonzero words alone: one index takes some 400 bytes, wherever it lies. The two mix without a copy.
+//!
+//! ```
+//! use hibitset::{BitSet, SparseBitSet};
+//!
+//! let dirty: BitSet = [5, 70_000].into_iter().collect();
+//! let mut seen = SparseBitSet::from([70_000, 1_000_000_000]);
+//! assert!((&dirty & &seen).into_iter().eq([70_000]));
+//! seen |= &dirty;
+//! assert_eq!(seen.to_vec(), [5, 70_000, 1_000_000_000]);
+//! ```
 //!
 //! # If an allocation fails
 //!
 //! A call that needs memory ends the process by [`handle_alloc_error`](alloc::alloc::handle_alloc_error), as a `Vec`
 //! does. Its twin whose name begins with `try_` returns [`AllocError`], and the members are then as they were;
-//! [`BitSet::try_extend`] keeps the items that came before.
+//! [`BitSet::try_extend`] keeps the items that came before. The same holds of a [`SparseBitSet`].
 //!
 //! # If a set of another type panics
 //!
 //! An assignment (`|=`, `&=`, `^=`, `-=` and their twins) reads the words of its right operand while it writes. If the
 //! operand's type is yours and it panics, the left set stays valid: each word of 64 indices is merged or as it was. If
-//! there is no memory to sum its words again, it is empty.
+//! there is no memory to sum its words again, it is empty. A left [`SparseBitSet`] has its old members; if there is no
+//! memory for its new words, `&=` and `-=` may have removed some of those that they were to remove.
 //!
 //! # What Rust can't force
 //!
 //! In the source, each type with [`BitSetLike`] proves that a summary bit is set over each nonzero word, and the
 //! provided methods of [`BitSetLike`] and [`DrainableBitSet`] are final. In Rust neither is checked. A type of yours that
 //! breaks the law, or overrides a provided method, gets wrong answers or panics, and never undefined behaviour. The
-//! members of a [`BitSet`] that it is merged into are then what its words said, under exact summaries.
+//! members of a [`BitSet`] or a [`SparseBitSet`] that it is merged into are then what its words said, under exact
+//! summaries.
 #![no_std]
 #![forbid(unsafe_code)]
 #![warn(missing_docs)]
@@ -87,7 +100,9 @@ pub use derived::hibitset_base::{
     BitSetXor, DrainBitIter, DrainableBitSet, Index, LAYERS, MAX_EID,
 };
 pub use derived::hibitset_roaring::{Fault as RoaringFault, Malformed, ReadError as RoaringError};
-pub use face::{AtomicBitSet, BitIterBoth, BitSet, BitSetLikeExt, Ranked, Seat};
+pub use face::{
+    AtomicBitSet, BitIterBoth, BitSet, BitSetLikeExt, Ranked, Seat, SparseBitSet, SparseIter,
+};
 pub use support::rattle_std::alloc::{AllocError, Global};
 
 // The examples of README are compiled with those of the documentation.

@@ -5,13 +5,14 @@
 use std::alloc::{GlobalAlloc, Layout, System};
 use std::cell::Cell;
 use std::env;
+use std::fmt::Debug;
 use std::panic::{catch_unwind, resume_unwind, AssertUnwindSafe};
 use std::process::Command;
 use std::ptr::null_mut;
 
 use hibitset::{
     AllocError, AtomicBitSet, BitSet, BitSetLike, BitSetLikeExt, Index, Ranked, RoaringError,
-    MAX_EID,
+    SparseBitSet, MAX_EID,
 };
 
 thread_local! {
@@ -67,7 +68,10 @@ unsafe impl GlobalAlloc for Refusing {
 ///
 /// Each refused call must return the error and leave the members; then it must pass when made again. Returns how many
 /// requests the call makes.
-fn refuse_each(start: &BitSet, call: impl Fn(&mut BitSet) -> Result<(), AllocError>) -> u64 {
+fn refuse_each<S: Clone + PartialEq + Debug>(
+    start: &S,
+    call: impl Fn(&mut S) -> Result<(), AllocError>,
+) -> u64 {
     for refused in 0.. {
         let mut set = start.clone();
         REQUESTS.set(0);
@@ -126,6 +130,113 @@ fn a_refused_set_is_not_made() {
     assert!(refuse_each(&none, |_| (&a ^ &b).try_to_bit_set().map(drop)) > 0);
     assert!(refuse_each(&none, |_| (&a - &b).try_to_bit_set().map(drop)) > 0);
     assert!(refuse_each(&none, |_| (&a & !(&b & !&a)).try_to_bit_set().map(drop)) > 0);
+}
+
+fn sparse_sets() -> [SparseBitSet; 3] {
+    [
+        SparseBitSet::new(),
+        SparseBitSet::from_iter([5, 70, MAX_EID as Index - 1]),
+        (0..3_000).map(|i| i * 311).collect(),
+    ]
+}
+
+#[test]
+fn a_refused_change_leaves_the_members_of_a_sparse_set() {
+    let other: SparseBitSet = (0..600).map(|i| i * 1_777).collect();
+    let dense = other.to_bit_set();
+    let far = MAX_EID as Index / 2;
+    for set in sparse_sets() {
+        assert!(refuse_each(&set, |set| set.try_add(far).map(drop)) > 1);
+        assert!(refuse_each(&set, |set| set.try_add_range(4_000..270_000)) > 0);
+        assert!(refuse_each(&set, |set| set.try_flip_range(4_000..270_000)) > 0);
+        assert!(refuse_each(&set, |set| set.try_bitor_assign(&other)) > 0);
+        assert!(refuse_each(&set, |set| set.try_bitxor_assign(&dense)) > 0);
+        assert!(refuse_each(&set, |set| set.try_bitor_assign(&(&dense & &other))) > 0);
+        // Each part with members has two lists of its own.
+        assert!(set.is_empty() || refuse_each(&set, |set| set.try_clone().map(drop)) > 3);
+        assert!(refuse_each(&set, |_| SparseBitSet::try_from_set(&other).map(drop)) > 3);
+        assert!(refuse_each(&set, |_| SparseBitSet::try_from_set(&dense).map(drop)) > 3);
+        assert!(refuse_each(&set, |_| other.try_to_bit_set().map(drop)) > 0);
+    }
+    // Where the word has a member, and from the second time on, nothing is allocated.
+    let set = SparseBitSet::from([64, far]);
+    assert_eq!(refuse_each(&set, |set| set.try_add(127).map(drop)), 0);
+    assert_eq!(refuse_each(&set, |set| set.try_add(far).map(drop)), 0);
+}
+
+/// Makes the call with each of its requests refused in turn, until none is: it gives the same set then.
+///
+/// Returns how many requests the call makes.
+fn ignores_refusals(start: &SparseBitSet, call: impl Fn(&mut SparseBitSet)) -> u64 {
+    let mut wanted = start.clone();
+    call(&mut wanted);
+    for refused in 0.. {
+        let mut set = start.clone();
+        REQUESTS.set(0);
+        let ((), was_refused) = with_refused(refused, || call(&mut set));
+        let requests = REQUESTS.get();
+        assert_eq!(set, wanted, "request {refused}");
+        if !was_refused {
+            return requests;
+        }
+    }
+    unreachable!("a call makes fewer requests")
+}
+
+#[test]
+fn removals_from_a_sparse_set_can_not_fail() {
+    let other: SparseBitSet = (0..600).map(|i| i * 1_777).collect();
+    let dense = other.to_bit_set();
+    for set in sparse_sets() {
+        let none = set.is_empty();
+        assert!(none || ignores_refusals(&set, |set| *set &= &other) > 0);
+        assert!(none || ignores_refusals(&set, |set| *set &= &!&dense) > 0);
+        assert!(none || ignores_refusals(&set, |set| *set -= &(&other | &dense)) > 0);
+        assert!(none || ignores_refusals(&set, |set| set.subtract_assign(&dense)) > 0);
+        assert!(none || ignores_refusals(&set, |set| set.remove_range(40..200_000)) > 0);
+        assert_eq!(ignores_refusals(&set, |set| set.retain(|i| i % 2 == 0)), 0);
+        assert_eq!(ignores_refusals(&set, |set| _ = set.drain().count()), 0);
+        assert_eq!(ignores_refusals(&set, |set| _ = set.remove(70)), 0);
+        assert_eq!(ignores_refusals(&set, SparseBitSet::clear), 0);
+    }
+}
+
+#[test]
+fn a_refused_shrinking_keeps_the_memory() {
+    let shrinks = |set: &mut SparseBitSet| {
+        // Copies have no more than their members use, so the set grows first.
+        let refused = REFUSED.replace(-1);
+        set.extend((0..50).map(|i| i * 100_000));
+        REFUSED.set(refused);
+        REQUESTS.set(0);
+        set.shrink_to_fit();
+    };
+    assert!(ignores_refusals(&SparseBitSet::from([7]), shrinks) > 4);
+    let set: SparseBitSet = (0..50).map(|i| i * 100_000).collect();
+    assert_eq!(ignores_refusals(&set, SparseBitSet::shrink_to_fit), 0);
+}
+
+#[test]
+fn a_sparse_set_takes_the_memory_of_its_members() {
+    let empty = with_refused(0, || SparseBitSet::new().clone().is_empty());
+    assert_eq!(empty, (true, false));
+    let mut set = SparseBitSet::new();
+    REQUESTS.set(0);
+    set.add(MAX_EID as Index - 1);
+    // The words and the groups of one part, and those of the set.
+    assert_eq!(REQUESTS.get(), 4);
+}
+
+#[test]
+fn a_refused_item_ends_the_extension_of_a_sparse_set() {
+    let mut set = SparseBitSet::from([5]);
+    let mut items = [5, 6, 7_000_000, 8].into_iter();
+    let (refused, _) = with_refused(0, || set.try_extend(&mut items));
+    assert_eq!((refused, set.to_vec()), (Err(AllocError), vec![5, 6]));
+    assert_eq!(
+        (set.try_extend(items), set.to_vec()),
+        (Ok(()), vec![5, 6, 8])
+    );
 }
 
 #[test]
@@ -303,6 +414,7 @@ fn call_refused(call: &str) {
     let mut set = BitSet::from_iter([5]);
     let other = BitSet::from_iter([70_000]);
     let seat = AtomicBitSet::from_iter([70_000]).share();
+    let mut sparse = SparseBitSet::from([5]);
     REFUSED.set(0);
     match call {
         "collect_into" => drop(seat.to_bit_set()),
@@ -318,6 +430,16 @@ fn call_refused(call: &str) {
         "to_bit_set" => drop((&set | &other).to_bit_set()),
         "add_atomic" => _ = AtomicBitSet::new().add_atomic(5),
         "share" => drop(AtomicBitSet::new().share()),
+        "sparse_add" => _ = sparse.add(70_000),
+        "sparse_add_range" => sparse.add_range(5..70_000),
+        "sparse_clone" => drop(sparse.clone()),
+        "sparse_collect" => drop(SparseBitSet::from_iter([1])),
+        "sparse_extend" => sparse.extend([6, 70_000]),
+        "sparse_flip_range" => sparse.flip_range(5..70_000),
+        "sparse_from_set" => drop(SparseBitSet::from_set(&other)),
+        "sparse_or" => sparse |= &other,
+        "sparse_to_vec" => drop(sparse.to_vec()),
+        "sparse_xor" => sparse ^= &other,
         _ => unreachable!("no call has this name"),
     }
 }
@@ -341,6 +463,16 @@ fn a_call_without_an_error_ends_the_process() {
         "add_atomic",
         "share",
         "collect_into",
+        "sparse_add",
+        "sparse_add_range",
+        "sparse_clone",
+        "sparse_collect",
+        "sparse_extend",
+        "sparse_flip_range",
+        "sparse_from_set",
+        "sparse_or",
+        "sparse_to_vec",
+        "sparse_xor",
     ] {
         let child = Command::new(env::current_exe().expect("the test has a path"))
             .args([

@@ -1,7 +1,7 @@
 //! Sets by serde: in a format that people read, and in a binary one.
 #![cfg(feature = "serde")]
 
-use hibitset::{AtomicBitSet, BitSet, ATOMIC_MAX_EID, MAX_EID};
+use hibitset::{AtomicBitSet, BitSet, BitSetLikeExt, SparseBitSet, ATOMIC_MAX_EID, MAX_EID};
 use serde::{Deserialize, Serialize};
 
 fn sets() -> Vec<BitSet> {
@@ -76,6 +76,23 @@ fn an_atomic_set_has_the_same_form() {
 }
 
 #[test]
+fn a_sparse_set_has_the_same_form() {
+    for set in sets() {
+        let sparse = SparseBitSet::from(&set);
+        let bytes = bincode::serialize(&sparse).expect("it is written");
+        let text = serde_json::to_string(&sparse).expect("it is written");
+        assert_eq!(bytes, bincode::serialize(&set).expect("it is written"));
+        assert_eq!(text, serde_json::to_string(&set).expect("it is written"));
+        let read: SparseBitSet = bincode::deserialize(&bytes).expect("it is read");
+        assert_eq!(read, sparse);
+        let read: SparseBitSet = serde_json::from_str(&text).expect("it is read");
+        assert_eq!((read.to_bit_set(), read), (set, sparse));
+    }
+    let unordered = serde_json::from_str::<SparseBitSet>("[1000000000, 5, 1000000000]");
+    assert_eq!(unordered.expect("it is read").to_vec(), [5, 1_000_000_000]);
+}
+
+#[test]
 fn a_field_comes_back() {
     #[derive(Serialize, Deserialize, PartialEq, Debug)]
     struct World {
@@ -127,6 +144,10 @@ fn what_is_no_list_of_indices_is_refused() {
         "invalid value: integer `1073741824`, expected indices below 1073741824, as a list or as a portable Roaring stream \
          at line 1 column 12"
     );
+    assert_eq!(
+        error_of::<SparseBitSet>("[1073741824]"),
+        error_of::<BitSet>("[1073741824]")
+    );
     assert!(error_of::<AtomicBitSet>("[16777216]").contains("expected indices below 16777216"));
 }
 
@@ -147,6 +168,8 @@ fn what_is_no_stream_is_refused() {
         .expect_err("it is refused")
         .to_string();
     assert!(error.contains("at byte"), "{error}");
+    let sparse = bincode::deserialize::<SparseBitSet>(&cut).expect_err("it is refused");
+    assert_eq!(sparse.to_string(), error);
     let far = bincode::serialize(&BitSet::from([1 << 24])).expect("it is written");
     let error = bincode::deserialize::<AtomicBitSet>(&far)
         .expect_err("it is refused")

@@ -4,7 +4,7 @@ use std::cell::Cell;
 use std::collections::BTreeSet;
 use std::panic::{catch_unwind, resume_unwind, AssertUnwindSafe};
 
-use hibitset::{BitSet, BitSetLike, Index};
+use hibitset::{BitSet, BitSetLike, Index, SparseBitSet};
 
 /// Takes one of the calls that are left, and panics, without a message, if there is none.
 fn take_one(left: &Cell<usize>) {
@@ -271,6 +271,70 @@ fn a_set_that_breaks_the_law_leaves_exact_summaries() {
         for assign in assign {
             _ = catch_unwind(AssertUnwindSafe(|| assign(&mut set, &other)));
             assert_summed(&set);
+        }
+    }
+}
+
+/// Compares the words of each layer with those of a sparse set made anew of the members.
+fn assert_sparse_summed(set: &SparseBitSet) {
+    let anew: SparseBitSet = set.iter().collect();
+    assert_eq!(set.layer4(), anew.layer4());
+    assert!((0..64).all(|i| set.layer3(i) == anew.layer3(i)));
+    assert!((0..4_096).all(|i| set.layer2(i) == anew.layer2(i)));
+    assert!((0..262_144).all(|i| set.layer1(i) == anew.layer1(i)));
+    assert!(*set == anew && set.len() == anew.len());
+    assert!(BitSetLike::iter(set).eq(set.iter()));
+}
+
+type SparseAssignment = fn(&mut SparseBitSet, &Failing);
+
+#[test]
+fn a_sparse_set_has_its_old_members_if_another_panics() {
+    let assignments: [(Assignment, SparseAssignment); 4] = [
+        (|set, other| *set |= other, |set, other| *set |= other),
+        (|set, other| *set &= other, |set, other| *set &= other),
+        (|set, other| *set ^= other, |set, other| *set ^= other),
+        (|set, other| *set -= other, |set, other| *set -= other),
+    ];
+    let mut panics = 0;
+    for (dense, other) in pairs() {
+        let start = SparseBitSet::from(&dense);
+        for (assign_dense, assign) in assignments {
+            for reads in 0.. {
+                let failing = |reads_left| Failing {
+                    set: &other,
+                    reads_left: Cell::new(reads_left),
+                };
+                let mut set = start.clone();
+                let call = AssertUnwindSafe(|| assign(&mut set, &failing(reads)));
+                if catch_unwind(call).is_ok() {
+                    let mut merged = dense.clone();
+                    assign_dense(&mut merged, &failing(usize::MAX));
+                    assert_eq!(set, SparseBitSet::from(&merged));
+                    break;
+                }
+                assert_eq!(set, start, "read {reads}");
+                panics += 1;
+            }
+        }
+    }
+    assert!(panics > 300, "{panics} panics");
+}
+
+#[test]
+fn a_set_that_breaks_the_law_leaves_a_sparse_set_with_exact_summaries() {
+    for seed in 1..8 {
+        let mut set: SparseBitSet = (0..6_000).step_by(7).chain([300_000, 20_000_000]).collect();
+        let other = Unlawful(Cell::new(seed * 77_777));
+        let assign: [fn(&mut SparseBitSet, &Unlawful); 4] = [
+            |a, b| *a |= b,
+            |a, b| *a ^= b,
+            |a, b| *a &= b,
+            |a, b| *a -= b,
+        ];
+        for assign in assign {
+            _ = catch_unwind(AssertUnwindSafe(|| assign(&mut set, &other)));
+            assert_sparse_summed(&set);
         }
     }
 }

@@ -1,6 +1,6 @@
 //! Iterators that go from both ends.
 
-use crate::{BitIter, BitRevIter, BitSet, BitSetLike, Index};
+use crate::{BitIter, BitRevIter, BitSet, BitSetLike, Index, SparseBitSet};
 use core::iter::FusedIterator;
 
 /// An iterator over the members of a set from both ends: one that ascends and one that descends, and the limits between
@@ -79,6 +79,20 @@ impl BitSet {
     /// assert!(set.iter_both().rev().eq([300, 20, 1]));
     /// ```
     pub fn iter_both(&self) -> BitIterBoth<'_, BitSet> {
+        BitIterBoth::new(self)
+    }
+}
+
+impl SparseBitSet {
+    /// Returns an iterator over the members that goes from both ends.
+    ///
+    /// ```
+    /// use hibitset::SparseBitSet;
+    ///
+    /// let set = SparseBitSet::from([1, 20, 300]);
+    /// assert!(set.iter_both().rev().eq([300, 20, 1]));
+    /// ```
+    pub fn iter_both(&self) -> BitIterBoth<'_, SparseBitSet> {
         BitIterBoth::new(self)
     }
 }

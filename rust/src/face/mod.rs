@@ -4,6 +4,7 @@ mod atomic_set;
 mod both;
 mod ext;
 mod guard;
+mod limits;
 mod ops;
 mod ranked;
 mod roaring;
@@ -12,6 +13,7 @@ mod seat;
 #[cfg(feature = "serde")]
 mod serde;
 mod set;
+mod sparse_set;
 mod traits;
 
 pub use atomic_set::AtomicBitSet;
@@ -20,6 +22,7 @@ pub use ext::BitSetLikeExt;
 pub use ranked::Ranked;
 pub use seat::Seat;
 pub use set::BitSet;
+pub use sparse_set::{SparseBitSet, SparseIter};
 
 use crate::AllocError;
 

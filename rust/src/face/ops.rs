@@ -1,7 +1,8 @@
-//! What the two sets have alike: words, operators, and items of iterators.
+//! What the sets have alike: words, operators, and items of iterators.
 
 use crate::{
     AtomicBitSet, BitIter, BitSet, BitSetAnd, BitSetLike, BitSetNot, BitSetOr, BitSetXor, Index,
+    SparseBitSet,
 };
 use core::ops::{BitAnd, BitOr, BitXor, Not, Sub};
 
@@ -98,7 +99,7 @@ macro_rules! collected {
 
 pub(crate) use {collected, words};
 
-macro_rules! operators {
+macro_rules! iterated {
     ($($set:ty;)*) => {$(
         impl IntoIterator for $set {
             type Item = Index;
@@ -109,7 +110,20 @@ macro_rules! operators {
                 BitSetLike::iter(self)
             }
         }
+    )*};
+}
 
+// A reference to a sparse set has an iterator of its own.
+iterated! {
+    BitSet;
+    &BitSet;
+    AtomicBitSet;
+    &AtomicBitSet;
+    SparseBitSet;
+}
+
+macro_rules! operators {
+    ($($set:ty;)*) => {$(
         impl Not for $set {
             type Output = BitSetNot<Self>;
 
@@ -162,4 +176,6 @@ operators! {
     &BitSet;
     AtomicBitSet;
     &AtomicBitSet;
+    SparseBitSet;
+    &SparseBitSet;
 }

@@ -1,7 +1,10 @@
 //! Sets by serde: the bytes of a portable Roaring stream in a binary format, and in one that people read the ascending
 //! list of members.
 
-use crate::{AtomicBitSet, BitSet, Index, ATOMIC_MAX_EID, MAX_EID};
+use crate::derived::hibitset_roaring::write_like;
+use crate::{
+    AllocError, AtomicBitSet, BitSet, Global, Index, SparseBitSet, ATOMIC_MAX_EID, MAX_EID,
+};
 use ::serde::de::{Deserialize, Deserializer, Error as _, SeqAccess, Unexpected, Visitor};
 use ::serde::ser::{Error as _, Serialize, Serializer};
 use core::fmt::{self, Formatter};
@@ -28,14 +31,53 @@ impl Serialize for AtomicBitSet {
     }
 }
 
-/// Takes either form, if the format says which one it has.
-struct Members {
-    /// Members lie below this bound.
-    end: usize,
+/// As a [`BitSet`] with the members. A binary format makes one on the way: 8.3 KB for each 65,536 indices up to the
+/// last member.
+impl Serialize for SparseBitSet {
+    fn serialize<S: Serializer>(&self, serializer: S) -> Result<S::Ok, S::Error> {
+        if serializer.is_human_readable() {
+            return serializer.collect_seq(self);
+        }
+        let bytes = write_like(Global, &self.0).map_err(S::Error::custom)?;
+        serializer.serialize_bytes(&bytes)
+    }
 }
 
-impl<'de> Visitor<'de> for Members {
-    type Value = BitSet;
+/// A set that members are read into.
+trait Read: Default {
+    fn try_add(&mut self, index: Index) -> Result<bool, AllocError>;
+    fn try_of(set: BitSet) -> Result<Self, AllocError>;
+}
+
+impl Read for BitSet {
+    fn try_add(&mut self, index: Index) -> Result<bool, AllocError> {
+        BitSet::try_add(self, index)
+    }
+
+    fn try_of(set: BitSet) -> Result<BitSet, AllocError> {
+        Ok(set)
+    }
+}
+
+impl Read for SparseBitSet {
+    fn try_add(&mut self, index: Index) -> Result<bool, AllocError> {
+        SparseBitSet::try_add(self, index)
+    }
+
+    fn try_of(set: BitSet) -> Result<SparseBitSet, AllocError> {
+        SparseBitSet::try_from_set(&set)
+    }
+}
+
+/// Takes either form, if the format says which one it has.
+struct Members<T> {
+    /// Members lie below this bound.
+    end: usize,
+    set: T,
+}
+
+impl<'de, T: Read> Visitor<'de> for Members<T> {
+    type Value = T;
 
     fn expecting(&self, f: &mut Formatter<'_>) -> fmt::Result {
         write!(
@@ -45,8 +87,7 @@ impl<'de> Visitor<'de> for Members {
         )
     }
 
-    fn visit_seq<A: SeqAccess<'de>>(self, mut list: A) -> Result<BitSet, A::Error> {
-        let mut set = BitSet::new();
+    fn visit_seq<A: SeqAccess<'de>>(mut self, mut list: A) -> Result<T, A::Error> {
         // The list need not ascend. Nothing is reserved for the length that it announces.
         while let Some(index) = list.next_element::<Index>()? {
             if index as usize >= self.end {
@@ -55,21 +96,24 @@ impl<'de> Visitor<'de> for Members {
                     &self,
                 ));
             }
-            set.try_add(index).map_err(A::Error::custom)?;
+            self.set.try_add(index).map_err(A::Error::custom)?;
         }
-        Ok(set)
+        Ok(self.set)
     }
 
-    fn visit_bytes<E: ::serde::de::Error>(self, bytes: &[u8]) -> Result<BitSet, E> {
-        BitSet::from_roaring_below(bytes, (self.end / INDICES_PER_KEY) as u32).map_err(E::custom)
+    fn visit_bytes<E: ::serde::de::Error>(self, bytes: &[u8]) -> Result<T, E> {
+        let keys = (self.end / INDICES_PER_KEY) as u32;
+        let read = BitSet::from_roaring_below(bytes, keys).map_err(E::custom)?;
+        T::try_of(read).map_err(E::custom)
     }
 }
 
-fn read<'de, D: Deserializer<'de>>(deserializer: D, end: usize) -> Result<BitSet, D::Error> {
+fn read<'de, T: Read, D: Deserializer<'de>>(deserializer: D, end: usize) -> Result<T, D::Error> {
+    let set = T::default();
     if deserializer.is_human_readable() {
-        deserializer.deserialize_seq(Members { end })
+        deserializer.deserialize_seq(Members { end, set })
     } else {
-        deserializer.deserialize_bytes(Members { end })
+        deserializer.deserialize_bytes(Members { end, set })
     }
 }
 
@@ -86,10 +130,17 @@ impl<'de> Deserialize<'de> for BitSet {
     }
 }
 
+/// As for a [`BitSet`], which a binary format makes on the way. A list makes none: its set goes by its members.
+impl<'de> Deserialize<'de> for SparseBitSet {
+    fn deserialize<D: Deserializer<'de>>(deserializer: D) -> Result<SparseBitSet, D::Error> {
+        read(deserializer, MAX_EID)
+    }
+}
+
 /// As for a [`BitSet`]. Members lie below [`ATOMIC_MAX_EID`].
 impl<'de> Deserialize<'de> for AtomicBitSet {
     fn deserialize<D: Deserializer<'de>>(deserializer: D) -> Result<AtomicBitSet, D::Error> {
-        let members = read(deserializer, ATOMIC_MAX_EID)?;
+        let members: BitSet = read(deserializer, ATOMIC_MAX_EID)?;
         let mut set = AtomicBitSet::new();
         for index in &members {
             set.try_add(index).map_err(D::Error::custom)?;

@@ -2,13 +2,14 @@
 
 use crate::derived::hibitset as proved;
 use crate::face::guard::guarded;
+use crate::face::limits::{range_to_add, range_within};
 use crate::face::{bound_out_of_range, index_out_of_range, out_of_memory};
 use crate::support::rattle_std::clone::TryClone;
 use crate::{AllocError, BitSetLike, DrainBitIter, DrainableBitSet, Global, Index, MAX_EID};
 use alloc::vec::Vec;
 use core::cell::RefCell;
 use core::fmt::{self, Debug, Formatter};
-use core::ops::{BitAndAssign, BitOrAssign, BitXorAssign, Bound, RangeBounds, SubAssign};
+use core::ops::{BitAndAssign, BitOrAssign, BitXorAssign, RangeBounds, SubAssign};
 
 /// How many words layer 0 has at most.
 const MAX_WORDS: usize = MAX_EID / BitSet::BITS_PER_USIZE;
@@ -50,40 +51,6 @@ const MAX_WORDS: usize = MAX_EID / BitSet::BITS_PER_USIZE;
 #[derive(PartialEq, Eq)]
 #[repr(transparent)]
 pub struct BitSet(pub(crate) proved::BitSet);
-
-/// The first index of a range, and the one after the last.
-fn limits(range: &impl RangeBounds<Index>) -> (u64, u64) {
-    let start = match range.start_bound() {
-        Bound::Included(&start) => start.into(),
-        Bound::Excluded(&before) => u64::from(before) + 1,
-        Bound::Unbounded => 0,
-    };
-    let end = match range.end_bound() {
-        Bound::Included(&last) => u64::from(last) + 1,
-        Bound::Excluded(&end) => end.into(),
-        Bound::Unbounded => MAX_EID as u64,
-    };
-    (start, end)
-}
-
-/// The limits of a range, as far as it lies below `MAX_EID`: no index from there on is in a set.
-fn range_within(range: &impl RangeBounds<Index>) -> (Index, Index) {
-    let (start, end) = limits(range);
-    let max = MAX_EID as u64;
-    (start.min(max) as Index, end.min(max) as Index)
-}
-
-/// The limits of a range whose indices are all to be below `MAX_EID`.
-fn range_to_add(range: &impl RangeBounds<Index>) -> (Index, Index) {
-    let (start, end) = limits(range);
-    if start >= end {
-        return (0, 0);
-    }
-    if end > MAX_EID as u64 {
-        bound_out_of_range(end);
-    }
-    (start as Index, end as Index)
-}
 
 impl BitSet {
     /// The number of bits in a word.

@@ -67,10 +67,7 @@ impl<'a, T> TableIter<'a, T> {
     /// ensures { entries_left result ≡ entries_of table.now }
     /// ```
     #[inline]
-    pub(crate) fn new(table: &'a Table<T>) -> TableIter<'a, T>
-    where
-        T,
-    {
+    pub(crate) fn new(table: &'a Table<T>) -> TableIter<'a, T> {
         TableIter {
             word: 0,
             first: 0,

@@ -99,10 +99,17 @@ impl<T> Vec<T> {
         self.0.remove(index)
     }
 
-    /// Gives back the capacity that no item uses.
-    #[inline]
+    /// Gives back the capacity that no item uses, or keeps it if there is no memory for a smaller block. Rust's own call
+    /// ends the process then.
     pub fn shrink_to_fit(&mut self) {
-        self.0.shrink_to_fit();
+        if self.0.len() == self.0.capacity() {
+            return;
+        }
+        let mut list = Inner::new();
+        if list.try_reserve_exact(self.0.len()).is_ok() {
+            list.append(&mut self.0);
+            self.0 = list;
+        }
     }
 
     /// Puts a value behind the others, for which there is room.
@@ -170,6 +177,17 @@ impl<T: Clone> Vec<T> {
         self.reserve(len.saturating_sub(self.0.len()))?;
         self.0.resize(len, value);
         Ok(())
+    }
+}
+
+impl<T: TryClone> Vec<T> {
+    /// Copies of values, made one by one.
+    pub fn from_clones(alloc: Global, values: &[T]) -> Result<Vec<T>, AllocError> {
+        let mut list = Vec::with_capacity(alloc, values.len())?;
+        for value in values {
+            list.push_reserved(value.try_clone()?);
+        }
+        Ok(list)
     }
 }
 

@@ -9,20 +9,13 @@ impl<T> Vec<T> {
         list.retain(keeps);
         *self = Vec::from_rust(list);
     }
-
-    pub fn remove(&mut self, index: usize) -> T {
-        let mut list = ::core::mem::replace(self, Vec::new(Global)).into_rust();
-        let removed = list.remove(index);
-        *self = Vec::from_rust(list);
-        removed
-    }
 }
 
-impl<T: Clone> Vec<T> {
-    pub fn from_slice(alloc: Global, values: &[T]) -> Result<Vec<T>, AllocError> {
-        let mut list = Vec::new(alloc);
-        list.extend_from_slice(values)?;
-        Ok(list)
+impl<T: PartialEq> Vec<T> {
+    pub fn dedup(&mut self) {
+        let mut list = ::core::mem::replace(self, Vec::new(Global)).into_rust();
+        list.dedup();
+        *self = Vec::from_rust(list);
     }
 }
 
