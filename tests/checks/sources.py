@@ -114,6 +114,7 @@ class Crate:
         self.words = {}  # records with their fields, types with their invariants, traits with their facts
         self.facts = {}  # of an impl, by its type and its trait
         self.open, self.exported = {(): True}, set()
+        self.own_traits = set()  # those that no user can name
         for path in self.modules():
             self.read_source(path)
         for path in sorted((self.folder / "specs").glob("*.antt")):
@@ -140,6 +141,8 @@ class Crate:
         for at, line in enumerate(lines):
             if opened := BLOCK.match(line):
                 kind, block = opened[1], at
+                if kind == "trait" and not line.startswith("pub trait "):
+                    self.own_traits.add(re.search(r"trait (\w+)", line)[1])
                 owner, trait = self.read_block(kind, " ".join(lines[at : at + 3])[opened.end() :])
             elif line == "}":
                 kind = owner = trait = ""
@@ -188,6 +191,8 @@ class Crate:
 
     def is_public(self, function):
         """Whether a user can name a function."""
+        if function.trait in self.own_traits:
+            return False
         path = function.module
         if function.is_pub and all(self.open.get(path[:at], False) for at in range(len(path) + 1)):
             return True

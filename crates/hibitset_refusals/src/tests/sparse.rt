@@ -351,7 +351,7 @@ fn copied(set: &SparseBitSet) -> Result<SparseBitSet, AllocError> {
     set.clone()
 }
 
-// allocates: 6, 192 bytes: hibitset_sparse::SparseBitSet::clone, hibitset_sparse::Chunk::clone
+// allocates: 6, 192 bytes: hibitset_sparse::SparseBitSet::clone
 #[test]
 fn copy_of_a_set(rt: HostRuntime) -> Result<(), Fail> {
     let set = sparse_of(rt.alloc(), &[5, FAR])?;
@@ -371,5 +371,41 @@ fn list_of_a_set(rt: HostRuntime) -> Result<(), Fail> {
     let set = sparse_of(rt.alloc(), &[5, FAR])?;
     let list = retried!(&rt, listed(rt.alloc(), &set));
     assert!(rt; list.as_slice() == [5, FAR].as_slice());
+    Ok(())
+}
+
+fn united(set: &mut SparseBitSet, other: &SparseBitSet) -> Result<(), AllocError> {
+    set.union_with(other)
+}
+
+// allocates: 6, 480 bytes: hibitset_sparse::SparseBitSet::union_with
+#[test]
+fn union_with(rt: HostRuntime) -> Result<(), Fail> {
+    let mut set = sparse_of(rt.alloc(), &[5, 70])?;
+    let other = sparse_of(rt.alloc(), &[6, FAR])?;
+    let done = tried!(&rt, united(&mut set, &other));
+    if done.is_err() {
+        assert_has(&rt, &set, &[5, 70]);
+        united(&mut set, &other)?;
+    }
+    assert_has(&rt, &set, &[5, 6, 70, FAR]);
+    Ok(())
+}
+
+fn made_different(set: &mut SparseBitSet, other: &SparseBitSet) -> Result<(), AllocError> {
+    set.symmetric_difference_with(other)
+}
+
+// allocates: 6, 480 bytes: hibitset_sparse::SparseBitSet::symmetric_difference_with
+#[test]
+fn symmetric_difference_with(rt: HostRuntime) -> Result<(), Fail> {
+    let mut set = sparse_of(rt.alloc(), &[5, 70])?;
+    let other = sparse_of(rt.alloc(), &[5, FAR])?;
+    let done = tried!(&rt, made_different(&mut set, &other));
+    if done.is_err() {
+        assert_has(&rt, &set, &[5, 70]);
+        made_different(&mut set, &other)?;
+    }
+    assert_has(&rt, &set, &[70, FAR]);
     Ok(())
 }

@@ -31,7 +31,7 @@ impl SparseBitSet {
     /// Adds the members of any other set. If an allocation fails, the members stay.
     ///
     /// Only chunks in which the other has members are made anew, each beside its old form; the others stay where they
-    /// are.
+    /// are. It can't fail if the other has none.
     ///
     /// # Contract
     ///
@@ -39,8 +39,12 @@ impl SparseBitSet {
     /// ensures members { OnOk result (IsUnion (has self.old) (is_member (B.holds other.now))
     ///     (has self.new)) }
     /// ensures err { OnErr result ((i : ℕ) → has self.new i ≡ has self.old i) }
+    /// ensures none { members_below MAX_EID (B.holds other.now) ≡ [] → IsOk result }
     /// ```
     pub fn bitor_assign<B: BitSetLike>(&mut self, other: &B) -> Result<(), AllocError> {
+        if other.is_empty() {
+            return Ok(());
+        }
         let alloc = self.allocator();
         let chunks = chunks_of(alloc, &BitSetOr(&*self, other), other)?;
         self.reserve_chunks(chunks.items.len())?;
@@ -52,7 +56,7 @@ impl SparseBitSet {
     /// the members stay.
     ///
     /// Only chunks in which the other has members are made anew, each beside its old form; the others stay where they
-    /// are.
+    /// are. It can't fail if the other has none.
     ///
     /// # Contract
     ///
@@ -60,8 +64,12 @@ impl SparseBitSet {
     /// ensures members { OnOk result (IsSymmetricDifference (has self.old)
     ///     (is_member (B.holds other.now)) (has self.new)) }
     /// ensures err { OnErr result ((i : ℕ) → has self.new i ≡ has self.old i) }
+    /// ensures none { members_below MAX_EID (B.holds other.now) ≡ [] → IsOk result }
     /// ```
     pub fn bitxor_assign<B: BitSetLike>(&mut self, other: &B) -> Result<(), AllocError> {
+        if other.is_empty() {
+            return Ok(());
+        }
         let alloc = self.allocator();
         let chunks = chunks_of(alloc, &BitSetXor(&*self, other), other)?;
         self.reserve_chunks(chunks.items.len())?;

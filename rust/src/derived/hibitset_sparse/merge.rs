@@ -12,6 +12,7 @@ use crate::derived::hibitset_sparse::packed_array::PackedArray;
 use crate::derived::hibitset_sparse::rank::take_lowest;
 use crate::derived::hibitset_sparse::set::SparseBitSet;
 use crate::derived::hibitset_sparse::table::{GROUPS_PER_TABLE, PLACES_PER_TABLE, Table};
+use crate::derived::hibitset_base::like::BitSetLike;
 use crate::derived::hibitset_base::virt::{BitSetAnd, BitSetNot, BitSetOr, BitSetXor};
 use crate::support::rattle_std::alloc::{AllocError, Global};
 
@@ -203,15 +204,19 @@ impl SparseBitSet {
     /// Adds the members of another sparse set. If an allocation fails, the members stay.
     ///
     /// It goes through the words of both sets in the chunks in which the other has members. These are made anew, each
-    /// beside its old form; the others stay where they are.
+    /// beside its old form; the others stay where they are. It can't fail if the other has none.
     ///
     /// # Contract
     ///
     /// ```text
     /// ensures members { OnOk result (IsUnion (has self.old) (has other.now) (has self.new)) }
     /// ensures err { OnErr result ((i : ℕ) → has self.new i ≡ has self.old i) }
+    /// ensures none { members_below MAX_EID (has other.now) ≡ [] → IsOk result }
     /// ```
     pub fn union_with(&mut self, other: &SparseBitSet) -> Result<(), AllocError> {
+        if other.is_empty() {
+            return Ok(());
+        }
         let alloc = self.allocator();
         let merged = Merged {
             own: &*self,
@@ -235,8 +240,12 @@ impl SparseBitSet {
     /// ensures members { OnOk result (IsSymmetricDifference (has self.old) (has other.now)
     ///     (has self.new)) }
     /// ensures err { OnErr result ((i : ℕ) → has self.new i ≡ has self.old i) }
+    /// ensures none { members_below MAX_EID (has other.now) ≡ [] → IsOk result }
     /// ```
     pub fn symmetric_difference_with(&mut self, other: &SparseBitSet) -> Result<(), AllocError> {
+        if other.is_empty() {
+            return Ok(());
+        }
         let alloc = self.allocator();
         let merged = Merged {
             own: &*self,

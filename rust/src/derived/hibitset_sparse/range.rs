@@ -20,8 +20,12 @@ impl SparseBitSet {
     /// ensures added { OnOk result ((i : ℕ)
     ///     → has self.new i ≡ (has self.old i || in_range start end i)) }
     /// ensures err { OnErr result ((i : ℕ) → has self.new i ≡ has self.old i) }
+    /// ensures none { end ≤ start → IsOk result }
     /// ```
     pub fn add_range(&mut self, start: Index, end: Index) -> Result<(), AllocError> {
+        if start >= end {
+            return Ok(());
+        }
         self.bitor_assign(&BitSetRange { start, end })
     }
 
@@ -46,8 +50,12 @@ impl SparseBitSet {
     /// ensures flipped { OnOk result ((i : ℕ)
     ///     → has self.new i ≡ differ (has self.old i) (in_range start end i)) }
     /// ensures err { OnErr result ((i : ℕ) → has self.new i ≡ has self.old i) }
+    /// ensures none { end ≤ start → IsOk result }
     /// ```
     pub fn flip_range(&mut self, start: Index, end: Index) -> Result<(), AllocError> {
+        if start >= end {
+            return Ok(());
+        }
         self.bitxor_assign(&BitSetRange { start, end })
     }
 }
