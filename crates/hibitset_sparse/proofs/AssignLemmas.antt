@@ -3,7 +3,6 @@ use Rattle.std.proofs.Common.{◌≡◌, ℕ, ◌+◌, ◌*◌, ◌/◌, ◌%◌
 use Rattle.std.proofs.Math.Bool.{and-false, or-false}
 use Rattle.std.specs.Int.{bit_at, trailing_zeros}
 use Rattle.std.proofs.lemmas.Bool.{cases_lt, false≢true}
-use Rattle.std.proofs.lemmas.Bool.Decides.{nat_tests}
 use Rattle.std.proofs.lemmas.Nat.Bits.{bit_at-trailing_zeros}
 use Rattle.hibitset_base.specs.Connectives.{is_member}
 use Rattle.hibitset_base.specs.Members.{members_below}
@@ -11,6 +10,7 @@ use Rattle.hibitset_base.specs.Virtual.{differ}
 use Rattle.hibitset_base.specs.Words.{holds_at}
 use Rattle.hibitset_base.specs.declared.util.TheConstants.{MAX_EID}
 use Rattle.hibitset_sparse.specs.Chunk.{chunk_word, has_in, or_zero}
+use Rattle.hibitset_sparse.specs.Decisions.{lt_no, lt_yes}
 use Rattle.hibitset_sparse.specs.Chunks.{word_in}
 use Rattle.hibitset_sparse.specs.PackedArray.{value_in}
 use Rattle.hibitset_sparse.specs.Rank.{bit_is_set}
@@ -122,12 +122,6 @@ kept-alone false n b kept other = other refl
 pub value_ok : {A E : Type 0} (P : A → Type 0) (r : Result A E) (x : A) → r ≡ Ok x → IfOk r P → P x
 value_ok P r x is p = rw is at p
 
-lt-yes : (i n : ℕ) → i < n → nat_lt i n ≡ true
-lt-yes i n low = grind (arith, nat_tests)
-
-lt-no : (i n : ℕ) → n ≤ i → nat_lt i n ≡ false
-lt-no i n past = grind (arith, nat_tests)
-
 one-alone : (a b : Bool) → b ≡ false → differ a b ≡ a
 one-alone true b off = ap not off
 one-alone false b off = off
@@ -136,7 +130,7 @@ one-alone false b off = off
 pub empty-member : (p : ℕ → Bool) (i : ℕ) → members_below MAX_EID p ≡ [] → is_member p i ≡ false
 empty-member p i none = elim (cases_lt i MAX_EID) [
   | inl low ↦ ap (λ b. nat_lt i MAX_EID && b) (none_below MAX_EID p none i low) ∙ and-false (nat_lt i MAX_EID)
-  | inr past ↦ (let no : nat_lt i MAX_EID ≡ false = lt-no i MAX_EID past in rw no refl)
+  | inr past ↦ (let no : nat_lt i MAX_EID ≡ false = lt_no i MAX_EID past in rw no refl)
 ]
 
 pub none-if-empty : (set : SparseBitSet) (i : ℕ) → members_below MAX_EID (has set) ≡ [] → has set i ≡ false
@@ -155,13 +149,13 @@ module _ (a b : Bool) where
 
   module _ (i : ℕ) where
     pub either-within : i < 2 ^ 30 → (a || b) ≡ (a || (nat_lt i MAX_EID && b))
-    either-within low = rw (lt-yes i (2 ^ 30) low) refl
+    either-within low = rw (lt_yes i (2 ^ 30) low) refl
 
     pub one-within : i < 2 ^ 30 → differ a b ≡ differ a (nat_lt i MAX_EID && b)
-    one-within low = rw (lt-yes i (2 ^ 30) low) refl
+    one-within low = rw (lt_yes i (2 ^ 30) low) refl
 
     pub either-past : (n : Bool) → 2 ^ 30 ≤ i → a ≡ false → n ≡ false → n ≡ (a || (nat_lt i MAX_EID && b))
-    either-past n past none gone = rw (none, gone, lt-no i (2 ^ 30) past) refl
+    either-past n past none gone = rw (none, gone, lt_no i (2 ^ 30) past) refl
 
     pub one-past : (n : Bool) → 2 ^ 30 ≤ i → a ≡ false → n ≡ false → n ≡ differ a (nat_lt i MAX_EID && b)
-    one-past n past none gone = rw (none, gone, lt-no i (2 ^ 30) past) refl
+    one-past n past none gone = rw (none, gone, lt_no i (2 ^ 30) past) refl

@@ -4,8 +4,8 @@ use Rattle.std.proofs.Common.{◌≡◌, ℕ, suc, ◌+◌, ◌*◌, ◌/◌, �
 use Rattle.std.specs.Prelude.{if◌then◌else◌, option_and_then}
 use Rattle.std.specs.Int.RustNames.{count_ones}
 use Rattle.std.specs.List.{slice_get}
-use Rattle.std.proofs.lemmas.Bool.Decides.{nat_tests}
 use Rattle.std.proofs.lemmas.Nat.{ones_le_self}
+use Rattle.hibitset_sparse.specs.Decisions.{lt_yes}
 use Rattle.hibitset_sparse.specs.Chunk.{or_zero}
 use Rattle.hibitset_sparse.specs.Layout.{word_or_none, AreLaidOut, value_by_group, value_of_place}
 use Rattle.hibitset_sparse.specs.Parts.{word_from}
@@ -29,9 +29,6 @@ group-ends group n q g laid small is =
 pub none-ends : (n : ℕ) → 0 + count_ones 0 ≤ n
 none-ends n = let few = ones_le_self 0 in omega (arith, few)
 
-lt-yes : (i n : ℕ) → i < n → nat_lt i n ≡ true
-lt-yes i n low = grind (arith, nat_tests)
-
 module _ (group : ℕ → Option Group) (xs ys : List ℕ) (q i : ℕ) (low : i < 4096) (same : ys ≡ xs) where
   of-group : (o : Option Group) → group q ≡ o → value_of_place group xs ((4096 * q + i) / 64) ≡ option_and_then (value_by_group xs (i / 64)) o
   of-group o is =
@@ -48,7 +45,7 @@ module _ (group : ℕ → Option Group) (xs ys : List ℕ) (q i : ℕ) (low : i 
       → bit_is_set (if nat_lt (i / 64) 64 then or_zero (word_from ys g.start g.word (i / 64)) else 0) (i % 64) ≡ bit_is_set
       (or_zero (value_of_place group xs ((4096 * q + i) / 64))) ((4096 * q + i) % 64)
   view-some g is =
-      let yes : nat_lt (i / 64) 64 ≡ true = lt-yes (i / 64) 64 (omega (arith, low)) in
+      let yes : nat_lt (i / 64) 64 ≡ true = lt_yes (i / 64) 64 (omega (arith, low)) in
       rw (yes, last-bit) (ap (λ zs. bit_is_set (or_zero (word_from zs g.start g.word (i / 64))) (i % 64)) same
       ∙ sym (ap (λ o. bit_is_set (or_zero o) (i % 64)) (of-group (Some g) is)))
 
@@ -57,23 +54,23 @@ module _ (group : ℕ → Option Group) (xs ys : List ℕ) (q i : ℕ) (low : i 
       → bit_is_set (if nat_lt (i / 64) 64 then or_zero (word_from ys 0 0 (i / 64)) else 0) (i % 64) ≡ bit_is_set
       (or_zero (value_of_place group xs ((4096 * q + i) / 64))) ((4096 * q + i) % 64)
   view-none is =
-      let yes : nat_lt (i / 64) 64 ≡ true = lt-yes (i / 64) 64 (omega (arith, low)) in
+      let yes : nat_lt (i / 64) 64 ≡ true = lt_yes (i / 64) 64 (omega (arith, low)) in
       rw (yes, last-bit) (ap (λ o. bit_is_set (or_zero o) (i % 64)) (no-word ys 0 (i / 64)) ∙ sym (ap (λ o. bit_is_set (or_zero o) (i % 64)) (of-group None is)))
 
 -- What reading a word by its bit gives.
 module _ (items : List ℕ) (start word i : ℕ) where
   pub read-on : (w : ℕ) → i < 64 → bit_is_set word i ≡ true → slice_get items (start + rank_in word i) ≡ Some w
       → w ≡ (if nat_lt i 64 then or_zero (word_from items start word i) else 0)
-  read-on w small on found = let yes : nat_lt i 64 ≡ true = lt-yes i 64 small in rw yes
+  read-on w small on found = let yes : nat_lt i 64 ≡ true = lt_yes i 64 small in rw yes
       (sym (ap or_zero (value-on (λ k. slice_get items (start + k)) word i on ∙ found)))
 
   pub read-off : i < 64 → bit_is_set word i ≡ false → 0 ≡ (if nat_lt i 64 then or_zero (word_from items start word i) else 0)
-  read-off small off = let yes : nat_lt i 64 ≡ true = lt-yes i 64 small in rw yes (sym (ap or_zero (value-off (λ k. slice_get items (start + k)) word i off)))
+  read-off small off = let yes : nat_lt i 64 ≡ true = lt_yes i 64 small in rw yes (sym (ap or_zero (value-off (λ k. slice_get items (start + k)) word i off)))
 
   pub read-past : i < 64 → length items ≤ start + rank_in word i → 0 ≡ (if nat_lt i 64 then or_zero (word_from items start word i) else 0)
   read-past small past = elim (cases_Bool (bit_is_set word i)) [
     | inl on ↦
-        let yes : nat_lt i 64 ≡ true = lt-yes i 64 small in
+        let yes : nat_lt i 64 ≡ true = lt_yes i 64 small in
         rw yes (sym (ap or_zero (value-on (λ k. slice_get items (start + k)) word i on ∙ slice_get_past items (start + rank_in word i) past)))
     | inr off ↦ read-off small off
   ]

@@ -1,15 +1,12 @@
 -- The words of a chunk in any lawful set.
-use Rattle.std.proofs.Common.{sym, ◌∙◌, ◌≡◌, ℕ, ◌+◌, ◌-◌, ◌*◌, ◌/◌, ◌%◌, ◌^◌, ◌<◌, ◌==◌, Bool, true, false, refl, ap, arith, inl, inr}
+use Rattle.hibitset_base.proofs.MembershipLemmas.{bit_test}
+use Rattle.std.proofs.Common.{sym, ◌∙◌, ◌≡◌, ℕ, ◌+◌, ◌-◌, ◌*◌, ◌/◌, ◌%◌, ◌^◌, ◌<◌, ◌==◌, Bool, ap, arith, inl, inr}
 use Rattle.std.specs.Int.{bit_at}
 use Rattle.std.proofs.lemmas.Bool.{cases_lt}
 use Rattle.std.proofs.lemmas.Nat.Bits.{bit_at-zero}
-use Rattle.hibitset_base.specs.Sets.{IsLawful, bit_of}
+use Rattle.hibitset_base.specs.Sets.{IsLawful}
 use Rattle.hibitset_base.specs.declared.util.TheConstants.{LAYERS}
 use Rattle.hibitset_sparse.specs.Rank.{bit_is_set}
-
-bit-test : (b : Bool) → (bit_of b == 1) ≡ b
-bit-test true = refl
-bit-test false = refl
 
 module _ (holds : ℕ → Bool) (word : ℕ → ℕ → ℕ) (lawful : IsLawful LAYERS holds word) where
   -- under a clear bit lies a word that is 0
@@ -38,7 +35,7 @@ module _ (holds : ℕ → Bool) (word : ℕ → ℕ → ℕ) (lawful : IsLawful 
 
   -- the bits of a word are members
   pub holds-by_word : (p b : ℕ) → p < 16777216 → b < 64 → bit_is_set (word 0 p) b ≡ holds (64 * p + b)
-  holds-by_word p b low small = ap (λ x. x == 1) (lawful.members p b (omega (arith, low)) small) ∙ bit-test (holds (64 * p + b))
+  holds-by_word p b low small = ap (λ x. x == 1) (lawful.members p b (omega (arith, low)) small) ∙ bit_test (holds (64 * p + b))
 
   -- a chunk has no members under a clear bit
   pub holds-clear : (c p b : ℕ) → c < 4096 → p < 4096 → b < 64 → bit_at (word 2 c) (p / 64) ≡ 0 → bit_is_set 0 b ≡ holds (64 * (4096 * c + p) + b)

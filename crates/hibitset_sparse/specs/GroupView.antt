@@ -1,14 +1,14 @@
 -- One group of a chunk as a set of indices below 4,096.
-use Rattle.std.specs.Prelude.{slice_get, ◌≤◌, true, false, Option, ◌≡◌, ◌≢◌, ℕ, zero, suc, ◌+◌, ◌*◌, ◌/◌, ◌%◌, ◌<◌, ◌==◌, Bool, nat_lt, if◌then◌else◌, refl}
+use Rattle.std.specs.Prelude.{slice_get, true, false, Option, ◌≡◌, ◌≢◌, ℕ, zero, suc, ◌+◌, ◌*◌, ◌/◌, ◌%◌, ◌<◌, ◌==◌, Bool, nat_lt, if◌then◌else◌, refl}
 use Rattle.std.specs.Int.{bit_at}
 use Rattle.std.proofs.Common.{arith, inl, inr}
 use Rattle.std.proofs.lemmas.Bool.{cases_lt}
-use Rattle.std.proofs.lemmas.Bool.Decides.{nat_tests}
 use Rattle.std.proofs.lemmas.Nat.Bits.{bit_at-lt}
 use Rattle.hibitset_base.specs.Decisions.{eq_other, same_or_not}
 use Rattle.hibitset_base.specs.Sets.{IsLawful, bit_of}
 use Rattle.hibitset_base.specs.Words.{holds_at}
 use Rattle.hibitset_base.specs.declared.util.TheConstants.{LAYERS}
+use Rattle.hibitset_sparse.specs.Decisions.{lt_no, lt_yes}
 use Rattle.hibitset_sparse.specs.Chunk.{or_zero}
 use Rattle.hibitset_sparse.specs.Rank.{bit_is_set, value_from}
 use Rattle.hibitset_sparse.specs.Parts.{word_from}
@@ -24,16 +24,16 @@ view_word view (suc (suc l)) p = if p == 0 then 1 else 0
 abbrev pub view_has : GroupView → ℕ → Bool
 view_has view = holds_at (view_word view)
 
-test_of : (x : ℕ) → x < 2 → x ≡ bit_of (x == 1)
-test_of zero below = refl
-test_of (suc zero) below = refl
-test_of (suc (suc x)) below = absurd (omega arith)
+bit_tested : (w b : ℕ) → bit_at w b ≡ bit_of (bit_at w b == 1)
+bit_tested w b = by (bit_at w b) (bit_at-lt w b)
+  where
+    by : (x : ℕ) → x < 2 → x ≡ bit_of (x == 1)
+    by zero below = refl
+    by (suc zero) below = refl
+    by (suc (suc x)) below = absurd (omega arith)
 
 none_past : (w p : ℕ) → p ≢ 0 → (if p == 0 then w else 0) ≡ 0
 none_past w p other = rw (eq_other p 0 other) refl
-
-lt_no : (i n : ℕ) → n ≤ i → nat_lt i n ≡ false
-lt_no i n past = grind (arith, nat_tests)
 
 one_bit : bit_at 1 0 ≡ 1
 one_bit = refl
@@ -58,9 +58,6 @@ module _ (view : GroupView) where
         rw (row, bit) (one_from view.word p (λ k. slice_get view.items.now (view.start + k)) here)
     | inr past ↦ absurd (let no : nat_lt p 64 ≡ false = lt_no p 64 past in let none : view_word view 0 p ≡ 0 = rw no refl in omega (arith, some, none))
   ]
-    where
-      lt_yes : (i n : ℕ) → i < n → nat_lt i n ≡ true
-      lt_yes i n low = grind (arith, nat_tests)
 
   over_one : (w p : ℕ) → 0 < (if p == 0 then w else 0) → bit_at (if p / 64 == 0 then 1 else 0) (p % 64) ≡ 1
   over_one w p some = elim (same_or_not p 0) [
@@ -79,6 +76,6 @@ module _ (view : GroupView) where
     members = λ p b within small.
         let q-is : (64 * p + b) / 64 ≡ p = omega arith in
         let b-is : (64 * p + b) % 64 ≡ b = omega arith in
-        rw (q-is, b-is) (test_of (bit_at (view_word view 0 p) b) (bit_at-lt (view_word view 0 p) b));
+        rw (q-is, b-is) (bit_tested (view_word view 0 p) b);
     summaries = λ l p below within some. over l p some;
   }

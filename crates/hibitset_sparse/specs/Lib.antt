@@ -1,3 +1,4 @@
+pub mod Decisions
 pub mod Rank
 pub mod PackedArray
 pub mod Layout

@@ -1,4 +1,5 @@
-use Rattle.std.proofs.Common.{◌≢◌, ℕ, ◌<◌, arith, ◌⊎◌, inl, inr}
+use Rattle.std.proofs.Common.{w64, arith, inl, inr}
+use Rattle.std.specs.Int.{trailing_zeros}
 use Rattle.std.proofs.lemmas.Bool.{cases_lt}
 use Rattle.hibitset_base.proofs.MaskLemmas.{takes_first}
 use Rattle.hibitset_sparse.proofs.rank.take_lowest.Goals as goal
@@ -12,11 +13,8 @@ returns-clause-lowest c = (takes_first c.args.word.now c.requires (omega arith))
 pub returns-clause-gone : goal.returns-clause-gone
 returns-clause-gone c = (takes_first c.args.word.now c.requires (omega arith)).gone
 
-either : (a b : ℕ) → a ≢ b → (a < b) ⊎ (b < a)
-either a b other = elim (cases_lt a b) [ inl less ↦ inl less | inr more ↦ inr (omega arith) ]
-
 pub returns-clause-same : goal.returns-clause-same
-returns-clause-same c = λ b small other. (takes_first c.args.word.now c.requires (omega arith)).same b small (either b _ other)
+returns-clause-same c = λ b small other. (takes_first c.args.word.now c.requires (omega arith)).same b small (elim (cases_lt b (trailing_zeros w64 c.args.word.now)) [ inl less ↦ inl less | inr more ↦ inr (omega (arith, more, other)) ])
 
 pub returns-clause-less : goal.returns-clause-less
 returns-clause-less c = (takes_first c.args.word.now c.requires (omega arith)).less
