@@ -29,7 +29,7 @@ trait Set: Sized {
 }
 
 macro_rules! of_ours {
-    ($type:ty, $name:expr, $is_sparse:expr) => {
+    ($type:ty, $name:expr, $is_sparse:expr, $or:expr, $and:expr, $minus:expr) => {
         impl Set for $type {
             const NAME: &'static str = $name;
             const IS_SPARSE: bool = $is_sparse;
@@ -53,25 +53,25 @@ macro_rules! of_ours {
                 self.into_iter().map(u64::from).sum()
             }
             fn sum_of_both(&self, other: &Self) -> u64 {
-                (self & other).iter().map(u64::from).sum()
+                (self & other).into_iter().map(u64::from).sum()
             }
             fn copy(&self) -> Self {
                 self.clone()
             }
             fn or(&mut self, other: &Self) {
-                *self |= other;
+                $or(self, other)
             }
             fn and(&mut self, other: &Self) {
-                *self &= other;
+                $and(self, other)
             }
             fn minus(&mut self, other: &Self) {
-                *self -= other;
+                $minus(self, other)
             }
         }
     };
 }
-of_ours!(SparseBitSet, "SparseBitSet", true);
-of_ours!(BitSet, "BitSet", false);
+of_ours!(SparseBitSet, "SparseBitSet", true, SparseBitSet::union_with, SparseBitSet::intersect_with, SparseBitSet::difference_with);
+of_ours!(BitSet, "BitSet", false, |set: &mut BitSet, other| *set |= other, |set: &mut BitSet, other| *set &= other, |set: &mut BitSet, other| *set -= other);
 
 impl Set for BTreeSet<u32> {
     const NAME: &'static str = "BTreeSet";
@@ -287,10 +287,10 @@ fn seconds(work: &mut dyn FnMut() -> u64) -> f64 {
     unsafe { thread_seconds() - start }
 }
 
-/// Nanoseconds for each of `count` items of work that changes nothing.
-fn each(repeats: usize, count: usize, mut work: impl FnMut() -> u64) -> f64 {
-    let turns = 200_000 / count.max(1) + 1;
-    median((0..repeats).map(|_| seconds(&mut || (0..turns).fold(0, |sum, _| sum ^ work())) * 1e9 / (turns * count.max(1)) as f64).collect())
+/// Seconds of a turn of work that changes nothing, on sets of so many members. With one repeat it is done once.
+fn turn(repeats: usize, members: usize, mut work: impl FnMut() -> u64) -> f64 {
+    let turns = if repeats == 1 { 1 } else { 200_000 / members + 1 };
+    median((0..repeats).map(|_| seconds(&mut || (0..turns).fold(0, |sum, _| sum ^ work())) / turns as f64).collect())
 }
 
 /// Microseconds of work on a copy, which does not count.
@@ -315,6 +315,7 @@ fn row<S: Set>(members: &Members, repeats: usize) -> (String, u64) {
         set
     };
     let count = members.ids.len();
+    let each = |seconds: f64| seconds * 1e9 / count as f64;
     let before = unsafe { bytes_in_use() };
     let set = made(&members.mixed);
     let bytes = (unsafe { bytes_in_use() } - before) as f64 / count as f64;
@@ -327,17 +328,17 @@ fn row<S: Set>(members: &Members, repeats: usize) -> (String, u64) {
     assert_eq!(both.sum(), set.sum_of_both(&other));
     let cells = [
         bytes,
-        each(repeats, count, || set.count_there(&members.mixed)),
-        each(repeats, count, || set.count_there(&members.asked)),
-        each(repeats, count, || made(&members.mixed).count_there(&[0])),
-        each(repeats, count, || made(&members.ids).count_there(&[0])),
+        each(turn(repeats, count, || set.count_there(&members.mixed))),
+        each(turn(repeats, count, || set.count_there(&members.asked))),
+        each(turn(repeats, count, || made(&members.mixed).count_there(&[0]))),
+        each(turn(repeats, count, || made(&members.ids).count_there(&[0]))),
         on_copies(repeats, &set, |copy| copy.remove_all(&members.mixed)) * 1e3 / count as f64,
-        each(repeats, count, || set.sum()),
-        each(repeats, 1, || set.sum_of_both(&other)) / 1e3,
+        each(turn(repeats, count, || set.sum())),
+        turn(repeats, count, || set.sum_of_both(&other)) * 1e6,
         on_copies(repeats, &set, |copy| copy.or(&other)),
         on_copies(repeats, &set, |copy| copy.and(&other)),
         on_copies(repeats, &set, |copy| copy.minus(&other)),
-        each(repeats, 1, || set.copy().count_there(&[0])) / 1e3,
+        turn(repeats, count, || set.copy().count_there(&[0])) * 1e6,
     ];
     let said: Vec<String> = cells.iter().map(|cell| if *cell < 100.0 { format!("{cell:.1}") } else { format!("{cell:.0}") }).collect();
     (format!("| {} | {} |", S::NAME, said.join(" | ")), check)

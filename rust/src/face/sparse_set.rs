@@ -369,6 +369,61 @@ impl SparseBitSet {
         self.0.bitxor_assign(other)
     }
 
+    /// Adds the members of another sparse set, chunk beside chunk: faster than `|=`, which looks each word up.
+    ///
+    /// ```
+    /// use hibitset::SparseBitSet;
+    ///
+    /// let (a, b) = (SparseBitSet::from([5, 70_000]), SparseBitSet::from([7, 70_000]));
+    /// let mut set = a.clone();
+    /// set.union_with(&b);
+    /// assert_eq!(set.to_vec(), [5, 7, 70_000]);
+    /// set.intersect_with(&b);
+    /// assert_eq!(set.to_vec(), [7, 70_000]);
+    /// set.symmetric_difference_with(&a);
+    /// assert_eq!(set.to_vec(), [5, 7]);
+    /// set.difference_with(&b);
+    /// assert_eq!(set.to_vec(), [5]);
+    /// ```
+    pub fn union_with(&mut self, other: &SparseBitSet) {
+        self.try_union_with(other).unwrap_or_else(|error| out_of_memory(error));
+    }
+
+    /// Adds the members of another sparse set, as [`union_with`](SparseBitSet::union_with) does.
+    ///
+    /// # Errors
+    ///
+    /// [`AllocError`] if an allocation fails. The members are as they were.
+    pub fn try_union_with(&mut self, other: &SparseBitSet) -> Result<(), AllocError> {
+        self.0.union_with(&other.0)
+    }
+
+    /// Adds the members of another sparse set that are not in the set, and takes out those that are, chunk beside
+    /// chunk: faster than `^=`.
+    pub fn symmetric_difference_with(&mut self, other: &SparseBitSet) {
+        self.try_symmetric_difference_with(other).unwrap_or_else(|error| out_of_memory(error));
+    }
+
+    /// Flips the members of another sparse set, as
+    /// [`symmetric_difference_with`](SparseBitSet::symmetric_difference_with) does.
+    ///
+    /// # Errors
+    ///
+    /// [`AllocError`] if an allocation fails. The members are as they were.
+    pub fn try_symmetric_difference_with(&mut self, other: &SparseBitSet) -> Result<(), AllocError> {
+        self.0.symmetric_difference_with(&other.0)
+    }
+
+    /// Takes out the members that are not in another sparse set, chunk beside chunk: faster than `&=`.
+    pub fn intersect_with(&mut self, other: &SparseBitSet) {
+        self.0.intersect_with(&other.0);
+    }
+
+    /// Takes out the members that are in another sparse set, chunk beside chunk: faster than `-=`.
+    pub fn difference_with(&mut self, other: &SparseBitSet) {
+        self.0.difference_with(&other.0);
+    }
+
     /// Removes all members of another set, as `-=` does. It can't fail.
     pub fn subtract_assign<B: BitSetLike>(&mut self, other: &B) {
         self.0.subtract_assign(other);
