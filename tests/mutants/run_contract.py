@@ -23,6 +23,7 @@ from mutants import edits, rounds, tables  # noqa: E402
 
 KINDS = (
     (r"\(only by a limit of the prover", "a limit of the prover"),
+    (r"proofs/\S+: note: ", "READ THE LINE: a note stands before what refused"),
     (r"\(only because a proof file|: (?:note: )?(?:\./)?proofs/", rounds.SHAPE),
     (r"clause-|ensures holds|_gives\b", "a clause"),
     (r"requires holds", "a condition"),

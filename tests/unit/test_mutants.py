@@ -231,6 +231,7 @@ class Refusals(unittest.TestCase):
             (": src/set.rt:8:5: error: it is not proved that the invariant of the loop holds", "an invariant"),
             (" (only because a proof file names what the edit took away)", "THE SHAPE of a proof file: write a twin"),
             (": ./proofs/set/Answers.antt:3:1: error: wrong", "THE SHAPE of a proof file: write a twin"),
+            (": ./proofs/SetLemmas.antt:3:1: note: large", "READ THE LINE: a note stands before what refused"),
             (" (only by a limit of the prover, which gave no verdict)", "a limit of the prover"),
         ):
             self.assertEqual(refusal(line + words), kind)
