@@ -175,7 +175,7 @@ fn differing(set: &mut SparseBitSet, other: &SparseBitSet) -> Result<(), AllocEr
 }
 
 // One chunk is emptied, and one is new.
-// allocates: 4, 384 bytes: hibitset_sparse::SparseBitSet::bitxor_assign
+// allocates: 6, 480 bytes: hibitset_sparse::SparseBitSet::bitxor_assign
 #[test]
 fn bitxor_assign(rt: HostRuntime) -> Result<(), Fail> {
     let other = sparse_of(rt.alloc(), &[5, FAR])?;
@@ -213,7 +213,7 @@ fn subtract(set: &mut SparseBitSet, other: &SparseBitSet) -> usize {
     set.len()
 }
 
-// allocates: 4, 384 bytes, and passes
+// allocates: 6, 480 bytes, and passes
 #[test]
 fn subtract_assign(rt: HostRuntime) -> Result<(), Fail> {
     let other = sparse_of(rt.alloc(), &[5, 300_000, 600_000])?;
@@ -230,7 +230,7 @@ fn remove_between(set: &mut SparseBitSet, start: Index, end: Index) -> usize {
     set.len()
 }
 
-// allocates: 4, 384 bytes, and passes
+// allocates: 6, 480 bytes, and passes
 #[test]
 fn remove_range(rt: HostRuntime) -> Result<(), Fail> {
     let mut set = sparse_of(rt.alloc(), &[5, 70, 300_000, FAR])?;
