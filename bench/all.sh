@@ -22,7 +22,6 @@ mkdir -p "$here/out"
 table run.sh "$original" "$repeats" "$milliseconds"
 table threads.sh "$original"
 table roaring.sh "$repeats" "$milliseconds"
-table sparse.sh "$repeats"
 "$here/../tests/docs.py" --write
 commit=$(git -C "$here/.." rev-parse --short=12 HEAD)
 if grep -n "; commit " "$here/RESULTS.md" | grep -v "; commit $commit;"; then
