@@ -6,7 +6,7 @@
 #   mutants tests [--gate|PATCH]  tests kill the mutants of tests/mutants/tests; --gate: those that the gate tries
 #   allocation                  each allocation of each call fails in turn, in what proofs has built
 #   differential [PROGRAM]      the program gives the stored answers; without PROGRAM it is proved and built first
-#   bindings                    C and C++ programs over the library pass their tests, also where it is installed
+#   bindings                    C, C++ and Python programs over the library pass their tests, also where it is installed
 #   bench                       each row of the benchmark runs once, at the smallest size
 #   rust                        the Cargo crate of rust/: its derivation, its tests, derived tests, scripts, lints, package
 #   guide [--make FOLDER]       the repository that docs/GUIDE.md prints passes; --make makes it alone

@@ -1,5 +1,5 @@
 #!/bin/sh
-# bindings.sh [--proved]: C and C++ programs over the proved library: the tests of bindings/c under sanitizers, and programs over what is installed. What a machine has no compiler for is left out, and said.
+# bindings.sh [--proved]: C, C++ and Python programs over the proved library: the tests of bindings/c under sanitizers, programs over what is installed, and python.sh. What a machine has no compiler for is left out, and said.
 # --proved: `rt ci` has just proved all crates, so the library is built over them.
 set -eu
 top=$(cd "$(dirname "$0")/.." && pwd)
@@ -19,4 +19,5 @@ if has "everything" make ld objcopy cc python3; then
     make -C "$top/bindings/c" all
     if has "the test of C" c++ readelf; then make -C "$top/bindings/c" test; fi
     if has "the test of what is installed" c++ pkg-config readelf; then "$top/tests/installed.sh"; fi
+    "$top/tests/python.sh"
 fi

@@ -9,16 +9,19 @@ Tests     What "What is only tested" names is there: after a crate the modules a
           or a file of C the functions in brackets.
 Quotes    A block of rust whose first line is '// crates/..', the path of a file, has parts of that file, with an empty line
           between two; a block of antt with '-- crates/..' has whole statements of it. A block of text that has lines
-          'fn NAME(..' and below them 'ensures LABEL: ..' or 'ensures LABEL { .. }' has clauses of these functions.
+          'fn NAME(ARGUMENTS) -> RESULT' and below them 'ensures LABEL: ..' or 'ensures LABEL { .. }' has signatures and
+          clauses of these functions; 'fn NAME(..)' leaves the signature out.
 Clauses   A table with a column 'clause' names in each cell what carries the row's promise, as
               `BitSet::add`: `refused`, `stays`; `laws`: `within`
           that is functions (Type::function, Trait::function, function, module::function), types, traits, or records and
           definitions of specs/, of the page's crate or one below it, and their clauses, invariants, facts or fields. A
           function of an impl also has the impl's facts, as `BitIter::next`: `next_gives`. In a table whose first column
           is 'clause' a cell has clauses alone.
-          Each public function of a library crate that has an `ensures` is named in such a cell of its crate's README.
-Counts    A number in prose that a script can count (counts.py says which) is what it counts.
-Modules   Between <!-- modules --> and <!-- /modules --> a crate's README has what the first sentence of each file says.
+          Each public function of a library crate that has an `ensures`, but for those with #[doc(hidden)], is named in such
+          a cell of one of the crate's pages.
+Counts    A number in prose that a script can count or read off a source (counts.py says which) is what it counts.
+Modules   Between <!-- modules --> and <!-- /modules --> a crate's README, or INTERNALS.md if there is one, has what the first
+          sentence of each file says.
 Heads     Each .rt file begins with //!, and each .antt file beside Lib.antt that is of no single function with --.
 Lemmas    A statement stands in one file of specs/ and proofs/, but for those of known_lemmas.txt.
 Mutants   Of each mutant of a table of tests/mutants/contract/ an edit can be made and applied: its heading names a function

@@ -13,7 +13,7 @@ named=" $(listed "$name") "
 needed=$named
 set --
 # Each before those that it may need.
-for low in hibitset_roaring hibitset_store hibitset hibitset_atomic hibitset_base; do
+for low in hibitset_roaring hibitset_store hibitset hibitset_atomic hibitset_sparse hibitset_base; do
     case $needed in *" $low "*) ;; *) continue ;; esac
     needed="$needed$(listed "$low") "
     folder=$PWD/../$low/out/rlib

@@ -1,6 +1,6 @@
 //! Bytes and times of sparse sets beside other sets: a table of each kind of members.
 //!
-//! sparse [REPEATS [WORDS]]: medians of so many repeats, by the thread's own clock; the tables whose names have WORDS.
+//! sparse [REPEATS [WORDS]]: medians of REPEATS repeats, by the thread's own clock; the tables whose names have WORDS.
 use hibitset::{BitSet, BitSetLike, SparseBitSet};
 use std::collections::BTreeSet;
 use std::ffi::c_void;
@@ -229,7 +229,7 @@ impl Numbers {
     }
 }
 
-/// So many runs of so many indices below a bound, ascending, each index once.
+/// `count` runs of `long` consecutive indices below a bound, ascending, each index once.
 fn runs(numbers: &mut Numbers, count: usize, long: u32, bound: u64) -> Vec<u32> {
     let mut found = BTreeSet::new();
     while found.len() < count * long as usize {
@@ -287,7 +287,7 @@ fn seconds(work: &mut dyn FnMut() -> u64) -> f64 {
     unsafe { thread_seconds() - start }
 }
 
-/// Seconds of a turn of work that changes nothing, on sets of so many members. With one repeat it is done once.
+/// Seconds of a turn of work that changes nothing, on sets of `members` members. With one repeat it is done once.
 fn turn(repeats: usize, members: usize, mut work: impl FnMut() -> u64) -> f64 {
     let turns = if repeats == 1 { 1 } else { 200_000 / members + 1 };
     median((0..repeats).map(|_| seconds(&mut || (0..turns).fold(0, |sum, _| sum ^ work())) / turns as f64).collect())

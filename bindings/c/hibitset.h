@@ -1,6 +1,7 @@
 /* SPDX-License-Identifier: Apache-2.0 */
 /*
- * hibitset.h: hierarchical bit sets of uint32_t indices below 2^30, and sets that threads add to, for C99 and C++.
+ * hibitset.h: hierarchical bit sets of uint32_t indices below 2^30, dense and sparse, and sets that threads add to, for C99
+ * and C++.
  *
  *     hibitset_t set = hibitset_new();
  *     if (hibitset_failed(hibitset_add(&set, 70000))) { ... }
@@ -18,9 +19,10 @@
  * - A function that takes a set as `hibitset_t *` has it alone. Any number of functions may take one as
  *   `const hibitset_t *` at once, on any threads, while no function changes it. A set may go from one thread to another,
  *   as any other memory.
- * - The same holds of a hibitset_atomic_t (hibitset_atomic_new, HIBITSET_ATOMIC_INIT) and of a hibitset_seat_t
- *   (hibitset_seat_new, HIBITSET_SEAT_INIT): each is moved and never copied. Every function has it alone, those that
- *   only look too. Seats of one shared set are in calls at once, on any threads, as long as each seat is in one.
+ * - The same holds of a hibitset_sparse_t (hibitset_sparse_new, HIBITSET_SPARSE_INIT), of a hibitset_atomic_t
+ *   (hibitset_atomic_new, HIBITSET_ATOMIC_INIT) and of a hibitset_seat_t (hibitset_seat_new, HIBITSET_SEAT_INIT): each is
+ *   moved and never copied as bytes. Every function has it alone, those that only look too. Seats of one shared set are
+ *   in calls at once, on any threads, as long as each seat is in one.
  * - No pointer is NULL, unless a length of 0 goes with it, and as much memory lies behind each as is said. Sets, buffers
  *   and results do not overlap, except that two operands may be the same set.
  * - malloc, realloc and free are those of one allocator. No function is called where malloc may not be, as in a signal
@@ -266,6 +268,11 @@ size_t hibitset_rank(const hibitset_t *set, uint32_t end);
  * there are no more than `at` members, returns false and leaves `*index`. */
 bool hibitset_select(const hibitset_t *set, size_t at, uint32_t *index);
 
+/* Writes for each of `len` ends the number of members before it, as hibitset_rank returns it, into `ranks`, until
+ * `ranks_len` are written, and returns how many. It counts the members once, and then reads at most 65 words for an end.
+ * If the memory for the counts is refused, 4 bytes for each 4,096 indices up to the last member, it counts for each end. */
+size_t hibitset_rank_many(const hibitset_t *set, const uint32_t *ends, size_t len, uint64_t *ranks, size_t ranks_len);
+
 /* Returns the number of members from `start` on and before `end`. */
 size_t hibitset_len_range(const hibitset_t *set, uint32_t start, uint32_t end);
 
@@ -407,6 +414,174 @@ size_t hibitset_xor_next_many(const hibitset_t *a, const hibitset_t *b, uint32_t
 /* As hibitset_next_many, of the members of `a` that `b` lacks. */
 size_t hibitset_andnot_next_many(const hibitset_t *a, const hibitset_t *b, uint32_t start, uint32_t *buffer, size_t len);
 
+/* ---- Sparse sets ---- */
+
+/* A set of indices below HIBITSET_MAX_EID whose memory goes by its members, wherever they lie: one member takes some 500
+ * bytes, where it may take a hibitset_t 136 MB. Its fields are the library's. */
+typedef struct hibitset_sparse_t {
+    const void *set_;
+    bool made_;
+} hibitset_sparse_t;
+
+/* An empty set, to initialize one with. */
+#define HIBITSET_SPARSE_INIT {&hibitset_abi_0, false}
+
+/* Returns an empty set. It takes no memory until the first member. */
+static inline hibitset_sparse_t hibitset_sparse_new(void) {
+    hibitset_sparse_t set = HIBITSET_SPARSE_INIT;
+    return set;
+}
+
+/* Removes all members and frees the memory. The set is then as hibitset_sparse_new returns one. */
+void hibitset_sparse_free(hibitset_sparse_t *set);
+
+/* Removes all members. A block for the set itself is kept. */
+void hibitset_sparse_clear(hibitset_sparse_t *set);
+
+/* Gives back memory that no member needs, as far as allocations succeed. The members stay. */
+void hibitset_sparse_shrink_to_fit(hibitset_sparse_t *set);
+
+/* Adds an index, less than HIBITSET_MAX_EID. HIBITSET_OK: it is new. HIBITSET_PRESENT: it was a member.
+ * HIBITSET_NO_MEMORY (never if a member has the same index / 64), HIBITSET_OUT_OF_RANGE: the members are unchanged. */
+HIBITSET_MUST_USE hibitset_status hibitset_sparse_add(hibitset_sparse_t *set, uint32_t index);
+
+/* Adds `len` indices in order, up to the first that fails, and leaves in `*added` how many were added: `len` on success.
+ * HIBITSET_NO_MEMORY, HIBITSET_OUT_OF_RANGE: indices[*added] failed so, and none after it was added. */
+HIBITSET_MUST_USE hibitset_status hibitset_sparse_add_many(hibitset_sparse_t *set, const uint32_t *indices, size_t len,
+                                                           size_t *added);
+
+/* Adds the indices from `start` on and below `end`, at most HIBITSET_MAX_EID; none if end <= start.
+ * HIBITSET_NO_MEMORY, HIBITSET_OUT_OF_RANGE: the members are unchanged. */
+HIBITSET_MUST_USE hibitset_status hibitset_sparse_add_range(hibitset_sparse_t *set, uint32_t start, uint32_t end);
+
+/* Removes the members from `start` on and below `end`, at most HIBITSET_MAX_EID, and adds the other indices there; changes
+ * nothing if end <= start. HIBITSET_NO_MEMORY, HIBITSET_OUT_OF_RANGE: the members are unchanged. */
+HIBITSET_MUST_USE hibitset_status hibitset_sparse_flip_range(hibitset_sparse_t *set, uint32_t start, uint32_t end);
+
+/* Removes an index, and returns whether it was a member. */
+bool hibitset_sparse_remove(hibitset_sparse_t *set, uint32_t index);
+
+/* Removes the indices from `start` on and below `end`. */
+void hibitset_sparse_remove_range(hibitset_sparse_t *set, uint32_t start, uint32_t end);
+
+/* Removes the least member, leaves it in `*index`, and returns true. If there is none, returns false and leaves
+ * `*index`. */
+bool hibitset_sparse_pop_first(hibitset_sparse_t *set, uint32_t *index);
+
+/* Removes the greatest member, leaves it in `*index`, and returns true. If there is none, returns false and leaves
+ * `*index`. */
+bool hibitset_sparse_pop_last(hibitset_sparse_t *set, uint32_t *index);
+
+/* Returns whether an index is a member; false for one out of range. */
+bool hibitset_sparse_contains(hibitset_sparse_t *set, uint32_t index);
+
+/* Returns the number of members. */
+size_t hibitset_sparse_len(hibitset_sparse_t *set);
+
+/* Returns whether there is no member. */
+bool hibitset_sparse_is_empty(hibitset_sparse_t *set);
+
+/* Leaves the least member in `*index` and returns true. If there is none, returns false and leaves `*index`. */
+bool hibitset_sparse_first(hibitset_sparse_t *set, uint32_t *index);
+
+/* Leaves the greatest member in `*index` and returns true. If there is none, returns false and leaves `*index`. */
+bool hibitset_sparse_last(hibitset_sparse_t *set, uint32_t *index);
+
+/* Leaves the greatest member before `end` in `*index` and returns true. If there is none, returns false and leaves
+ * `*index`. */
+bool hibitset_sparse_last_before(hibitset_sparse_t *set, uint32_t end, uint32_t *index);
+
+/* Returns the number of members before `end`: the position of `end` in the ascending list of all, if it is a member. */
+size_t hibitset_sparse_rank(hibitset_sparse_t *set, uint32_t end);
+
+/* Leaves the member at position `at` of the ascending list of all in `*index`, the least one at 0, and returns true. If
+ * there are no more than `at` members, returns false and leaves `*index`. */
+bool hibitset_sparse_select(hibitset_sparse_t *set, size_t at, uint32_t *index);
+
+/* Returns the number of members from `start` on and before `end`. */
+size_t hibitset_sparse_len_range(hibitset_sparse_t *set, uint32_t start, uint32_t end);
+
+/* Writes the members from `start` on into `buffer`, as hibitset_next_many does. */
+size_t hibitset_sparse_next_many(hibitset_sparse_t *set, uint32_t start, uint32_t *buffer, size_t len);
+
+/* Writes the members before `end` into `buffer`, as hibitset_prev_many does. */
+size_t hibitset_sparse_prev_many(hibitset_sparse_t *set, uint32_t end, uint32_t *buffer, size_t len);
+
+/* Calls `visit` with each member, ascending, and `param`, until it returns false. Returns whether it never did. `visit`
+ * calls no function with a set that is iterated. */
+static inline bool hibitset_sparse_iterate(hibitset_sparse_t *set, bool (*visit)(uint32_t index, void *param), void *param) {
+    uint32_t buffer[256], start = 0;
+    size_t count, i;
+    do {
+        count = hibitset_sparse_next_many(set, start, buffer, 256);
+        for (i = 0; i < count; i++) {
+            if (!visit(buffer[i], param)) return false;
+        }
+        if (count > 0) start = buffer[count - 1] + 1;
+    } while (count == 256);
+    return true;
+}
+
+/* Makes `set` a copy of `other`. HIBITSET_NO_MEMORY: `set` is unchanged. */
+HIBITSET_MUST_USE static inline hibitset_status hibitset_sparse_assign(hibitset_sparse_t *set, hibitset_sparse_t *other);
+
+/* Adds the members of `other`. HIBITSET_NO_MEMORY (never if it has none): the members are unchanged. */
+HIBITSET_MUST_USE static inline hibitset_status hibitset_sparse_or_assign(hibitset_sparse_t *set,
+                                                                          hibitset_sparse_t *other);
+
+/* Adds the members of `other` that `set` lacks, and removes those that both have. HIBITSET_NO_MEMORY (never if `other`
+ * has none): the members are unchanged. */
+HIBITSET_MUST_USE static inline hibitset_status hibitset_sparse_xor_assign(hibitset_sparse_t *set,
+                                                                           hibitset_sparse_t *other);
+
+/* Removes the members that `other` lacks. */
+static inline void hibitset_sparse_and_assign(hibitset_sparse_t *set, hibitset_sparse_t *other);
+
+/* Removes the members that `other` has. */
+static inline void hibitset_sparse_andnot_assign(hibitset_sparse_t *set, hibitset_sparse_t *other);
+
+/* Returns whether the two have no member in common. */
+static inline bool hibitset_sparse_is_disjoint(hibitset_sparse_t *a, hibitset_sparse_t *b);
+
+/* Returns whether each member of `a` is one of `b`. */
+static inline bool hibitset_sparse_is_subset(hibitset_sparse_t *a, hibitset_sparse_t *b);
+
+/* Returns whether the two have the same members. */
+static inline bool hibitset_sparse_equals(hibitset_sparse_t *a, hibitset_sparse_t *b);
+
+/* ---- A sparse set and a dense one ---- */
+
+/* Makes `set` a sparse set of the members of `other`. HIBITSET_NO_MEMORY: `set` is unchanged. */
+HIBITSET_MUST_USE hibitset_status hibitset_sparse_assign_dense(hibitset_sparse_t *set, const hibitset_t *other);
+
+/* As hibitset_sparse_or_assign, of a dense set. */
+HIBITSET_MUST_USE hibitset_status hibitset_sparse_or_assign_dense(hibitset_sparse_t *set, const hibitset_t *other);
+
+/* As hibitset_sparse_xor_assign, of a dense set. */
+HIBITSET_MUST_USE hibitset_status hibitset_sparse_xor_assign_dense(hibitset_sparse_t *set, const hibitset_t *other);
+
+/* As hibitset_sparse_and_assign, of a dense set. */
+void hibitset_sparse_and_assign_dense(hibitset_sparse_t *set, const hibitset_t *other);
+
+/* As hibitset_sparse_andnot_assign, of a dense set. */
+void hibitset_sparse_andnot_assign_dense(hibitset_sparse_t *set, const hibitset_t *other);
+
+/* Makes `set` a dense set of the members of `other`. Its capacity ends with the word of its last member.
+ * HIBITSET_NO_MEMORY: `set` is unchanged. */
+HIBITSET_MUST_USE hibitset_status hibitset_assign_sparse(hibitset_t *set, hibitset_sparse_t *other);
+
+/* As hibitset_or_assign, of a sparse set. */
+HIBITSET_MUST_USE hibitset_status hibitset_or_assign_sparse(hibitset_t *set, hibitset_sparse_t *other);
+
+/* As hibitset_xor_assign, of a sparse set. */
+HIBITSET_MUST_USE hibitset_status hibitset_xor_assign_sparse(hibitset_t *set, hibitset_sparse_t *other);
+
+/* As hibitset_and_assign, of a sparse set. */
+void hibitset_and_assign_sparse(hibitset_t *set, hibitset_sparse_t *other);
+
+/* As hibitset_andnot_assign, of a sparse set. */
+void hibitset_andnot_assign_sparse(hibitset_t *set, hibitset_sparse_t *other);
+
 /* ---- Atomic sets ---- */
 
 /* A set of indices below HIBITSET_ATOMIC_MAX_EID that can be shared by threads. Its fields are the library's. */
@@ -540,6 +715,8 @@ typedef char hibitset_internal_size[sizeof(hibitset_t) == 88 ? 1 : -1];
 typedef char hibitset_internal_top[offsetof(hibitset_t, top_) == 64 ? 1 : -1];
 typedef char hibitset_internal_set[offsetof(hibitset_t, set_) == 72 ? 1 : -1];
 typedef char hibitset_internal_made[offsetof(hibitset_t, made_) == 80 ? 1 : -1];
+typedef char hibitset_internal_sparse_size[sizeof(hibitset_sparse_t) == 16 ? 1 : -1];
+typedef char hibitset_internal_sparse_made[offsetof(hibitset_sparse_t, made_) == 8 ? 1 : -1];
 typedef char hibitset_internal_atomic_size[sizeof(hibitset_atomic_t) == 16 ? 1 : -1];
 typedef char hibitset_internal_atomic_made[offsetof(hibitset_atomic_t, made_) == 8 ? 1 : -1];
 typedef char hibitset_internal_seat_size[sizeof(hibitset_seat_t) == 16 ? 1 : -1];
@@ -578,6 +755,56 @@ static inline void hibitset_andnot_assign(hibitset_t *set, const hibitset_t *oth
     } else {
         hibitset_internal_andnot_assign(set, other);
     }
+}
+
+/* The same of two sparse sets that are not the same. */
+HIBITSET_MUST_USE hibitset_status hibitset_internal_sparse_assign(hibitset_sparse_t *set, hibitset_sparse_t *other);
+HIBITSET_MUST_USE hibitset_status hibitset_internal_sparse_or_assign(hibitset_sparse_t *set, hibitset_sparse_t *other);
+HIBITSET_MUST_USE hibitset_status hibitset_internal_sparse_xor_assign(hibitset_sparse_t *set, hibitset_sparse_t *other);
+void hibitset_internal_sparse_and_assign(hibitset_sparse_t *set, hibitset_sparse_t *other);
+void hibitset_internal_sparse_andnot_assign(hibitset_sparse_t *set, hibitset_sparse_t *other);
+bool hibitset_internal_sparse_is_disjoint(hibitset_sparse_t *a, hibitset_sparse_t *b);
+bool hibitset_internal_sparse_is_subset(hibitset_sparse_t *a, hibitset_sparse_t *b);
+bool hibitset_internal_sparse_equals(hibitset_sparse_t *a, hibitset_sparse_t *b);
+
+static inline hibitset_status hibitset_sparse_assign(hibitset_sparse_t *set, hibitset_sparse_t *other) {
+    return set == other ? HIBITSET_OK : hibitset_internal_sparse_assign(set, other);
+}
+
+static inline hibitset_status hibitset_sparse_or_assign(hibitset_sparse_t *set, hibitset_sparse_t *other) {
+    return set == other ? HIBITSET_OK : hibitset_internal_sparse_or_assign(set, other);
+}
+
+static inline hibitset_status hibitset_sparse_xor_assign(hibitset_sparse_t *set, hibitset_sparse_t *other) {
+    if (set == other) {
+        hibitset_sparse_clear(set);
+        return HIBITSET_OK;
+    }
+    return hibitset_internal_sparse_xor_assign(set, other);
+}
+
+static inline void hibitset_sparse_and_assign(hibitset_sparse_t *set, hibitset_sparse_t *other) {
+    if (set != other) hibitset_internal_sparse_and_assign(set, other);
+}
+
+static inline void hibitset_sparse_andnot_assign(hibitset_sparse_t *set, hibitset_sparse_t *other) {
+    if (set == other) {
+        hibitset_sparse_clear(set);
+    } else {
+        hibitset_internal_sparse_andnot_assign(set, other);
+    }
+}
+
+static inline bool hibitset_sparse_is_disjoint(hibitset_sparse_t *a, hibitset_sparse_t *b) {
+    return a == b ? hibitset_sparse_is_empty(a) : hibitset_internal_sparse_is_disjoint(a, b);
+}
+
+static inline bool hibitset_sparse_is_subset(hibitset_sparse_t *a, hibitset_sparse_t *b) {
+    return a == b || hibitset_internal_sparse_is_subset(a, b);
+}
+
+static inline bool hibitset_sparse_equals(hibitset_sparse_t *a, hibitset_sparse_t *b) {
+    return a == b || hibitset_internal_sparse_equals(a, b);
 }
 
 #ifdef __cplusplus

@@ -1,7 +1,7 @@
 /* SPDX-License-Identifier: Apache-2.0 */
 /*
- * hibitset.hpp: a set of hibitset.h as a class, for C++11 and later. It frees its memory, and is moved, never copied in
- * silence: clone() copies. The rules at the top of hibitset.h hold.
+ * hibitset.hpp: the dense and the sparse sets of hibitset.h as classes, for C++11 and later. They free their memory, and are
+ * moved, never copied in silence: clone() copies. The rules at the top of hibitset.h hold.
  *
  *     hibitset::set pages{5, 70000};
  *     pages.add_range(10, 20);
@@ -23,6 +23,59 @@
 #include <stdexcept>
 
 namespace hibitset {
+
+namespace internal {
+
+inline std::size_t next_many(const hibitset_t *set, std::uint32_t start, std::uint32_t *buffer, std::size_t len) noexcept {
+    return hibitset_next_many(set, start, buffer, len);
+}
+
+inline std::size_t next_many(hibitset_sparse_t *set, std::uint32_t start, std::uint32_t *buffer, std::size_t len) noexcept {
+    return hibitset_sparse_next_many(set, start, buffer, len);
+}
+
+/* The members of a set, ascending, read in batches. */
+template <class T> class iterator {
+public:
+    using iterator_category = std::input_iterator_tag;
+    using value_type = std::uint32_t;
+    using difference_type = std::ptrdiff_t;
+    using pointer = const std::uint32_t *;
+    using reference = std::uint32_t;
+
+    iterator() noexcept : set_(nullptr), at_(0), count_(0) {}
+    iterator(T *of, std::uint32_t start) noexcept : set_(of) { read(start); }
+
+    std::uint32_t operator*() const noexcept { return members_[at_]; }
+    iterator &operator++() noexcept {
+        const std::uint32_t next = members_[at_] + 1;
+        if (++at_ == count_) read(next);
+        return *this;
+    }
+    void operator++(int) noexcept { ++*this; }
+    friend bool operator==(const iterator &a, const iterator &b) noexcept {
+        return a.count_ == 0 || b.count_ == 0 ? a.count_ == b.count_ : *a == *b;
+    }
+    friend bool operator!=(const iterator &a, const iterator &b) noexcept { return !(a == b); }
+
+private:
+    void read(std::uint32_t start) noexcept {
+        at_ = 0;
+        count_ = next_many(set_, start, members_, sizeof members_ / sizeof *members_);
+    }
+
+    T *set_;
+    std::uint32_t members_[64];
+    std::size_t at_, count_; /* count_ is 0 past the last member */
+};
+
+inline hibitset_status check(hibitset_status status) {
+    if (status == HIBITSET_NO_MEMORY) throw std::bad_alloc();
+    if (status == HIBITSET_OUT_OF_RANGE) throw std::out_of_range(hibitset_status_text(status));
+    return status;
+}
+
+} // namespace internal
 
 class set {
 public:
@@ -99,39 +152,7 @@ public:
     friend bool operator!=(const set &a, const set &b) noexcept { return !(a == b); }
 
     /* The members, ascending. While it is used, no function changes the set. */
-    class iterator {
-    public:
-        using iterator_category = std::input_iterator_tag;
-        using value_type = std::uint32_t;
-        using difference_type = std::ptrdiff_t;
-        using pointer = const std::uint32_t *;
-        using reference = std::uint32_t;
-
-        std::uint32_t operator*() const noexcept { return members_[at_]; }
-        iterator &operator++() noexcept {
-            const std::uint32_t next = members_[at_] + 1;
-            if (++at_ == count_) read(next);
-            return *this;
-        }
-        void operator++(int) noexcept { ++*this; }
-        friend bool operator==(const iterator &a, const iterator &b) noexcept {
-            return a.count_ == 0 || b.count_ == 0 ? a.count_ == b.count_ : *a == *b;
-        }
-        friend bool operator!=(const iterator &a, const iterator &b) noexcept { return !(a == b); }
-
-    private:
-        friend class set;
-        iterator() noexcept : set_(nullptr), at_(0), count_(0) {}
-        iterator(const hibitset_t *of, std::uint32_t start) noexcept : set_(of) { read(start); }
-        void read(std::uint32_t start) noexcept {
-            at_ = 0;
-            count_ = hibitset_next_many(set_, start, members_, sizeof members_ / sizeof *members_);
-        }
-
-        const hibitset_t *set_;
-        std::uint32_t members_[64];
-        std::size_t at_, count_; /* count_ is 0 past the last member */
-    };
+    using iterator = internal::iterator<const hibitset_t>;
 
     iterator begin() const noexcept { return from(0); }
     iterator end() const noexcept { return iterator(); }
@@ -145,13 +166,94 @@ private:
         return made;
     }
 
-    static hibitset_status check(hibitset_status status) {
-        if (status == HIBITSET_NO_MEMORY) throw std::bad_alloc();
-        if (status == HIBITSET_OUT_OF_RANGE) throw std::out_of_range(hibitset_status_text(status));
-        return status;
-    }
+    static hibitset_status check(hibitset_status status) { return internal::check(status); }
 
     hibitset_t set_;
+};
+
+/* A set whose memory goes by its members, wherever they lie, with the calls of a set. None of them is const: each has
+ * the set alone, so threads that only look take a clone each. */
+class sparse_set {
+public:
+    sparse_set() noexcept : set_(hibitset_sparse_new()) {}
+    sparse_set(std::initializer_list<std::uint32_t> indices) : sparse_set() { add(indices.begin(), indices.size()); }
+    explicit sparse_set(const set &of) : sparse_set() { check(hibitset_sparse_assign_dense(&set_, of.raw())); }
+    sparse_set(sparse_set &&other) noexcept : set_(other.set_) { other.set_ = hibitset_sparse_new(); }
+    sparse_set &operator=(sparse_set &&other) noexcept {
+        if (this != &other) {
+            hibitset_sparse_free(&set_);
+            set_ = other.set_;
+            other.set_ = hibitset_sparse_new();
+        }
+        return *this;
+    }
+    sparse_set(const sparse_set &) = delete;
+    sparse_set &operator=(const sparse_set &) = delete;
+    ~sparse_set() { hibitset_sparse_free(&set_); }
+
+    sparse_set clone() {
+        sparse_set copy;
+        check(hibitset_sparse_assign(&copy.set_, &set_));
+        return copy;
+    }
+    /* A dense set of the members. */
+    set dense() {
+        set made;
+        check(hibitset_assign_sparse(made.raw(), &set_));
+        return made;
+    }
+
+    /* What hibitset.h takes: for each function that has no name here. */
+    hibitset_sparse_t *raw() noexcept { return &set_; }
+
+    /* Returns whether the index is new. */
+    bool add(std::uint32_t index) { return check(hibitset_sparse_add(&set_, index)) == HIBITSET_OK; }
+    void add(const std::uint32_t *indices, std::size_t len) {
+        std::size_t added;
+        check(hibitset_sparse_add_many(&set_, indices, len, &added));
+    }
+    void add_range(std::uint32_t start, std::uint32_t end) { check(hibitset_sparse_add_range(&set_, start, end)); }
+    void flip_range(std::uint32_t start, std::uint32_t end) { check(hibitset_sparse_flip_range(&set_, start, end)); }
+    /* Returns whether the index was a member. */
+    bool remove(std::uint32_t index) noexcept { return hibitset_sparse_remove(&set_, index); }
+    void remove_range(std::uint32_t start, std::uint32_t end) noexcept { hibitset_sparse_remove_range(&set_, start, end); }
+    void clear() noexcept { hibitset_sparse_clear(&set_); }
+    void shrink_to_fit() noexcept { hibitset_sparse_shrink_to_fit(&set_); }
+
+    bool contains(std::uint32_t index) noexcept { return hibitset_sparse_contains(&set_, index); }
+    std::size_t size() noexcept { return hibitset_sparse_len(&set_); }
+    bool empty() noexcept { return hibitset_sparse_is_empty(&set_); }
+
+    sparse_set &operator|=(sparse_set &other) { return check(hibitset_sparse_or_assign(&set_, &other.set_)), *this; }
+    sparse_set &operator^=(sparse_set &other) { return check(hibitset_sparse_xor_assign(&set_, &other.set_)), *this; }
+    sparse_set &operator&=(sparse_set &other) noexcept { return hibitset_sparse_and_assign(&set_, &other.set_), *this; }
+    sparse_set &operator-=(sparse_set &other) noexcept { return hibitset_sparse_andnot_assign(&set_, &other.set_), *this; }
+
+    sparse_set &operator|=(const set &other) { return check(hibitset_sparse_or_assign_dense(&set_, other.raw())), *this; }
+    sparse_set &operator^=(const set &other) { return check(hibitset_sparse_xor_assign_dense(&set_, other.raw())), *this; }
+    sparse_set &operator&=(const set &other) noexcept { return hibitset_sparse_and_assign_dense(&set_, other.raw()), *this; }
+    sparse_set &operator-=(const set &other) noexcept { return hibitset_sparse_andnot_assign_dense(&set_, other.raw()), *this; }
+
+    friend set &operator|=(set &a, sparse_set &b) { return check(hibitset_or_assign_sparse(a.raw(), &b.set_)), a; }
+    friend set &operator^=(set &a, sparse_set &b) { return check(hibitset_xor_assign_sparse(a.raw(), &b.set_)), a; }
+    friend set &operator&=(set &a, sparse_set &b) noexcept { return hibitset_and_assign_sparse(a.raw(), &b.set_), a; }
+    friend set &operator-=(set &a, sparse_set &b) noexcept { return hibitset_andnot_assign_sparse(a.raw(), &b.set_), a; }
+
+    friend bool operator==(sparse_set &a, sparse_set &b) noexcept { return hibitset_sparse_equals(&a.set_, &b.set_); }
+    friend bool operator!=(sparse_set &a, sparse_set &b) noexcept { return !(a == b); }
+
+    /* The members, ascending. While it is used, no other function is called with the set. */
+    using iterator = internal::iterator<hibitset_sparse_t>;
+
+    iterator begin() noexcept { return from(0); }
+    iterator end() noexcept { return iterator(); }
+    /* Begins at the least member that is no less than `start`. */
+    iterator from(std::uint32_t start) noexcept { return iterator(&set_, start); }
+
+private:
+    static hibitset_status check(hibitset_status status) { return internal::check(status); }
+
+    hibitset_sparse_t set_;
 };
 
 } // namespace hibitset

@@ -77,6 +77,18 @@ static void check_many(const hibitset_t *set, const unsigned char *model) {
     for (; i < sizeof found; i++) CHECK(found[i] == 0xa5);
 }
 
+static void check_ranks(const hibitset_t *set, size_t members) {
+    uint32_t ends[100];
+    uint64_t ranks[120];
+    size_t len = random_below(101), room = random_below(121), count = len < room ? len : room, i;
+    for (i = 0; i < len; i++) ends[i] = random_below(RANGE);
+    if (len > 0) ends[random_below((uint32_t)len)] = HIBITSET_MAX_EID + random_below(5);
+    memset(ranks, 0xa5, sizeof ranks);
+    CHECK(hibitset_rank_many(set, ends, len, ranks, room) == count);
+    for (i = 0; i < count; i++) CHECK(ranks[i] == hibitset_rank(set, ends[i]) && ranks[i] <= members);
+    for (; i < 120; i++) CHECK(ranks[i] == UINT64_C(0xa5a5a5a5a5a5a5a5));
+}
+
 static void check_members(const hibitset_t *set, const unsigned char *model) {
     static uint32_t list[RANGE];
     uint32_t index = 12345, *next = list, i;
@@ -101,6 +113,7 @@ static void check_members(const hibitset_t *set, const unsigned char *model) {
         CHECK(hibitset_contains(set, index) == (bool)model[index]);
     }
     check_many(set, model);
+    check_ranks(set, members);
 }
 
 static void check_words(const hibitset_t *set, const unsigned char *model) {
@@ -359,6 +372,8 @@ static void look_at_empty(const hibitset_t *set, const hibitset_t *other) {
     CHECK(hibitset_prev_many(set, 9, NULL, 0) == 0);
     CHECK(hibitset_next_many(set, 0, NULL, 0) == 0 && hibitset_not_next_many(set, 0, NULL, 0) == 0);
     CHECK(hibitset_contains_many(set, &index, 1, &found, 1) == 1 && found == 0);
+    CHECK(hibitset_rank_many(set, &index, 1, words, 1) == 1 && words[0] == 0);
+    words[0] = 7;
     hibitset_copy_words(set, 0, words, 1);
     CHECK(words[0] == 0 && words[1] == 7 && hibitset_hash(set) == hibitset_hash(other));
     CHECK(hibitset_first_gap(set, 5, &index) && index == 5);
@@ -664,6 +679,22 @@ static void failing_allocations(void) {
     hibitset_free(&other);
 }
 
+/* Where the memory for counts is refused, ranks are counted one by one. */
+static void ranks_without_memory(void) {
+    hibitset_t set = hibitset_new();
+    uint32_t ends[] = {0, 5, 70001, UINT32_MAX};
+    uint64_t ranks[4];
+    long met;
+    CHECK(hibitset_add(&set, 70000) == HIBITSET_OK && hibitset_add(&set, 2) == HIBITSET_OK);
+    for (met = 0; met < 2; met++) {
+        allocations_left = met;
+        CHECK(hibitset_rank_many(&set, ends, 4, ranks, 4) == 4);
+        CHECK(ranks[0] == 0 && ranks[1] == 1 && ranks[2] == 2 && ranks[3] == 2);
+    }
+    allocations_left = -1;
+    hibitset_free(&set);
+}
+
 static void within_capacity(void) {
     hibitset_t set = hibitset_new(), other = hibitset_new();
     uint32_t index, list[] = {99999, 3};
@@ -726,6 +757,7 @@ int main(void) {
     out_of_range();
     one_set_twice();
     failing_allocations();
+    ranks_without_memory();
     within_capacity();
     many_readers();
     puts("test.c: ok");

@@ -1,4 +1,4 @@
-/* Tests of the class in hibitset.hpp beside std::set. They end with status 0, or say which line failed. */
+/* Tests of the classes in hibitset.hpp beside std::set. They end with status 0, or say which line failed. */
 #include "hibitset.hpp"
 extern "C" {
 #include "testing.h"
@@ -12,11 +12,14 @@ extern "C" {
 #include <vector>
 
 using hibitset::set;
+using hibitset::sparse_set;
 
 static_assert(!std::is_copy_constructible<set>::value && !std::is_copy_assignable<set>::value, "a set is never copied");
 static_assert(std::is_nothrow_move_constructible<set>::value && std::is_nothrow_move_assignable<set>::value, "a set moves");
+static_assert(!std::is_copy_constructible<sparse_set>::value && !std::is_copy_assignable<sparse_set>::value, "nor is a sparse one");
+static_assert(std::is_nothrow_move_constructible<sparse_set>::value && std::is_nothrow_move_assignable<sparse_set>::value, "it moves");
 
-static void check_members(const set &of, const std::set<uint32_t> &model) {
+template <class S> static void check_members(S &&of, const std::set<uint32_t> &model) {
     CHECK(std::equal(model.begin(), model.end(), of.begin()));
     CHECK((size_t)std::distance(of.begin(), of.end()) == model.size());
     CHECK(of.size() == model.size() && of.empty() == model.empty());
@@ -25,8 +28,8 @@ static void check_members(const set &of, const std::set<uint32_t> &model) {
 }
 
 /* Random calls beside std::set. */
-static void random_calls(void) {
-    set ours;
+template <class S> static void random_calls(void) {
+    S ours;
     std::set<uint32_t> model;
     for (int turn = 0; turn < 2000; turn++) {
         const uint32_t index = random_below(20000), end = index + random_below(300);
@@ -73,6 +76,54 @@ static void assignments(void) {
     c ^= same;
     CHECK(c.empty());
     check_members(a, {1, 2, 3, 70000});
+}
+
+static void sparse_assignments(void) {
+    sparse_set a{1, 2, 3, 1000000000}, b{2, 70000, 1000000000}, c = a.clone();
+    c |= b;
+    check_members(c, {1, 2, 3, 70000, 1000000000});
+    c ^= b;
+    check_members(c, {1, 3});
+    c = a.clone();
+    c &= b;
+    check_members(c, {2, 1000000000});
+    c = a.clone();
+    c -= b;
+    check_members(c, {1, 3});
+    CHECK(c != a && a == a);
+    sparse_set &same = c;
+    c ^= same;
+    CHECK(c.empty());
+    a.shrink_to_fit();
+    check_members(a, {1, 2, 3, 1000000000});
+}
+
+/* The assignments of the one kind by the other. */
+static void mixed_assignments(void) {
+    const set dense{2, 70000};
+    sparse_set a{1, 2, 3}, b = a.clone();
+    set c = a.dense();
+    check_members(c, {1, 2, 3});
+    check_members(sparse_set(dense), {2, 70000});
+    a |= dense;
+    check_members(a, {1, 2, 3, 70000});
+    a ^= dense;
+    check_members(a, {1, 3});
+    a.add(70000);
+    a &= dense;
+    check_members(a, {70000});
+    a -= dense;
+    check_members(a, {});
+    c = dense.clone();
+    c |= b;
+    check_members(c, {1, 2, 3, 70000});
+    c ^= b;
+    check_members(c, {70000});
+    c.add(3);
+    c &= b;
+    check_members(c, {3});
+    c -= b;
+    check_members(c, {});
 }
 
 /* The indices of the two that `chosen` is true of: whether the one has it, and whether the other has it. */
@@ -198,20 +249,20 @@ static void hashes(void) {
     CHECK(sets.size() == 2 && sets.count(moved) == 1 && sets.count(b) == 1 && sets.count(set{1}) == 0);
 }
 
-static void moves(void) {
-    set a{1, 2, 3};
-    set b = std::move(a);
+template <class S> static void moves(void) {
+    S a{1, 2, 3};
+    S b = std::move(a);
     CHECK(a.empty() && b.size() == 3);
     a = std::move(b);
     CHECK(b.empty() && a.size() == 3);
-    set &same = a;
+    S &same = a;
     a = std::move(same);
     CHECK(a.size() == 3);
     b.add(9);
     std::swap(a, b);
     CHECK(a.size() == 1 && b.size() == 3);
-    std::vector<set> many;
-    for (uint32_t index = 0; index < 20; index++) many.push_back(set{index});
+    std::vector<S> many;
+    for (uint32_t index = 0; index < 20; index++) many.push_back(S{index});
     for (uint32_t index = 0; index < 20; index++) CHECK(many[index].contains(index) && many[index].size() == 1);
 }
 
@@ -225,10 +276,10 @@ template <class E, class F> static bool throws(F work) {
 }
 
 /* Each allocation fails in turn, and the members stay. */
-template <class F> static void failing(const set &before, F work) {
+template <class S, class F> static void failing(S &&before, F work) {
     long failed = 0;
     for (;; failed++) {
-        set a = before.clone();
+        auto a = before.clone();
         allocations_left = failed;
         const bool thrown = throws<std::bad_alloc>([&] { work(a); });
         allocations_left = -1;
@@ -260,18 +311,48 @@ static void exceptions(void) {
     failing(a, [&](set &x) { x = x ^ far; });
     failing(a, [&](set &x) { x = far - x; });
     check_members(far, {1 << 20});
-    failing({}, [](set &) { set{1, 2}; });
+    failing(set{}, [](set &) { set{1, 2}; });
+}
+
+static void sparse_exceptions(void) {
+    sparse_set a{5}, far{1 << 29}, middle{1 << 20};
+    const set dense{1 << 20};
+    CHECK(throws<std::out_of_range>([&] { a.add(HIBITSET_MAX_EID); }));
+    CHECK(throws<std::out_of_range>([&] { a.add_range(0, HIBITSET_MAX_EID + 1); }));
+    CHECK(throws<std::out_of_range>([&] { a.flip_range(0, HIBITSET_MAX_EID + 1); }));
+    CHECK(throws<std::out_of_range>([] { sparse_set{1, HIBITSET_MAX_EID, 2}; }));
+    const uint32_t list[] = {6, HIBITSET_MAX_EID, 7};
+    CHECK(throws<std::out_of_range>([&] { a.add(list, 3); }));
+    check_members(a, {5, 6});
+    failing(a, [](sparse_set &x) { x.add(1 << 29); });
+    failing(a, [](sparse_set &x) { x.add_range(5, 1 << 20); });
+    failing(a, [](sparse_set &x) { x.flip_range(1 << 19, 1 << 20); });
+    failing(a, [&](sparse_set &x) { x |= far; });
+    failing(a, [&](sparse_set &x) { x ^= far; });
+    failing(a, [&](sparse_set &x) { x |= dense; });
+    failing(a, [&](sparse_set &x) { x ^= dense; });
+    failing(a, [&](sparse_set &x) { x = far.clone(); });
+    failing(a, [&](sparse_set &x) { x = sparse_set(dense); });
+    failing(a, [&](sparse_set &) { middle.dense(); });
+    failing(set{5}, [&](set &x) { x |= middle; });
+    failing(set{5}, [&](set &x) { x ^= middle; });
+    failing(sparse_set{}, [](sparse_set &) { sparse_set{1, 2}; });
 }
 
 int main() {
-    random_calls();
+    random_calls<set>();
+    random_calls<sparse_set>();
     assignments();
+    sparse_assignments();
+    mixed_assignments();
     sets_of_two();
     contains_many();
     copy_words();
     hashes();
-    moves();
+    moves<set>();
+    moves<sparse_set>();
     exceptions();
+    sparse_exceptions();
     const set one{7};
     uint32_t index;
     CHECK(hibitset_last(one.raw(), &index) && index == 7);

@@ -1,8 +1,11 @@
 #!/usr/bin/env python3
-"""draw.py [FOLDER]: draws layers.svg and ratios.svg into its own folder or this one; ratios.svg is read off bench/RESULTS.md.
+"""draw.py [FOLDER]: draws the pictures of the pages into its own folder or this one.
 
 layers.svg: the words of a set of four members, and the order in which a walk reads them.
-ratios.svg: the time of each row of the results, as part of the original's, a dot each.
+sparse.svg: one index in a dense set and in a sparse one, word by word.
+ratios.svg: the time of each row of bench/RESULTS.md, as part of the original's, a dot each.
+density.svg, threads.svg (plots.py): time over the share of members; when threads pay.
+crates.svg, seats.svg (diagrams.py): who stands on whom, by crates.txt; the seats of a shared set over time.
 """
 import pathlib
 import sys
@@ -10,39 +13,16 @@ import sys
 HERE = pathlib.Path(__file__).resolve().parent
 sys.path.insert(0, str(HERE.parent.parent / "bench"))
 
+from diagrams import draw_crates, draw_seats
+from drawing import BLUE, FAINT, GREEN, RED, Drawing
+from plots import draw_density, draw_threads
 from results import RESULTS, ratio_of, rows_of  # noqa: E402 (its folder is named above)
 
 BITS = 64
 LAYERS = 5
 MEMBERS = [3, 70, 5000, 300000]
-
-INK, FAINT, GREEN, BLUE, RED = "#222", "#bbb", "#2a7f4f", "#2b5fa8", "#b03a2e"
-
-
-class Drawing:
-    def __init__(self, width, height, title):
-        self.size = (width, height)
-        self.parts = [f"<title>{title}</title>", f'<rect width="{width}" height="{height}" fill="white"/>']
-
-    def rect(self, x, y, width, height, fill, stroke="none"):
-        self.parts.append(f'<rect x="{x:g}" y="{y:g}" width="{width:g}" height="{height:g}" fill="{fill}" stroke="{stroke}"/>')
-
-    def line(self, x, y, to_x, to_y, stroke, dashes=""):
-        dashed = f' stroke-dasharray="{dashes}"' if dashes else ""
-        self.parts.append(f'<line x1="{x:g}" y1="{y:g}" x2="{to_x:g}" y2="{to_y:g}" stroke="{stroke}"{dashed}/>')
-
-    def dot(self, x, y, radius, fill, opacity=1):
-        self.parts.append(f'<circle cx="{x:g}" cy="{y:g}" r="{radius:g}" fill="{fill}" fill-opacity="{opacity:g}"/>')
-
-    def text(self, x, y, words, size=12, anchor="start", fill=INK, bold=False):
-        weight = ' font-weight="bold"' if bold else ""
-        words = words.replace("&", "&amp;").replace("<", "&lt;")
-        self.parts.append(f'<text x="{x:g}" y="{y:g}" font-size="{size}" text-anchor="{anchor}" fill="{fill}"{weight}>{words}</text>')
-
-    def write(self, path):
-        width, height = self.size
-        head = f'<svg xmlns="http://www.w3.org/2000/svg" width="{width}" height="{height}" viewBox="0 0 {width} {height}" font-family="sans-serif">'
-        path.write_text("\n".join([head, *self.parts, "</svg>"]) + "\n")
+FAR_MEMBER = 1_000_000_000
+WORD_BYTES, GROUP_BYTES, CHUNK_BYTES, LEAST_CAPACITY = 8, 16, 56, 4
 
 
 def words_of(members):
@@ -106,6 +86,38 @@ def draw_layers(folder):
     drawing.write(folder / "layers.svg")
 
 
+def draw_sparse(folder):
+    width, tick, word_height, row_height, top = 940, 3, 22, 62, 112
+    word_width, dense_left, dense_width = BITS * tick, 90, 400
+    sparse_left = dense_left + dense_width + 60
+    layers = [next(iter(words.items())) for words in words_of([FAR_MEMBER])]
+    chunk = layers[2][0]
+    rooms = ["the set's root", f"the word of its group {layers[3][0]}", f"the root of its chunk {chunk:,}", f"the word of the chunk's group {layers[1][0] % BITS}", f"the word {layers[0][0] % BITS**2:,} of the chunk"]
+    bytes_of_sparse = LEAST_CAPACITY * (2 * GROUP_BYTES + CHUNK_BYTES + WORD_BYTES)
+    words_of_dense = sum(position + 1 for position, _ in layers)
+    under = top + (LAYERS - 1) * row_height + word_height
+    drawing = Drawing(width, under + 50, "One index in a dense and in a sparse set")
+    drawing.text(16, 24, f"The index {FAR_MEMBER:,} in both sets", 14, bold=True)
+    drawing.text(16, 42, "Five words are not 0, the same in both. A BitSet also keeps each word before them, grey here; a SparseBitSet keeps no other word.", 12)
+    drawing.text(dense_left, 76, f"BitSet: {words_of_dense * WORD_BYTES / 1e6:.0f} MB", 13, bold=True)
+    drawing.text(sparse_left, 76, f"SparseBitSet: {bytes_of_sparse} bytes", 13, bold=True)
+    for layer, (position, bits) in enumerate(layers):
+        y = top + (LAYERS - 1 - layer) * row_height
+        drawing.text(16, y + 15, f"layer {layer}", 13, bold=True)
+        before = dense_width - 14 if position else 0
+        drawing.rect(dense_left, y, before, word_height, "#ddd")
+        drawing.rect(dense_left + before, y, 14, word_height, GREEN)
+        drawing.text(dense_left, y - 4, f"{position + 1:,} words" if position else "1 word", 11, fill="#555")
+        drawing.rect(sparse_left, y, word_width, word_height, "#f4f4f4", "#888")
+        drawing.rect(sparse_left + bits[0] * tick, y, tick, word_height, GREEN)
+        drawing.text(sparse_left, y - 4, rooms[LAYERS - 1 - layer], 11, fill="#555")
+        drawing.text(sparse_left + word_width + 12, y + 15, f"bit {bits[0]}", 11, fill=GREEN)
+        if layer > 0:
+            drawing.line(sparse_left + (bits[0] + 0.5) * tick, y + word_height, sparse_left + word_width / 2, y + row_height - 16, FAINT)
+    drawing.text(16, under + 32, f"Room for {LEAST_CAPACITY} groups, chunks and words is taken at once, and doubles where it is full.", 12)
+    drawing.write(folder / "sparse.svg")
+
+
 def ratios_by_part():
     """The parts of the table of sets, each with the ratios of its rows; those of columns of values are left out."""
     parts, sets = {}, RESULTS.read_text(encoding="utf-8").split("\nValues by index")[0] + "\n<!-- end of results -->\n"
@@ -143,5 +155,5 @@ def draw_ratios(folder):
 
 if __name__ == "__main__":
     into = pathlib.Path(sys.argv[1]) if sys.argv[1:] else HERE
-    draw_layers(into)
-    draw_ratios(into)
+    for draw in (draw_layers, draw_sparse, draw_ratios, draw_density, draw_threads, draw_crates, draw_seats):
+        draw(into)

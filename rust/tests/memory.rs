@@ -184,16 +184,15 @@ fn ignores_refusals(start: &SparseBitSet, call: impl Fn(&mut SparseBitSet)) -> u
 }
 
 #[test]
-fn removals_from_a_sparse_set_can_not_fail() {
+fn removals_from_a_sparse_set_allocate_nothing() {
     let other: SparseBitSet = (0..600).map(|i| i * 1_777).collect();
     let dense = other.to_bit_set();
     for set in sparse_sets() {
-        let none = set.is_empty();
-        assert!(none || ignores_refusals(&set, |set| *set &= &other) > 0);
-        assert!(none || ignores_refusals(&set, |set| *set &= &!&dense) > 0);
-        assert!(none || ignores_refusals(&set, |set| *set -= &(&other | &dense)) > 0);
-        assert!(none || ignores_refusals(&set, |set| set.subtract_assign(&dense)) > 0);
-        assert!(none || ignores_refusals(&set, |set| set.remove_range(40..200_000)) > 0);
+        assert_eq!(ignores_refusals(&set, |set| *set &= &other), 0);
+        assert_eq!(ignores_refusals(&set, |set| *set &= &!&dense), 0);
+        assert_eq!(ignores_refusals(&set, |set| *set -= &(&other | &dense)), 0);
+        assert_eq!(ignores_refusals(&set, |set| set.subtract_assign(&dense)), 0);
+        assert_eq!(ignores_refusals(&set, |set| set.remove_range(40..200_000)), 0);
         assert_eq!(ignores_refusals(&set, |set| set.retain(|i| i % 2 == 0)), 0);
         assert_eq!(ignores_refusals(&set, |set| _ = set.drain().count()), 0);
         assert_eq!(ignores_refusals(&set, |set| _ = set.remove(70)), 0);

@@ -3,7 +3,7 @@
 mod common;
 
 use common::{assert_members, Numbers};
-use hibitset::{BitSet, Index, RoaringError, RoaringFault, MAX_EID};
+use hibitset::{BitSet, Index, RoaringError, RoaringFault, SparseBitSet, MAX_EID};
 
 /// {1, 2, 65539}, as CRoaring writes it.
 const ARRAYS: [u8; 30] = [
@@ -118,4 +118,33 @@ fn an_error_is_printed() {
     assert_eq!(error.to_string(), "the bytes end too soon at byte 28");
     let error: Box<dyn std::error::Error> = Box::new(RoaringError::Memory);
     assert_eq!(error.to_string(), "an allocation failed");
+}
+
+#[test]
+fn sparse_sets_have_the_same_streams() {
+    let mut numbers = Numbers::new(7);
+    for members in [0, 1, 100, 5_000, 40_000] {
+        let dense: BitSet = (0..members)
+            .map(|_| numbers.below(300_000))
+            .collect();
+        let sparse = SparseBitSet::from_set(&dense);
+        let bytes = dense.to_roaring();
+        assert_eq!(sparse.to_roaring(), bytes);
+        assert_eq!(sparse.roaring_len(), bytes.len());
+        assert_eq!(SparseBitSet::from_roaring(&bytes), Ok(sparse));
+    }
+    let runs = SparseBitSet::from_roaring(&ONE_RUN);
+    assert_eq!(runs, Ok((0..100).collect()));
+}
+
+#[test]
+fn a_sparse_set_is_read_with_a_bound() {
+    let last = SparseBitSet::from([MAX_EID as Index - 1]);
+    let bytes = last.to_roaring();
+    assert_eq!(bytes.len(), 18);
+    let refused = SparseBitSet::from_roaring_below(&bytes, 16_383).unwrap_err();
+    assert_eq!(refused.to_string(), "a key is out of range at byte 8");
+    assert_eq!(SparseBitSet::from_roaring_below(&bytes, u32::MAX), Ok(last));
+    let cut = SparseBitSet::from_roaring(&bytes[..17]).unwrap_err();
+    assert_eq!(cut.to_string(), "the bytes end too soon at byte 16");
 }

@@ -17,7 +17,7 @@ class Names(dict):
 
     def __init__(self, crates, where):
         super().__init__()
-        self.where, self.clauses = where, {}
+        self.where, self.clauses, self.signatures = where, {}, {}
         for each in crates:
             self.add_functions(each)
             self.add_words(each)
@@ -32,6 +32,7 @@ class Names(dict):
             for name in function.names():
                 self.add(name, function.labels | facts)
                 self.clauses.setdefault(name, set()).update(function.clauses)
+                self.signatures.setdefault(name, set()).add(function.signature)
 
     def add_words(self, crate):
         for name, words in crate.words.items():
@@ -124,19 +125,20 @@ def lacking(names, which, labels):
 
 
 def unnamed_functions(repository):
-    """The public functions of the library crates with an `ensures` that no row of the crate's README names."""
+    """The public functions of the library crates with an `ensures` that no row of the crate's pages of promises names."""
     for name in LIBRARY:
-        page = repository.crates / name / "README.md"
-        if page.is_file():
-            yield from ((page, 1, words) for words in unnamed_in(repository.crate(name), page))
+        pages = repository.promises_of(name)
+        if pages:
+            yield from ((pages[0], 1, words) for words in unnamed_in(repository.crate(name), pages))
 
 
-def unnamed_in(crate, page):
-    said = {who for *_, cell in clause_cells(page) for which, _ in carriers(cell) or [] for who in which}
+def unnamed_in(crate, pages):
+    cells = (cell for page in pages for *_, cell in clause_cells(page))
+    said = {who for cell in cells for which, _ in carriers(cell) or [] for who in which}
     seen = set()
     for function in crate.functions:
         shown = function.name_shown()
-        if not function.ensures or not crate.is_public(function) or shown in seen:
+        if not function.ensures or not crate.is_public(function) or crate.is_hidden(function) or shown in seen:
             continue
         seen.add(shown)
         if not said & set(function.names()) and f"{crate.name} {shown}" not in UNNAMED:

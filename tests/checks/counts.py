@@ -38,11 +38,32 @@ def laws(repository):
     return sum(each.name.endswith("laws") and crate.is_public(each) for crate in crates for each in crate.functions)
 
 
+def constant(file, found):
+    """What reads a number of a source of hibitset_base, by what stands before it."""
+
+    def read(repository):
+        text = text_of(repository.crates / "hibitset_base" / "src" / file)
+        return int(re.search(rf"{found}([\d_]+)", text, re.S)[1].replace("_", ""))
+
+    return read
+
+
+def worth(cost):
+    """What reads from how much work on a call takes threads."""
+    return constant("parallel/cost.rt", rf"const {cost}: CostModel = CostModel {{[^}}]*worth: ")
+
+
 # What pages say, with the number as its group, and what counts it.
 PHRASES = (
+    (r"\| `for_each`, `fold` \| (\S+) members", "members of MIN_LEN", constant("parallel/par_iter.rt", "const MIN_LEN: usize = ")),
+    (r"\| `count`, `collect` \| (\S+) members", "members of READ_COST", worth("READ_COST")),
+    (r"\| `count`, if words are cheap \| (\S+) words", "words of COUNT_COST", worth("COUNT_COST")),
+    (r"\| `collect`, if words are cheap \| (\S+) units", "units of COLLECT_COST", worth("COLLECT_COST")),
+    (r"1 for each of its first (\S+) members", "members of COUNTED_MEMBERS", constant("parallel/cost.rt", "const COUNTED_MEMBERS: usize = ")),
+    (r"0 for a word with more than (\S+)", "bits of MAX_BITS_BY_EIGHTS", constant("bulk/word_indices.rt", r"const MAX_BITS_BY_EIGHTS: usize = ")),
     (r"crates/uses/README\.md\)\*{0,2}(?: has|:) (\S+) (?:whole )?modules", "modules of uses", modules_of_uses),
     (r"(?<!\S)(\S+) exports for C\b", "exports of hibitset_c", exports),
-    (r"(?<!\S)(\S+) calls that do nothing, whose contracts are such facts", "calls that state laws", laws),
+    (r"(?<!\S)(\S+) calls that do nothing, whose contracts are facts of all sets", "calls that state laws", laws),
     (r"(?<!\S)(\S+) scripts(?= with the answers|, six)", "stored scripts", stored_scripts),
 )
 

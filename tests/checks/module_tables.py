@@ -1,4 +1,4 @@
-"""The tables of modules in the READMEs of crates, which are made of the first sentences of the sources."""
+"""The tables of modules of crates, in INTERNALS.md or else in README.md, made of the first sentences of the sources."""
 import re
 
 from .repository import LIBRARY
@@ -29,7 +29,7 @@ def table_of_modules(crate):
 
 def wrong_modules(repository, page):
     """The rows that a crate's table of modules lacks or has too many."""
-    if page not in repository.readmes:
+    if page.parent.parent != repository.crates or page != repository.modules_page(page.parent.name):
         return
     text = text_of(page)
     found = MODULES.search(text)
@@ -53,7 +53,8 @@ def differences(has, wants):
 
 
 def write_modules(repository):
-    for page in repository.readmes:
+    for readme in repository.readmes:
+        page = repository.modules_page(readme.parent.name)
         text, table = text_of(page), table_of_modules(repository.crate(page.parent.name))
         new = MODULES.sub(lambda _: f"<!-- modules -->\n{table}<!-- /modules -->", text)
         if new != text:

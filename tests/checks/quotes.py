@@ -38,8 +38,14 @@ def misquoted(repository, page):
                 yield line, f"quotes what does not stand so in {path}: {part.splitlines()[0].strip()}"
 
 
+def has_signature(names, function, line):
+    """Whether a line has the signature of a function; one with (..) leaves it out."""
+    said = line[line.index(function) + len(function) :].strip()
+    return said.startswith("(..)") or function.split("::")[-1] + said in names.signatures.get(function, set())
+
+
 def misquoted_clauses(repository, page):
-    """The clauses that a block of text says a function has, and that it does not have so."""
+    """The signatures and clauses that a block of text says a function has, and that it does not have so."""
     text, names = text_of(page), names_for(repository, page)
     for block in re.finditer(r"^```text\n(.*?)^```", text, re.M | re.S):
         function = ""
@@ -48,6 +54,8 @@ def misquoted_clauses(repository, page):
                 function = head[1]
                 if function not in names:
                     yield number, f"no function {function} in {names.where}"
+                elif not has_signature(names, function, line):
+                    yield number, f"{function} has no such signature: {line.strip()}"
             elif function in names and re.match(r" +(?:ensures|requires)\b", line):
                 said = re.sub(r"^(\S+(?: \w+)?) \{ (.*) \}$", r"\1: \2", line.strip())
                 if said not in names.clauses.get(function, set()):

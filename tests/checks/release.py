@@ -2,10 +2,11 @@
 
 Versions   The version in VERSION is that of the header, of rust/Cargo.toml if it is there, of README, and of a heading of
            CHANGELOG.md.
-License    rust/LICENSE is LICENSE.
+License    rust/LICENSE and bindings/python/LICENSE are LICENSE.
 Header     bindings/c/check.py finds no fault.
 Toolchains README names each toolchain of .ci/kit, and its logic.
-Packages   The Dockerfile installs what .ci/packages lists. That has a package for each command that tests/bindings.sh or tests/rust.sh asks for.
+Packages   The Dockerfile installs what .ci/packages lists. That has a package for each command that tests/bindings.sh or tests/rust.sh
+           asks for, and for each module that tests/python.sh does.
 Speed      README's tables between <!-- speed -->, <!-- crate --> and <!-- slower --> and their ends are those that bench/RESULTS.md gives.
            Each row that is slower than the original is in one of them.
 Pictures   Those of docs/pictures are what draw.py draws. docs.py --write makes tables and pictures anew.
@@ -42,9 +43,10 @@ def wrong_versions(text=text_of):
 
 
 def wrong_license(text=text_of):
-    """The license of the Cargo package, which is a copy: a package has no file from outside of its folder."""
-    if text("rust/LICENSE") != text("LICENSE"):
-        yield "rust/LICENSE", "is not LICENSE"
+    """The licenses of the packages for Rust and Python, which are copies: a package has no file from outside of its folder."""
+    for copy in ("rust/LICENSE", "bindings/python/LICENSE"):
+        if text(copy) != text("LICENSE"):
+            yield copy, "is not LICENSE"
 
 
 def wrong_header():
@@ -80,12 +82,29 @@ PACKAGES = {
     "python3": "python3",
 }
 
+# The package of Debian that has a module of Python, or a file that tests/python.sh looks for.
+MODULES = {
+    "sysconfig": "python3",
+    "setuptools": "python3-setuptools",
+    "wheel": "python3-wheel",
+    "pip": "python3-pip",
+    "build": "python3-build",
+    "mypy": "python3-mypy",
+    "numpy": "python3-numpy",
+    "pytest": "python3-pytest",
+    "hypothesis": "python3-hypothesis",
+    "dask": "python3-dask",
+    "distributed": "python3-distributed",
+    "Python.h": "python3-dev",
+    "roaring/roaring.h": "libroaring-dev",
+}
+
 # What the Dockerfile installs beside .ci/packages: a machine may have it from elsewhere.
 RUST = {"cargo": "cargo", "rustc": "rustc"}
 
 
 def wrong_packages(text=text_of):
-    """What the Dockerfile does not install, and the commands of tests/bindings.sh that no package is listed for."""
+    """What the Dockerfile does not install, and the commands and modules of tests that no package is listed for."""
     listed, docker = text(".ci/packages").split(), text("Dockerfile")
     if listed != sorted(set(listed)):
         yield ".ci/packages", "is not one name a line, in order, each once"
@@ -103,6 +122,18 @@ def wrong_packages(text=text_of):
                 yield "Dockerfile", f"does not install {package}"
             elif command in PACKAGES and package not in listed:
                 yield ".ci/packages", f"lacks {package}, which has {command}"
+    yield from wrong_modules(text("tests/python.sh"), listed)
+
+
+def wrong_modules(script, listed):
+    """The modules and files that the script looks for, and that no package is listed for."""
+    modules = " ".join(re.findall(r'has "[^"]*" ([\w ]*\w)', script)).split()
+    files = re.findall(r'no (Python\.h|roaring/roaring\.h):', script)
+    for name in dict.fromkeys(modules + files):
+        if name not in MODULES:
+            yield "tests/checks/release.py", f"MODULES has no package for {name}"
+        elif MODULES[name] not in listed:
+            yield ".ci/packages", f"lacks {MODULES[name]}, which has {name}"
 
 
 # Tables of speed.

@@ -7,6 +7,8 @@ from .pages import files_of_crate
 from .sources import Crate, is_test, text_of
 
 LIBRARY = "hibitset_base hibitset_sparse hibitset_atomic hibitset hibitset_store hibitset_roaring hibitset_c".split()
+# The pages of a crate whose tables say what it promises.
+PROMISES = ("README.md", "INTERNALS.md", "SHARED.md", "INTERLEAVINGS.md", "CALLING.md")
 PAGES = ("*.md", "docs/*.md", "bench/*.md", "tests/**/*.md", "crates/*/*.md", "bindings/*/*.md", "rust/*.md")
 
 
@@ -27,6 +29,16 @@ class Repository:
     def readmes(self):
         """The README of each crate that has one."""
         return [page for page in self.pages if page.parent.parent == self.crates and page.name == "README.md"]
+
+    def promises_of(self, name):
+        """The pages of a crate that say what it promises, its README first."""
+        pages = (self.crates / name / page for page in PROMISES)
+        return [page for page in pages if page.is_file()]
+
+    def modules_page(self, name):
+        """The page of a crate that has its table of modules: INTERNALS.md if it has one."""
+        pages = self.promises_of(name)
+        return next((page for page in pages if page.name == "INTERNALS.md"), next(iter(pages), None))
 
     def shown(self, path):
         return str(path.relative_to(self.top))

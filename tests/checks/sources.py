@@ -73,6 +73,23 @@ def clauses_of(head):
     return found
 
 
+def signature_of(head):
+    """The signature of a function's head in one line, from its name to its result."""
+    line = " ".join(head.split())
+    signature = re.split(r" (?:where|requires|ensures)\b| ?\{|;$", line[line.index("fn ") + 3 :])[0]
+    return re.sub(r",? \)", ")", signature.replace("( ", "(")).strip()
+
+
+def is_hidden_at(lines, at):
+    """Whether the item that begins at a line is left out of the documentation."""
+    above = at - 1
+    while above >= 0 and lines[above].strip().startswith(("#[", "//")):
+        if lines[above].strip() == "#[doc(hidden)]":
+            return True
+        above -= 1
+    return False
+
+
 def is_test(function, text):
     """Whether a source has this test function."""
     return re.search(rf"#\[test\]\s+(?:#\[.*\]\s+)*(?:pub )?fn {function}\b", text)
@@ -86,11 +103,11 @@ class Function:
         call = FUNCTION.match(lines[at])
         head = head_of(lines, at)
         self.path, self.at, self.block = path, at, block  # its line, and that of its impl or trait, from 0
-        self.end = block_end(lines, head_end(lines, at))
+        self.end, self.hidden = block_end(lines, head_end(lines, at)), is_hidden_at(lines, at)
         self.module, self.owner, self.trait, self.name = module, owner, trait, call[2]
         self.is_pub, self.clauses = bool(call[1]) or bool(trait), clauses_of(head)
         self.labels = {said.split(":")[0].split()[-1] for said in self.clauses} - {"ensures", "requires"}
-        self.ensures = "ensures" in head
+        self.ensures, self.signature = "ensures" in head, signature_of(head)
 
     def names(self):
         """All names by which a page may call it."""
@@ -115,6 +132,7 @@ class Crate:
         self.facts = {}  # of an impl, by its type and its trait
         self.open, self.exported = {(): True}, set()
         self.own_traits = set()  # those that no user can name
+        self.hidden = set()  # the paths of modules, and the traits, that the documentation leaves out
         for path in self.modules():
             self.read_source(path)
         for path in sorted((self.folder / "specs").glob("*.antt")):
@@ -123,12 +141,14 @@ class Crate:
     def modules(self):
         """The source files that are no tests, each before those of its folder, lib.rt or main.rt first."""
 
+        def parts(path):
+            return path.relative_to(self.folder / "src").with_suffix("").parts
+
         def place(path):
-            parts = path.relative_to(self.folder / "src").with_suffix("").parts
-            return (parts not in (("lib",), ("main",)), parts)
+            return (parts(path) not in (("lib",), ("main",)), parts(path))
 
         found = (self.folder / "src").rglob("*.rt")
-        return sorted((path for path in found if path.name != "tests.rt" and "tests" not in path.parts), key=place)
+        return sorted((path for path in found if "tests" not in parts(path)), key=place)
 
     def read_source(self, path):
         """Reads a file's functions, with the type and the trait whose block each is in, and the facts of these blocks."""
@@ -143,6 +163,8 @@ class Crate:
                 kind, block = opened[1], at
                 if kind == "trait" and not line.startswith("pub trait "):
                     self.own_traits.add(re.search(r"trait (\w+)", line)[1])
+                if kind == "trait" and is_hidden_at(lines, at):
+                    self.hidden.add(re.search(r"trait (\w+)", line)[1])
                 owner, trait = self.read_block(kind, " ".join(lines[at : at + 3])[opened.end() :])
             elif line == "}":
                 kind = owner = trait = ""
@@ -157,6 +179,8 @@ class Crate:
         for at, line in enumerate(lines):
             if declared := re.match(r"(pub )?mod (\w+);", line):
                 self.open[(*module, declared[2])] = bool(declared[1])
+                if is_hidden_at(lines, at):
+                    self.hidden.add((*module, declared[2]))
             elif line.startswith("pub use "):
                 said = " ".join(lines[at:]).split(";")[0]
                 self.exported.update(re.findall(r"\w+", said.split("::")[-1]))
@@ -188,6 +212,11 @@ class Crate:
                 self.words.setdefault(found[1], set())
             elif line.strip() and not line.startswith(indent + "  "):
                 record = ""
+
+    def is_hidden(self, function):
+        """Whether the documentation leaves a function out, which serves other crates then."""
+        parts = {function.module[:at] for at in range(len(function.module) + 1)}
+        return function.hidden or bool(self.hidden & {function.trait, *parts})
 
     def is_public(self, function):
         """Whether a user can name a function."""

@@ -67,6 +67,8 @@ class Pages(InRepository):
         self.refuses(quotes.misquoted, "// crates/low/src/set.rt", "// crates/low/src/lost.rt", "quotes crates/low/src/lost.rt")
         self.refuses(quotes.misquoted_clauses, "IsTrue", "IsFalse", "Set::has has no such clause")
         self.refuses(quotes.misquoted_clauses, "fn Set::has", "fn Set::had", "no function Set::had")
+        self.refuses(quotes.misquoted_clauses, "fn Set::has(..)", "fn Set::has(&self) -> bool", "Set::has has no such signature")
+        self.assertEqual(self.found(quotes.misquoted_clauses, "fn Set::has(..)", "fn Set::has(&self, id: usize) -> bool"), "")
 
     def test_clauses(self):
         self.refuses(clauses.wrong_cells, "`found` |", "`lost` |", "Set::has has no clause lost")
@@ -78,6 +80,13 @@ class Pages(InRepository):
         source = "//! Sets.\npub fn f()\n    ensures { true }\n{\n}\n"
         repository = self.repository({"crates/hibitset/src/lib.rt": source, "crates/hibitset/README.md": "# hibitset\n"})
         self.assertIn("names f", self.said(clauses.unnamed_functions(repository)))
+        named = "| promise | clause |\n|---|---|\n| It is true. | `f` |\n"
+        files = {"crates/hibitset/src/lib.rt": source, "crates/hibitset/README.md": "# hibitset\n", "crates/hibitset/INTERNALS.md": named}
+        self.assertEqual(self.said(clauses.unnamed_functions(self.repository(files))), "")
+        hidden = {**files, "crates/hibitset/src/lib.rt": source.replace("pub fn", "#[doc(hidden)]\npub fn"), "crates/hibitset/INTERNALS.md": "# none\n"}
+        self.assertEqual(self.said(clauses.unnamed_functions(self.repository(hidden))), "")
+        within = {"crates/hibitset/src/lib.rt": "//! Sets.\n#[doc(hidden)]\npub mod bits;\n", "crates/hibitset/src/bits.rt": source, "crates/hibitset/README.md": "# none\n"}
+        self.assertEqual(self.said(clauses.unnamed_functions(self.repository(within))), "")
 
     def test_tables_of_modules(self):
         self.refuses(module_tables.wrong_modules, "| A set. |", "| Sets. |", "the table of modules lacks")
@@ -85,6 +94,10 @@ class Pages(InRepository):
         with self.silence():
             module_tables.write_modules(repository)
         self.assertIn("| A set. |", (repository.top / README).read_text(encoding="utf-8"))
+        apart = self.repository({README: "# low\n", "crates/low/INTERNALS.md": RIGHT.replace("| A set. |", "| Sets. |")})
+        said = [self.said(module_tables.wrong_modules(apart, apart.crates / "low" / name)) for name in ("README.md", "INTERNALS.md")]
+        self.assertEqual(said[0], "")
+        self.assertIn("the table of modules lacks", said[1])
 
 
 class Repositories(InRepository):
@@ -99,6 +112,11 @@ class Repositories(InRepository):
     def test_numbers(self):
         for said, value in (("1,398", 1398), ("64", 64), ("twelve", 12), ("Twenty-one", 21), ("thirty", 30), ("some", None)):
             self.assertEqual(counts.number(said), value)
+
+    def test_numbers_of_sources(self):
+        cost = "const A: CostModel = CostModel {\n    worth: 1_000,\n};\nconst B: CostModel = CostModel {\n    worth: 20,\n};\n"
+        repository = self.repository({"crates/hibitset_base/src/parallel/cost.rt": cost})
+        self.assertEqual([counts.worth(name)(repository) for name in "AB"], [1000, 20])
 
     def test_counts(self):
         repository = self.repository({"README.md": "low has two modules\n"})

@@ -41,7 +41,8 @@ class Faults(unittest.TestCase):
         self.assertEqual(list(release.wrong_versions(texts.get)), [])
 
     def test_license(self):
-        self.finds(release.wrong_license, "rust/LICENSE", "Apache", "Another", "is not LICENSE")
+        for copy in ("rust/LICENSE", "bindings/python/LICENSE"):
+            self.finds(release.wrong_license, copy, "Apache", "Another", f"{copy}: is not LICENSE")
 
     def test_kits(self):
         self.finds(release.wrong_kits, ".ci/kit", "rattle-kit-", "other-kit-", "does not name `other-kit-")
@@ -53,6 +54,9 @@ class Faults(unittest.TestCase):
         self.finds(release.wrong_packages, "Dockerfile", "$(cat /packages)", "gcc", "does not install what")
         self.finds(release.wrong_packages, "Dockerfile", " cargo ", " ", "does not install cargo")
         self.finds(release.wrong_packages, "tests/bindings.sh", "readelf;", "readelf awk;", "no package for awk")
+        self.finds(release.wrong_packages, "tests/python.sh", "numpy dask", "numpy scipy", "no package for scipy")
+        self.finds(release.wrong_packages, ".ci/packages", "python3-numpy\n", "", "lacks python3-numpy, which has numpy")
+        self.finds(release.wrong_packages, ".ci/packages", "python3-dev\n", "", "lacks python3-dev, which has Python.h")
 
     def test_speed(self):
         self.finds(release.wrong_tables, "README.md", "| contains, hit | index | ", "| contains, hit | index | 1", "not those of")

@@ -7,6 +7,7 @@ ghost use Rattle.hibitset_atomic.specs.declared.shared.layout.TheConstants.{SHAR
 mod again;
 mod building;
 mod callers;
+mod costs;
 mod held;
 mod orders;
 mod shares;

@@ -29,11 +29,11 @@ second true c h = refl
 second false c h = sym (h refl)
 
 -- a member is what is a number of a set that has none past the bound
-every : (p : ℕ → Bool) → ((i : ℕ) → MAX_EID ≤ i → p i ≡ false) → (i : ℕ) → is_member p i ≡ p i
+pub every : (p : ℕ → Bool) → ((i : ℕ) → MAX_EID ≤ i → p i ≡ false) → (i : ℕ) → is_member p i ≡ p i
 every p none i = second (nat_lt i MAX_EID) (p i) (λ off. none i (grind (arith, nat_tests)))
 
 -- the words past all members are 0
-no_words_past : (holds : ℕ → Bool) (w : ℕ → ℕ → ℕ) (new : ℕ → Bool) (end : ℕ) → IsLawful LAYERS holds w → AreWords (w 0) → ((i : ℕ) → new i ≡ holds i) → MembersEndBy new end → NoWordsFrom w end
+pub no_words_past : (holds : ℕ → Bool) (w : ℕ → ℕ → ℕ) (new : ℕ → Bool) (end : ℕ) → IsLawful LAYERS holds w → AreWords (w 0) → ((i : ℕ) → new i ≡ holds i) → MembersEndBy new end → NoWordsFrom w end
 no_words_past holds w new end lawful fits same ends p range after =
     same_from_bits_below 64 (w 0 p) 0 (fits p) (omega arith) (λ b small.
     lawful.members p b range small

@@ -1,4 +1,4 @@
--- What a handle owns, where there is a set; and the handle whose set is lent. Assumes `Logic`.
+-- What a handle owns, where there is something; and the handle whose set is lent. Assumes `Logic`.
 use Rattle.std.proofs.Common.{◌≡◌, ℕ, List, [], ◌∷◌, refl, sym, Option, Some, None, true}
 use mathlib.Core.Bool.{◌&&◌, true≢false}
 use lib.Dec.{T, lit<}
@@ -24,10 +24,10 @@ use Rattle.hibitset_c.specs.SetLoan.{with_set}
 use Rattle.hibitset_c.specs.contracts.handle.Handle.{the_row, the_type}
 use Rattle.hibitset_c.specs.declared.handle.Handle.{Handle}
 
--- the set of a handle that has one
-pub set_of : (set : Option BitSet) → is_some set ≡ true → (x : BitSet) × (set ≡ Some x)
-set_of (Some x) there = (x, refl)
-set_of None there = absurd (true≢false (sym there))
+-- what lies behind a handle that has something
+pub held_of : {X : Type 0} (held : Option X) → is_some held ≡ true → (x : X) × (held ≡ Some x)
+held_of (Some x) there = (x, refl)
+held_of None there = absurd (true≢false (sym there))
 
 -- the machine value of a handle has its type
 pub handle_fits : (at : Ptr) → T (has_ty ty_ptr (ptr_val at) && true) × WT (vstruct (vcons (ptr_val at) vnil))

@@ -1,21 +1,17 @@
--- What a handle owns, where there is a set; and the handle whose set is lent. Assumes `Logic`.
-use Rattle.std.proofs.Common.{◌≡◌, ℕ, List, [], ◌∷◌, refl, sym, Option, Some, None, true}
-use mathlib.Core.Bool.{◌&&◌, true≢false}
-use lib.Dec.{T, lit<}
+-- The handle of an atomic set, a seat or a sparse set, while what lies behind it is lent. Assumes `Logic`.
+use Rattle.std.proofs.Common.{◌≡◌, ℕ, List, [], ◌∷◌, refl, sym}
 use seplogic.Ra.Ura.{Ura}
 use base.Fraction.{full_share}
 use base.Logic.{ent, sep}
 use base.Fml.{Fml, fsep}
 use mir.Raw.{raw as bare}
-use mir.Syntax.{ty_ptr}
-use mir.Val.{Val, vstruct, vcons, vnil, has_ty, WT}
+use mir.Val.{Val}
 use types.Logic.{Logic, sem}
 use types.Kit.{‵, ◌$◌, ◌∵◌, !, qed, done, move, fsplit3, fjoin, fpack, rewrite}
 use denote.Memory.{cell_at, part_at, part_of, mem, lone}
-use denote.RawPtr.{Ptr, block_ptr, null_ptr, ptr_val}
+use denote.RawPtr.{Ptr, block_ptr}
 use denote.Struct.Struct.{Struct}
 use denote.Struct.Owning.{shape}
-use Rattle.std.specs.Prelude.{is_some}
 use Rattle.std.specs.Box.Ownership.{box_owns}
 use Rattle.hibitset_c.specs.contracts.kept.Kept.{the_row as kept_row}
 use Rattle.hibitset_c.specs.declared.kept.Kept.{Kept}
@@ -24,23 +20,13 @@ use Rattle.hibitset_c.specs.KeptLoan.{with_kept}
 use Rattle.hibitset_c.specs.contracts.kept_handle.KeptHandle.{the_row, the_type}
 use Rattle.hibitset_c.specs.declared.kept_handle.KeptHandle.{KeptHandle}
 
--- the set of a handle that has one
-pub kept_of : (set : Option Kept) → is_some set ≡ true → (x : Kept) × (set ≡ Some x)
-kept_of (Some x) there = (x, refl)
-kept_of None there = absurd (true≢false (sym there))
-
--- the machine value of a handle has its type
-pub handle_fits : (at : Ptr) → T (has_ty ty_ptr (ptr_val at) && true) × WT (vstruct (vcons (ptr_val at) vnil))
-handle_fits (block_ptr b o) = (tt, (tt, tt))
-handle_fits null_ptr = (tt, (record { fits = lit< tt }, tt))
-
--- a handle, whose own fields lie at a place, but for its set, which lies at another
+-- a handle, whose own fields lie at a place, but for what it keeps, which lies at another
 abbrev pub but_the_kept : KeptHandle → List Val → (at : ℕ × ℕ) → (own : ℕ × ℕ) → Fml
 but_the_kept h us at own =
     fsep (may_free (bare (lone kept_row.mir)) (block_ptr at.0 at.1)) (fsep ((Struct (shape the_type)).own_val (h.at, tt) us) (cell_at full_share the_row.mir us own.0 own.1))
 
 module _ {M : Type 1} {𝓤 : Ura M} (𝓛 : Logic 𝓤) (h : KeptHandle) (us : List Val) (at own : ℕ × ℕ) (lies : h.at ≡ block_ptr at.0 at.1) where
-  -- with any set at its place it is the handle of that set
+  -- with anything at its place it is the handle of that
   pub comes_together : (w : Kept) → ent 𝓤 (sep 𝓤 (sem 𝓛 ((mem kept_row).own_at w at.0 at.1)) (sem 𝓛 (but_the_kept h us at own))) (sem 𝓛 ((mem the_row).own_at (with_kept h w) own.0 own.1))
   unfolding part_of
   comes_together w =

@@ -9,4 +9,5 @@ mod LengthLemmas
 mod ListLemmas
 mod NoMemberLemmas
 mod RawBoxLemmas
+mod SparseLemmas
 mod StreamLemmas

@@ -1,9 +1,9 @@
 -- A list whose indices are added one by one.
-use Rattle.std.proofs.Common.{◌≡◌, inl, inr, ℕ, ◌+◌, ◌<◌, ◌≤◌, max, Bool, ◌==◌, ◌||◌, List, [], ◌∷◌, ◌++◌, take, refl, length, slice_index, Contains, sym, ◌∙◌, subst, arith, eq-eqb}
+use Rattle.std.proofs.Common.{◌≡◌, ◌↔◌, ◌⊎◌, inl, inr, ℕ, ◌+◌, ◌<◌, ◌≤◌, max, Bool, true, ◌==◌, ◌||◌, List, [], ◌∷◌, ◌++◌, take, refl, length, slice_index, Contains, sym, ◌∙◌, subst, arith, eq-eqb}
 use Rattle.std.specs.List.{All}
 use Rattle.std.proofs.lemmas.Bool.{or_cases, eqb-true}
-use Rattle.std.proofs.lemmas.List.{take_more, take-take, get_or-take, length-take-le}
-use Rattle.std.proofs.lemmas.List.Elements.{All-take, All-get_or, Contains-append_left, Contains-push, Contains-push_cases}
+use Rattle.std.proofs.lemmas.List.{take_all, take_more, take-take, get_or-take, length-take-le}
+use Rattle.std.proofs.lemmas.List.Elements.{All-take, All-get_or, All-from_get_or, Contains-append_left, Contains-push, Contains-push_cases}
 use Rattle.hibitset_base.proofs.ErrorLemmas.{or_true}
 use Rattle.hibitset_c.specs.List.{AddsFirst}
 
@@ -35,6 +35,17 @@ module _ (list : List ℕ) (count : ℕ) (below : count < length list) where
   one_more P all =
       let long = length-take-le (count + 1) list (omega (arith, below)) in
       subst P (get_or-take (count + 1) list count 0 (omega arith)) (All-get_or P (take (count + 1) list) count 0 (omega (arith, long)) all)
+
+-- what is so of each index before a place
+pub all_taken : (range : ℕ) (list : List ℕ) (place : ℕ) → place ≤ length list → ((k : ℕ) → k < place → slice_index list k < range) → All (λ i. i < range) (take place list)
+all_taken range list place within ok = All-from_get_or (λ i. i < range) (take place list) 0 (λ k below.
+    let long = length-take-le place list within in
+    let small : k < place = omega (arith, below, long) in
+    subst (λ x. x < range) (sym (get_or-take place list k 0 small)) (ok k small))
+
+-- all indices of a list are the first ones, so many as it has
+pub adds_whole : (list : List ℕ) (old new : ℕ → Bool) → ((i : ℕ) → (new i ≡ true) ↔ ((old i ≡ true) ⊎ Contains list i)) → AddsFirst list (length list) old new
+adds_whole list old new adds = subst (λ l. (i : ℕ) → (new i ≡ true) ↔ ((old i ≡ true) ⊎ Contains l i)) (sym (take_all (length list) list (omega arith))) adds
 
 -- What an addition makes no longer than it must, and no shorter.
 pub no_longer : (now new word end : ℕ) → now ≤ end → word < end → new ≤ max now (word + 1) → new ≤ end

@@ -3,12 +3,13 @@ use Rattle.std.specs.Prelude.{◌≡◌, ℕ, ◌/◌, Bool, true, false, Option
 use Rattle.hibitset_atomic.specs.AtomicBitSet.{has as atomic_has, topped_word, NeedsAllocation as LacksItsBlock, AllBlocksReserved as HasRoomForAll}
 use Rattle.hibitset_c.specs.declared.atomic_set.AtomicSet.{AtomicSet}
 use Rattle.hibitset_c.specs.declared.kept.Kept.{Kept}
-use Rattle.hibitset_c.specs.declared.kept.Kept.TheVariants.{Alone, Seated, Nothing}
+use Rattle.hibitset_c.specs.declared.kept.Kept.TheVariants.{Alone, Seated, Sparse, Nothing}
 
 abbrev pub has_in : Option Kept → ℕ → Bool
 has_in None i = false
 has_in (Some (Alone set)) i = atomic_has set i
 has_in (Some (Seated m)) i = false
+has_in (Some (Sparse set)) i = false
 has_in (Some Nothing) i = false
 
 -- the set has the number
@@ -23,6 +24,7 @@ abbrev pub word_in : Option Kept → ℕ → ℕ → ℕ
 word_in None l p = 0
 word_in (Some (Alone set)) l p = topped_word set l p
 word_in (Some (Seated m)) l p = 0
+word_in (Some (Sparse set)) l p = 0
 word_in (Some Nothing) l p = 0
 
 -- the word of a layer at a position
@@ -33,6 +35,7 @@ abbrev pub LacksBlockIn : Option Kept → ℕ → Type 0
 LacksBlockIn None i = Unit {0}
 LacksBlockIn (Some (Alone set)) i = LacksItsBlock set i
 LacksBlockIn (Some (Seated m)) i = Unit {0}
+LacksBlockIn (Some (Sparse set)) i = Unit {0}
 LacksBlockIn (Some Nothing) i = Unit {0}
 
 -- The block of 4,096 indices that has the number is not made, so that an addition there needs memory.
@@ -43,6 +46,7 @@ abbrev pub HasAllRoomIn : Option Kept → Type 0
 HasAllRoomIn None = ⊥
 HasAllRoomIn (Some (Alone set)) = HasRoomForAll set
 HasAllRoomIn (Some (Seated m)) = ⊥
+HasAllRoomIn (Some (Sparse set)) = ⊥
 HasAllRoomIn (Some Nothing) = ⊥
 
 -- No addition needs memory.

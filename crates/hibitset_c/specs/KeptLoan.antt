@@ -1,4 +1,4 @@
--- What a handle of an atomic set or a seat is once the loan of it has ended.
+-- What a handle of an atomic set, a seat or a sparse set is once the loan of it has ended.
 use Rattle.std.specs.Prelude.{Some}
 use Rattle.std.specs.Borrow.{Lends, MutBor, Fml}
 use Rattle.hibitset_c.specs.contracts.kept.Kept.{the_row as kept_row}

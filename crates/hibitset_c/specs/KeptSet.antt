@@ -1,4 +1,4 @@
--- What a contract sees of what lies behind the handle of an atomic set or of a seat.
+-- What a contract sees of what lies behind the handle of an atomic set, of a seat or of a sparse set.
 use Rattle.std.specs.Prelude.{◌≡◌, ◌↔◌, ℕ, Bool, true, false, [], Option, None, Some}
 use Rattle.hibitset_atomic.specs.AtomicBitSet.{has as atomic_has, AllBlocksReserved}
 use Rattle.hibitset_atomic.specs.Seats.{IsOld, IsKnown, weight_of, reports_of}
@@ -8,18 +8,20 @@ use Rattle.hibitset_atomic.specs.declared.shared.layout.TheConstants.{SHARES}
 use Rattle.hibitset_c.specs.Member.{Keeps, IsSame, AreHalves, EndsAs}
 use Rattle.hibitset_c.specs.Shared.{set_of}
 use Rattle.hibitset_c.specs.declared.kept.Kept.{Kept}
-use Rattle.hibitset_c.specs.declared.kept.Kept.TheVariants.{Alone, Seated, Nothing}
+use Rattle.hibitset_c.specs.declared.kept.Kept.TheVariants.{Alone, Seated, Sparse, Nothing}
 
 -- it is a set held alone
 abbrev pub is_alone : Kept → Bool
 is_alone (Alone set) = true
 is_alone (Seated m) = false
+is_alone (Sparse set) = false
 is_alone Nothing = false
 
 -- it is a seat
 abbrev pub is_seated : Kept → Bool
 is_seated (Alone set) = false
 is_seated (Seated m) = true
+is_seated (Sparse set) = false
 is_seated Nothing = false
 
 -- The seat is the first one of its set: it has all shares, no reports, and knows nothing. The old indices are those
@@ -34,8 +36,10 @@ pub record IsOpening (members : ℕ → Bool) (set : SharedBitSet) (seat : Seat)
 abbrev pub Opens : Kept → Kept → Type 0
 Opens (Alone set) (Seated m) = IsOpening (atomic_has set) (set_of m.set) m.seat
 Opens (Alone set) (Alone other) = ⊥
+Opens (Alone set) (Sparse other) = ⊥
 Opens (Alone set) Nothing = ⊥
 Opens (Seated m) new = ⊥
+Opens (Sparse set) new = ⊥
 Opens Nothing new = ⊥
 
 -- a set held alone lies there
@@ -48,42 +52,64 @@ abbrev pub is_seated_at : Option Kept → Bool
 is_seated_at None = false
 is_seated_at (Some kept) = is_seated kept
 
+-- it is a sparse set
+abbrev pub is_sparse : Kept → Bool
+is_sparse (Alone set) = false
+is_sparse (Seated m) = false
+is_sparse (Sparse set) = true
+is_sparse Nothing = false
+
+-- a sparse set lies there
+abbrev pub is_sparse_at : Option Kept → Bool
+is_sparse_at None = false
+is_sparse_at (Some kept) = is_sparse kept
+
 -- a seat was divided
 abbrev pub Halves : Kept → Kept → Kept → Type 0
 Halves (Seated m) (Seated first) (Seated second) = AreHalves m first second
 Halves (Seated m) (Seated first) (Alone set) = ⊥
+Halves (Seated m) (Seated first) (Sparse set) = ⊥
 Halves (Seated m) (Seated first) Nothing = ⊥
 Halves (Seated m) (Alone set) second = ⊥
+Halves (Seated m) (Sparse set) second = ⊥
 Halves (Seated m) Nothing second = ⊥
 Halves (Alone set) first second = ⊥
+Halves (Sparse set) first second = ⊥
 Halves Nothing first second = ⊥
 
 -- it is a seat with one share
 abbrev pub HasOneShare : Kept → Type 0
 HasOneShare (Seated m) = weight_of m.seat ≡ 1
 HasOneShare (Alone set) = ⊥
+HasOneShare (Sparse set) = ⊥
 HasOneShare Nothing = ⊥
 
 -- a seat has its set, its weight and its reports, and knows what it knew
 abbrev pub KeepsAll : Kept → Kept → Type 0
 KeepsAll (Seated m) (Seated n) = Keeps m n × (reports_of n.seat ≡ reports_of m.seat)
 KeepsAll (Seated m) (Alone set) = ⊥
+KeepsAll (Seated m) (Sparse set) = ⊥
 KeepsAll (Seated m) Nothing = ⊥
 KeepsAll (Alone set) new = ⊥
+KeepsAll (Sparse set) new = ⊥
 KeepsAll Nothing new = ⊥
 
 -- it is the same seat of the same set
 abbrev pub IsSameSeat : Kept → Kept → Type 0
 IsSameSeat (Seated m) (Seated n) = IsSame m n
 IsSameSeat (Seated m) (Alone set) = ⊥
+IsSameSeat (Seated m) (Sparse set) = ⊥
 IsSameSeat (Seated m) Nothing = ⊥
 IsSameSeat (Alone set) new = ⊥
+IsSameSeat (Sparse set) new = ⊥
 IsSameSeat Nothing new = ⊥
 
 -- a shared set is held alone again
 abbrev pub Settles : Kept → Kept → Type 0
 Settles (Seated m) (Alone set) = EndsAs (set_of m.set) m.seat (atomic_has set) × AllBlocksReserved set
 Settles (Seated m) (Seated n) = ⊥
+Settles (Seated m) (Sparse set) = ⊥
 Settles (Seated m) Nothing = ⊥
 Settles (Alone set) new = ⊥
+Settles (Sparse set) new = ⊥
 Settles Nothing new = ⊥

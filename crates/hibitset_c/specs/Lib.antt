@@ -12,4 +12,5 @@ pub mod Seat
 pub mod Seen
 pub mod Set
 pub mod Shared
+pub mod Sparse
 pub mod Words

@@ -6,12 +6,13 @@ use Rattle.hibitset_atomic.specs.declared.shared.types.SharedBitSet.{SharedBitSe
 use Rattle.hibitset_c.specs.Shared.{set_of as set_in}
 use Rattle.hibitset_c.specs.declared.held_seat.HeldSeat.{HeldSeat}
 use Rattle.hibitset_c.specs.declared.kept.Kept.{Kept}
-use Rattle.hibitset_c.specs.declared.kept.Kept.TheVariants.{Alone, Seated, Nothing}
+use Rattle.hibitset_c.specs.declared.kept.Kept.TheVariants.{Alone, Seated, Sparse, Nothing}
 
 abbrev pub HoldsAt : Option Kept → (SharedBitSet → Seat → Type 0) → Type 0
 HoldsAt None P = ⊥
 HoldsAt (Some (Alone set)) P = ⊥
 HoldsAt (Some (Seated m)) P = P (set_in m.set) m.seat
+HoldsAt (Some (Sparse set)) P = ⊥
 HoldsAt (Some Nothing) P = ⊥
 
 -- there is a seat, and this holds of its set and of it
@@ -22,6 +23,7 @@ abbrev pub set_at : Option Kept → Option SharedBitSet
 set_at None = None
 set_at (Some (Alone set)) = None
 set_at (Some (Seated m)) = Some (set_in m.set)
+set_at (Some (Sparse set)) = None
 set_at (Some Nothing) = None
 
 -- the set that the seat came from
@@ -32,6 +34,7 @@ abbrev pub seat_at : Option Kept → Option Seat
 seat_at None = None
 seat_at (Some (Alone set)) = None
 seat_at (Some (Seated m)) = Some m.seat
+seat_at (Some (Sparse set)) = None
 seat_at (Some Nothing) = None
 
 abbrev pub seat_of : HeldSeat → Option Seat

@@ -17,7 +17,7 @@ use std::alloc::Global;
 
 // Makes `out` a set of the members of any other.
 #[inline]
-fn make_of<B: BitSetLike>(alloc: Global, out: &mut Set, other: B) -> u32
+pub(crate) fn make_of<B: BitSetLike>(alloc: Global, out: &mut Set, other: B) -> u32
     ensures members { result ≡ OK → (i : ℕ) → has out.new i ≡ is_member (B.holds other) i }
     ensures err { result ≢ OK → (i : ℕ) → has out.new i ≡ has out.old i }
     ensures status { (result ≡ OK) ⊎ (result ≡ NO_MEMORY) }

@@ -1,17 +1,19 @@
-//! What lies behind the handle of an atomic set or of a seat.
+//! What lies behind the handle of an atomic set, of a seat or of a sparse set.
 #![tactic(auto)]
 
 use crate::member::{Divided, Member, Settled};
 use crate::status::{NO_MEMORY, OK, ONE_SHARE, SHARED};
 use hibitset::AtomicBitSet;
+use hibitset_sparse::SparseBitSet;
 use std::alloc::Global;
 use std::mem;
 
-/// An atomic set held alone, or a seat of a shared one.
+/// An atomic set held alone, a seat of a shared one, or a sparse set.
 #[derive(Drop)]
 pub enum Kept {
     Alone(AtomicBitSet),
     Seated(Member),
+    Sparse(SparseBitSet),
     /// Within a call alone, which makes the one of the other.
     Nothing,
 }

@@ -1,4 +1,4 @@
-//! An atomic set or a seat on the heap behind one pointer, as C keeps it.
+//! An atomic set, a seat or a sparse set on the heap behind one pointer, as C keeps it.
 ghost use Rattle.std.specs.Prelude.{◌≡◌, true, is_some, None, Option, Some};
 ghost use Rattle.std.specs.Borrow.{sem};
 ghost use Rattle.hibitset_c.specs.declared.kept.Kept.{Kept};
@@ -10,7 +10,7 @@ use crate::raw_box::RawBox;
 use std::alloc::Global;
 use std::marker::Model;
 
-/// An atomic set or a seat, or neither: then the pointer is never followed.
+/// An atomic set, a seat or a sparse set, or none of these: then the pointer is never followed.
 #[repr(C)]
 #[derive(Drop)]
 pub struct KeptHandle {

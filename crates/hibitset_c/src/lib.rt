@@ -1,13 +1,14 @@
 //! Hierarchical bit sets for C:
-//! a thin static library over `hibitset`, `hibitset_atomic` and `hibitset_roaring`, with an export for each call.
+//! a thin static library over `hibitset`, `hibitset_sparse`, `hibitset_atomic` and `hibitset_roaring`, with an export
+//! for each call.
 //! `bindings/c/hibitset.h` declares them.
 //!
 //! C keeps each set in a struct of its own. A call that changes a set takes it as a `Set`, by `&mut`; a call that reads
 //! one takes the same bytes as a `Seen`, by `&`. A `Seen` is slices alone and owns nothing, so any number of threads
 //! may read a set at once. The empty set does not allocate.
 //!
-//! An atomic set, and a seat of a shared one, are one pointer each in a struct of C's. Each call takes it by `&mut`,
-//! and the seats of one set own the set together.
+//! A sparse set, an atomic set, and a seat of a shared one, are one pointer each in a struct of C's. Each call takes it
+//! by `&mut`, and the seats of one set own the set together.
 //!
 //! An index that is out of range, bytes that are no stream and a failed allocation are statuses. No export has a
 //! `requires`.
@@ -27,6 +28,7 @@ pub mod hash;
 pub mod held_seat;
 pub mod kept;
 pub mod kept_handle;
+pub mod lists;
 pub mod member;
 pub mod order;
 pub mod pair;
@@ -37,5 +39,10 @@ pub mod seat;
 pub mod seen;
 pub mod set;
 pub mod shared;
+pub mod sparse;
+pub mod sparse_assign;
+pub mod sparse_order;
+pub mod sparse_pair;
+pub mod sparse_set;
 pub mod status;
 pub mod words;

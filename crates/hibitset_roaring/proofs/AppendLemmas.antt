@@ -3,13 +3,17 @@ use Rattle.std.proofs.Common.{◌≡◌, ℕ, ◌<◌, ◌≤◌, ◌++◌, Bool
 use Rattle.std.proofs.Math.Seq.{take-append_seam}
 use Rattle.std.proofs.lemmas.List.{take-append-drop, length-take-le, get_or-take}
 use Rattle.std.proofs.lemmas.Grind.{same_number_lists}
-use Rattle.hibitset_roaring.specs.Format.{Appends, IsCanonicalStream}
+use Rattle.hibitset_roaring.specs.Format.{Appends, IsPlainStream, IsCanonicalStream}
 
--- the stream of the same members, said otherwise
+-- a stream of the same members, said otherwise
+pub plain_same : (p q : ℕ → Bool) (bytes : List ℕ) → ((i : ℕ) → q i ≡ p i) → IsPlainStream p bytes → IsPlainStream q bytes
+plain_same p q bytes same plain = record { are = plain.are; stream = plain.stream; plain = plain.plain; members = λ i. plain.members i ∙ sym (same i) }
+
+-- the one stream
 pub canonical_same : (p q : ℕ → Bool) (bytes : List ℕ) → ((i : ℕ) → q i ≡ p i) → IsCanonicalStream p bytes → IsCanonicalStream q bytes
 canonical_same p q bytes same canonical = record {
-  plain = record { are = canonical.plain.are; stream = canonical.plain.stream; plain = canonical.plain.plain; members = λ i. canonical.plain.members i ∙ sym (same i) };
-  only = λ other is. canonical.only other (record { are = is.are; stream = is.stream; plain = is.plain; members = λ i. is.members i ∙ same i });
+  plain = plain_same p q bytes same canonical.plain;
+  only = λ other is. canonical.only other (plain_same q p other (λ i. sym (same i)) is);
 }
 
 pub appends_from : (P : List ℕ → Type 0) (old new : List ℕ) (from : ℕ) → from ≡ length old → from ≤ length new → ((k : ℕ) → k < from → get_or new k 0 ≡ get_or old k 0) → P (drop from new) → Appends P old new
@@ -21,6 +25,10 @@ appends_from P old new from is long same behind = record {
       sym (take-append-drop from new) ∙ ap (λ xs. xs ++ drop from new) front;
   appended = behind;
 }
+
+-- what was put behind has another property too
+pub appends_same : (P Q : List ℕ → Type 0) (old new : List ℕ) → ((bytes : List ℕ) → P bytes → Q bytes) → Appends P old new → Appends Q old new
+appends_same P Q old new same appends = record { bytes = appends.bytes; is = appends.is; appended = same appends.bytes appends.appended }
 
 -- a list of which all is kept
 pub take_whole : (xs ys : List ℕ) (n : ℕ) → n ≡ length xs → take n (xs ++ ys) ≡ xs

@@ -1,10 +1,12 @@
 -- What a fault rules out, and the faults of containers within a stream.
-use Rattle.std.proofs.Common.{◌≡◌, ◌≢◌, ◌⊎◌, ℕ, ◌+◌, ◌<◌, ◌≤◌, true, false, List, length, sym, ap, ◌∙◌, arith, inl, inr}
+use Rattle.std.proofs.Common.{◌≡◌, ◌≢◌, ◌⊎◌, ℕ, ◌+◌, ◌<◌, ◌≤◌, true, false, List, length, refl, sym, ap, ◌∙◌, arith, inl, inr}
 use Rattle.hibitset_roaring.specs.Numbers.{ones_in}
 use Rattle.hibitset_roaring.specs.Format.{container_count, cardinality_of, is_run, run_count, run_total, container_at, size, IsStream, HasKeysBelow}
-use Rattle.hibitset_roaring.specs.Faults.{IsLowNumber, IsCloseRun, IsLongRun, IsFault}
+use Rattle.hibitset_roaring.specs.Faults.{IsLowNumber, IsCloseRun, IsLongRun, IsFault, IsReason}
 use Rattle.hibitset_roaring.specs.declared.error.Fault.{Fault}
 use Rattle.hibitset_roaring.specs.declared.error.Fault.TheVariants as faults
+use Rattle.hibitset_roaring.specs.declared.error.ReadError.{ReadError}
+use Rattle.hibitset_roaring.specs.declared.error.ReadError.TheVariants as errors
 use Rattle.hibitset_roaring.proofs.LayoutLemmas.{first_within, at_within, next_at}
 
 -- bytes with a fault are no stream with keys below the bound
@@ -35,6 +37,11 @@ not_stream bytes end stream below faults.RunPastEnd p h =
     let a = ((stream.containers h.container h.counted).runs h.runs).within h.run.run h.run.counted in
     let l = h.run.long in
     omega (arith, a, l)
+
+-- a reason for which a stream is not read is want of memory
+pub only_memory : (bytes : List ℕ) (end : ℕ) → IsStream bytes → HasKeysBelow bytes end → (error : ReadError) → IsReason bytes end error → error ≡ errors.Memory
+only_memory bytes end stream below errors.Memory reason = refl
+only_memory bytes end stream below (errors.Malformed m) reason = absurd (not_stream bytes end stream below m.fault m.at reason)
 
 -- a container whose end lies past the bytes
 pub cut_at : (bytes : List ℕ) (end k at : ℕ) → at ≡ container_at bytes k → k < container_count bytes → length bytes < at + size bytes k at → IsFault bytes end faults.TooShort at

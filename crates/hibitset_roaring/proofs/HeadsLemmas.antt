@@ -1,5 +1,5 @@
 -- Lists of keys, and of how many members have each.
-use Rattle.std.proofs.Common.{◌≡◌, ℕ, zero, suc, ◌+◌, ◌*◌, ◌<◌, ◌≤◌, List, [], ◌∷◌, ◌++◌, get_or, length, refl, sym, ap, ◌∙◌, add-one, arith, inl, inr}
+use Rattle.std.proofs.Common.{◌≡◌, ℕ, zero, suc, ◌+◌, ◌*◌, ◌<◌, ◌≤◌, List, [], ◌∷◌, ◌++◌, get_or, length, refl, sym, ap, subst, ◌∙◌, add-one, arith, inl, inr}
 use Rattle.std.specs.Prelude.{nat_le}
 use Rattle.std.proofs.lemmas.Bool.{cases_lt, cond_both, cond-true, cond-false, leb-true, le-leb, lt-leb}
 use Rattle.std.proofs.lemmas.List.{length_push, get_or_push, get_or_append_left}
@@ -72,6 +72,16 @@ module _ (words keys counts : List ℕ) (key : ℕ) (heads : AreHeads words keys
           | inr upper ↦ (n, omega (arith, longer), (let e : other ≡ key = omega (arith, below, upper) in new ∙ sym e))
         ];
       }
+
+-- keys without members
+pub heads_upto : (words keys counts : List ℕ) (m n : ℕ) → m ≤ n → ((key : ℕ) → m ≤ key → key < n → ones_under words key ≡ 0) → AreHeads words keys counts m → AreHeads words keys counts n
+heads_upto words keys counts m zero order none heads = subst (λ b. AreHeads words keys counts b) (omega (arith, order)) heads
+heads_upto words keys counts m (suc n) order none heads = elim (cases_lt n m) [
+  | inl above ↦ subst (λ b. AreHeads words keys counts b) (omega (arith, above, order)) heads
+  | inr upto ↦
+      let e : n + 1 ≡ suc n = omega arith in
+      subst (λ b. AreHeads words keys counts b) e (heads_skip words keys counts n (heads_upto words keys counts m n upto (λ key from below. none key from (omega (arith, below))) heads) (none n upto (omega arith)))
+]
 
 pub start_first : (counts : List ℕ) → start counts 0 ≡ 8 + 8 * length counts
 unfolding start

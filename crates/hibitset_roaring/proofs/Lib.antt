@@ -2,6 +2,7 @@ pub mod TestLemmas
 pub mod SequenceLemmas
 pub mod UniqueLemmas
 pub mod AddLemmas
+pub mod SinkLemmas
 pub mod LayoutLemmas
 pub mod FaultLemmas
 pub mod ContainerLemmas
@@ -14,6 +15,7 @@ pub mod SlotLemmas
 pub mod SummaryLemmas
 pub mod HeadsLemmas
 pub mod BitLemmas
+pub mod LikeLemmas
 pub mod StreamLemmas
 pub mod AppendLemmas
 pub mod TransferLemmas

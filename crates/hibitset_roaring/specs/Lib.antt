@@ -2,6 +2,8 @@ pub mod Numbers
 pub mod Format
 pub mod Faults
 pub mod Headers
+pub mod Sinks
+pub mod Sources
 pub mod Words
 pub mod Streams
 pub mod Transfers

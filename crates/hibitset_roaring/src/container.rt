@@ -2,7 +2,7 @@
 
 ghost use Rattle.std.specs.Prelude.{◌≡◌, ◌≢◌, ◌⊎◌, ℕ, ◌+◌, ◌*◌, ◌/◌, ◌%◌, ◌<◌, ◌≤◌, ◌==◌, ◌||◌, ◌&&◌, suc, true, false, get_or, length, IfOk, IfErr, OnOk};
 ghost use Rattle.hibitset_roaring.specs.Numbers.{u16_at, u64_at, any_below, ones_in};
-ghost use Rattle.hibitset_roaring.specs.Format.{in_array, IsArray, in_bits, run_count, run_first, run_last, run_total, in_runs, AreRuns, key_of, cardinality_of, is_run, container_at, in_container, IsContainer};
+ghost use Rattle.hibitset_roaring.specs.Format.{in_array, IsArray, in_bits, run_count, run_first, run_last, run_total, in_runs, AreRuns, cardinality_of, is_run, container_at, in_container, IsContainer};
 ghost use Rattle.hibitset_roaring.specs.Words.{Adds};
 ghost use Rattle.hibitset_roaring.specs.Faults.{IsLowNumber, IsCloseRun, IsLongRun, IsFault, IsReason};
 ghost use Rattle.hibitset_roaring.specs.declared.error.Fault.TheVariants as faults;
@@ -173,26 +173,26 @@ fn read_runs_of(
     check_count(total, cardinality, at)
 }
 
-// Adds the members of a container that is no bits to words.
+// Adds the members of a container that is no bits to words, with other high bits.
 fn read_numbers(
     bytes: &[u8],
     header: &Header,
     k: usize,
     at: usize,
     words: &mut [usize],
+    key: usize,
 ) -> Result<(), Malformed>
     requires header { IsHeader bytes.now header.now }
     requires which { k < header.now.count }
     requires at { at ≡ container_at bytes.now k }
     requires within { container_at bytes.now (k + 1) ≤ length bytes.now }
     requires numbers { is_run bytes.now k ≡ false → cardinality_of bytes.now k ≤ 4096 }
-    requires room { 1024 * (key_of bytes.now k + 1) ≤ length words.old }
+    requires key { key < 65536 }
+    requires room { 1024 * (key + 1) ≤ length words.old }
     ensures container { OnOk result (IsContainer bytes.now k) }
-    ensures members { OnOk result (Adds (key_of bytes.now k) (in_container bytes.now k) words.old
-        words.new) }
+    ensures members { OnOk result (Adds key (in_container bytes.now k) words.old words.new) }
     ensures fault { IfErr result (λ m. (end : ℕ) → IsFault bytes.now end m.fault m.at) }
 {
-    let key = header.key(bytes, k);
     let cardinality = header.cardinality(bytes, k);
     if header.is_run(bytes, k) {
         return read_runs_of(bytes, at, cardinality, words, key);
@@ -200,30 +200,32 @@ fn read_numbers(
     read_array(bytes, at, cardinality, words, key)
 }
 
-// Adds the members of a container to words, which end before the container's and then with them.
+// Adds the members of a container to words, with other high bits. The words end before those of these high bits, and then
+// with them.
 pub(crate) fn read_container(
     bytes: &[u8],
     header: &Header,
     k: usize,
     at: usize,
     words: &mut Vec<usize>,
+    key: usize,
 ) -> Result<(), ReadError>
     requires header { IsHeader bytes.now header.now }
     requires which { k < header.now.count }
     requires at { at ≡ container_at bytes.now k }
     requires within { container_at bytes.now (k + 1) ≤ length bytes.now }
-    requires order { length words.old.items ≤ 1024 * key_of bytes.now k }
+    requires key { key < 65536 }
+    requires order { length words.old.items ≤ 1024 * key }
     ensures container { OnOk result (IsContainer bytes.now k) }
-    ensures length { OnOk result (length words.new.items ≡ 1024 * (key_of bytes.now k + 1)) }
-    ensures members { OnOk result (Adds (key_of bytes.now k) (in_container bytes.now k)
-        words.old.items words.new.items) }
+    ensures length { OnOk result (length words.new.items ≡ 1024 * (key + 1)) }
+    ensures members { OnOk result (Adds key (in_container bytes.now k) words.old.items
+        words.new.items) }
     ensures reason { IfErr result (λ error. (end : ℕ) → IsReason bytes.now end error) }
 {
-    let key = header.key(bytes, k);
     let cardinality = header.cardinality(bytes, k);
     if header.is_run(bytes, k) || cardinality <= MAX_ARRAY_LEN {
         lengthen(words, CONTAINER_WORDS * (key + 1))?;
-        return Ok(read_numbers(bytes, header, k, at, words)?);
+        return Ok(read_numbers(bytes, header, k, at, words, key)?);
     }
     lengthen(words, CONTAINER_WORDS * key)?;
     let count = append_bits(bytes, at, words)?;

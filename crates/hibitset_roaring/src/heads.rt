@@ -2,10 +2,13 @@
 
 ghost use Rattle.std.specs.Prelude.{◌≡◌, ℕ, ◌+◌, ◌-◌, ◌*◌, ◌/◌, ◌^◌, ◌<◌, ◌≤◌, true, length, IfOk, OnOk};
 ghost use Rattle.hibitset_roaring.specs.Streams.{AreHeads};
+ghost use Rattle.hibitset_roaring.specs.declared.header.TheConstants.{KEYS};
 ghost use Rattle.hibitset_roaring.specs.Words.{ones_from, ones_under, AreBlocks, AreSummaries};
 
+use crate::header::KEYS;
 use crate::layout::CONTAINER_WORDS;
 use crate::slots::{CONTAINER_BLOCKS, blocks_over, slot_after, slot_from, word_of};
+use crate::source::ContainerSource;
 use std::alloc::{AllocError, Global};
 
 // From this many nonzero words on, all words of a container are counted.
@@ -75,7 +78,7 @@ fn has_many(words: &[usize], above: &[usize], key: usize, blocks: usize) -> bool
 }
 
 // How many members have these high bits.
-pub(crate) fn count_under(words: &[usize], above: &[usize], key: usize) -> usize
+pub(crate) fn count_members(words: &[usize], above: &[usize], key: usize) -> usize
     requires key { key < 65536 }
     requires above { AreSummaries words.now above.now }
     ensures count { result ≡ ones_under words.now key }
@@ -91,14 +94,14 @@ pub(crate) fn count_under(words: &[usize], above: &[usize], key: usize) -> usize
 
 impl Heads {
     // Notes a container, if there are members for it.
-    fn note(&mut self, words: &[usize], above: &[usize], key: usize) -> Result<(), AllocError>
-        requires key { key < 65536 }
-        requires above { AreSummaries words.now above.now }
-        requires heads { AreHeads words.now self.old.keys.items self.old.counts.items key }
-        ensures { OnOk result (AreHeads words.now self.new.keys.items self.new.counts.items
-            (key + 1)) }
+    fn note<S: ContainerSource>(&mut self, source: &S, key: usize) -> Result<(), AllocError>
+        requires key { key < KEYS }
+        requires heads { AreHeads (S.words source.now) self.old.keys.items self.old.counts.items
+            key }
+        ensures { OnOk result (AreHeads (S.words source.now) self.new.keys.items
+            self.new.counts.items (key + 1)) }
     {
-        let count = count_under(words, above, key);
+        let count = source.count_under(key);
         if count == 0 {
             return Ok(());
         }
@@ -107,19 +110,19 @@ impl Heads {
         Ok(())
     }
 
-    /// The containers of the set with these words.
-    pub(crate) fn of(alloc: Global, words: &[usize], above: &[usize]) -> Result<Heads, AllocError>
-        requires short { length words.now ≤ 16777216 }
-        requires above { AreSummaries words.now above.now }
-        ensures { IfOk result (λ heads. AreHeads words.now heads.keys.items heads.counts.items
-            ((length words.now + 1023) / 1024)) }
+    /// The containers of a set.
+    pub(crate) fn of<S: ContainerSource>(alloc: Global, source: &S) -> Result<Heads, AllocError>
+        ensures { IfOk result (λ heads. AreHeads (S.words source.now) heads.keys.items
+            heads.counts.items KEYS) }
     {
         let mut heads = Heads {
             keys: Vec::new(alloc),
             counts: Vec::new(alloc),
         };
-        'keys: for key in 0..(words.len() + (CONTAINER_WORDS - 1)) / CONTAINER_WORDS {
-            heads.note(words, above, key)?;
+        let mut key = source.next_key(0);
+        'keys: while key < KEYS {
+            heads.note(source, key)?;
+            key = source.next_key(key + 1);
         }
         Ok(heads)
     }

@@ -57,8 +57,26 @@ pub fn read_from<R: Read>(
         (R.remaining reader.new) }
     ensures not_interrupted { IfErr result IsNoInterruption }
 {
-    let bytes = read_all(alloc, reader, LONGEST_START + LONGEST_CONTAINER * end)?;
+    let bytes = read_within(alloc, reader, end)?;
     Ok(read_below(alloc, &bytes, end)?)
+}
+
+// All bytes of a reader, unless they are more than any stream with keys below `end` has.
+pub(crate) fn read_within<R: Read>(
+    alloc: Global,
+    reader: &mut R,
+    end: usize,
+) -> Result<Vec<u8>, ReadFromError>
+    requires { end ≤ KEYS }
+    ensures bytes { IfOk result (λ input. IfSome (R.remaining reader.old)
+        (λ bytes. input.items ≡ bytes)) }
+    ensures end { OnOk result (IsAtEnd (R.remaining reader.new)) }
+    ensures reason { IfErr result (IsInputReason (R.remaining reader.old) (longest_below end)) }
+    ensures front { GivesFront (longest_below end + CHUNK) (R.remaining reader.old)
+        (R.remaining reader.new) }
+    ensures not_interrupted { IfErr result IsNoInterruption }
+{
+    read_all(alloc, reader, LONGEST_START + LONGEST_CONTAINER * end)
 }
 
 // All bytes of a reader, unless they are more than `most`.

@@ -11,34 +11,63 @@ ghost use Rattle.hibitset_roaring.specs.declared.error.ReadError.TheVariants as 
 ghost use Rattle.hibitset_roaring.specs.declared.header.TheConstants.{KEYS};
 ghost use Rattle.hibitset_roaring.specs.declared.layout.TheConstants.{CONTAINER_WORDS};
 
-use crate::container::read_container;
-use crate::error::ReadError;
+use crate::error::{Malformed, ReadError};
 use crate::header::{Header, KEYS};
 use crate::layout::CONTAINER_WORDS;
+use crate::sink::ContainerSink;
 use hibitset::BitSet;
 use std::alloc::Global;
 
-// Puts the words of all containers, and those between them, into an empty vector.
-fn read_containers(bytes: &[u8], header: &Header, words: &mut Vec<usize>) -> Result<(), ReadError>
+// Takes all containers, where nothing was taken before.
+pub(crate) fn read_containers<S: ContainerSink>(
+    bytes: &[u8],
+    header: &Header,
+    sink: &mut S,
+) -> Result<(), ReadError>
     requires header { IsHeader bytes.now header.now }
     requires whole { container_at bytes.now (container_count bytes.now) ≡ length bytes.now }
     requires ascending { (k : ℕ) → k + 1 < container_count bytes.now
         → key_of bytes.now k < key_of bytes.now (k + 1) }
-    requires empty { words.old.items ≡ [] }
+    requires keys { (k : ℕ) → k < container_count bytes.now → key_of bytes.now k < KEYS }
+    requires empty { (i : ℕ) → S.holds sink.old i ≡ false }
+    requires none { S.words_len sink.old ≡ 0 }
     ensures containers { OnOk result ((k : ℕ) → k < container_count bytes.now
         → IsContainer bytes.now k) }
-    ensures members { OnOk result ((i : ℕ) → stands_in words.new.items i ≡ holds bytes.now i) }
+    ensures members { OnOk result ((i : ℕ) → S.holds sink.new i ≡ holds bytes.now i) }
     ensures least { OnOk result ((bound : ℕ) → HasKeysBelow bytes.now bound
-        → length words.new.items ≤ 1024 * bound) }
+        → S.words_len sink.new ≤ 1024 * bound) }
     ensures reason { IfErr result (λ error. (end : ℕ) → IsReason bytes.now end error) }
 {
     let mut at = header.first;
     'containers: for k in 0..header.count {
         let end = header.end(bytes, k, at);
-        read_container(bytes, header, k, at, words)?;
+        sink.take_container(bytes, header, k, at)?;
         at = end;
     }
     Ok(())
+}
+
+// The header of a stream, whose keys ascend below `end` and whose containers lie where it says, and the number after its
+// last key.
+pub(crate) fn check_stream(bytes: &[u8], end: usize) -> Result<(Header, usize), Malformed>
+    ensures header { IfOk result (λ found. IsHeader bytes.now found.0) }
+    ensures ascending { OnOk result ((k : ℕ) → k + 1 < container_count bytes.now
+        → key_of bytes.now k < key_of bytes.now (k + 1)) }
+    ensures below { IfOk result (λ found. HasKeysBelow bytes.now found.1) }
+    ensures few { IfOk result (λ found. found.1 ≤ end) }
+    ensures least { IfOk result (λ found. (bound : ℕ) → HasKeysBelow bytes.now bound
+        → found.1 ≤ bound) }
+    ensures offsets { OnOk result (has_offsets bytes.now ≡ true → (k : ℕ)
+        → k < container_count bytes.now
+        → u32_at bytes.now (offsets_at bytes.now + 4 * k) ≡ container_at bytes.now k) }
+    ensures whole { OnOk result (container_at bytes.now (container_count bytes.now)
+        ≡ length bytes.now) }
+    ensures fault { IfErr result (λ m. IsFault bytes.now end m.fault m.at) }
+{
+    let header = Header::read(bytes)?;
+    let keys = header.check_keys(bytes, end)?;
+    header.check_layout(bytes)?;
+    Ok((header, keys))
 }
 
 /// The set whose members a stream in the portable Roaring format has, if each key is below `end`: a key is the high 16
@@ -47,7 +76,7 @@ fn read_containers(bytes: &[u8], header: &Header, words: &mut Vec<usize>) -> Res
 /// An error names a fault of the bytes and its position, or says that an allocation failed.
 ///
 /// The set takes at most 8,192 bytes for each key below `end`, and a sixty-third more, in one request for memory: if
-/// `end` is `KEYS`, 18 bytes can ask for 136 MB.
+/// `end` is `KEYS`, 18 bytes can ask for 136 MB. A stranger's bytes are better read by `read_sparse`.
 pub fn read_below(alloc: Global, bytes: &[u8], end: usize) -> Result<BitSet, ReadError>
     requires { end ≤ KEYS }
     ensures stream { OnOk result (IsStream bytes.now) }
@@ -60,9 +89,7 @@ pub fn read_below(alloc: Global, bytes: &[u8], end: usize) -> Result<BitSet, Rea
     ensures accepts { IsStream bytes.now → HasKeysBelow bytes.now end
         → IfErr result (λ error. error ≡ errors.Memory) }
 {
-    let header = Header::read(bytes)?;
-    let keys = header.check_keys(bytes, end)?;
-    header.check_layout(bytes)?;
+    let (header, keys) = check_stream(bytes, end)?;
     let mut words = BitSet::vec_with_room(alloc, CONTAINER_WORDS * keys)?;
     read_containers(bytes, &header, &mut words)?;
     Ok(BitSet::from_vec(words)?)

@@ -13,13 +13,14 @@ ghost use Rattle.hibitset_roaring.specs.Runs.{are_runs_shorter};
 ghost use Rattle.hibitset_roaring.specs.RunStreams.{IsRunOptimizedStream, IsCanonicalRunStream};
 ghost use Rattle.hibitset_roaring.specs.RunParts.{best_bytes, start_from, fields_after, first_after_runs, IsRunCount, AreRunCounts, AreSizes, IsBestWritten, IsRunHeaded};
 
-use crate::header::{LEAST_WITH_OFFSETS, RUNS, first_after, keys_after, offsets_are};
-use crate::heads::{Heads, count_under};
+use crate::header::{KEYS, LEAST_WITH_OFFSETS, RUNS, first_after, keys_after, offsets_are};
+use crate::heads::{Heads, count_members};
 use crate::layout::{CONTAINER_WORDS, flat_size};
 use crate::number::{put_u8, put_u16, put_u32};
 use crate::runs::{are_shorter, count_runs, write_runs};
 use crate::slots::word_of;
-use crate::writer::{write_container, write_stream};
+use crate::source::WordSource;
+use crate::writer::{write_flat, write_stream};
 use hibitset::BitSet;
 use hibitset_base::bits::with_bit;
 use std::alloc::{AllocError, Global};
@@ -53,7 +54,7 @@ impl Sizes {
         requires sizes { AreSizes words.now key self.count self.some self.bytes }
         ensures { AreSizes words.now (key + 1) result.count result.some result.bytes }
     {
-        let count = count_under(words, above, key);
+        let count = count_members(words, above, key);
         if count == 0 {
             return self;
         }
@@ -241,7 +242,7 @@ fn write_best(
     if are_shorter(runs, count) {
         write_runs(out, at, words, above, key, runs);
     } else {
-        write_container(out, at, words, above, key, count);
+        write_flat(out, at, words, above, key, count);
     }
 }
 
@@ -286,7 +287,7 @@ fn write_run_stream(
     words: &[usize],
     above: &[usize],
 )
-    requires heads { AreHeads words.now keys.now counts.now ((length words.now + 1023) / 1024) }
+    requires heads { AreHeads words.now keys.now counts.now KEYS }
     requires short { length words.now ≤ 16777216 }
     requires above { AreSummaries words.now above.now }
     requires runs { AreRunCounts words.now keys.now counts.now runs.now }
@@ -314,7 +315,7 @@ fn write_best_stream(
     words: &[usize],
     above: &[usize],
 )
-    requires heads { AreHeads words.now keys.now counts.now ((length words.now + 1023) / 1024) }
+    requires heads { AreHeads words.now keys.now counts.now KEYS }
     requires short { length words.now ≤ 16777216 }
     requires above { AreSummaries words.now above.now }
     requires runs { AreRunCounts words.now keys.now counts.now runs.now }
@@ -331,7 +332,7 @@ fn write_best_stream(
     if some {
         write_run_stream(out, keys, counts, runs, words, above);
     } else {
-        write_stream(out, keys, counts, words, above);
+        write_stream(out, keys, counts, &WordSource::new(words, above));
     }
 }
 
@@ -346,7 +347,7 @@ fn write_best_behind(
     above: &[usize],
 )
     requires heads { AreHeads words.now heads.now.keys.items heads.now.counts.items
-        ((length words.now + 1023) / 1024) }
+        KEYS }
     requires short { length words.now ≤ 16777216 }
     requires above { AreSummaries words.now above.now }
     requires runs { AreRunCounts words.now heads.now.keys.items heads.now.counts.items runs.now }
@@ -416,7 +417,7 @@ pub fn write_run_optimized_to(
 {
     let words = set.layer0_as_slice();
     let above = set.layer1_as_slice();
-    let heads = Heads::of(alloc, words, above)?;
+    let heads = Heads::of(alloc, &WordSource::new(words, above))?;
     let runs = runs_of(alloc, &heads.keys, &heads.counts, words, above)?;
     let some = some_runs(&heads.counts, &runs);
     let from = out.len();

@@ -10,10 +10,11 @@ ghost use Rattle.hibitset_roaring.specs.Streams.{SameBefore, flat_bytes, start, 
 ghost use Rattle.hibitset_roaring.specs.Words.{ones_from, ones_under, AreSummaries};
 
 use crate::array::write_array;
-use crate::header::NO_RUNS;
-use crate::heads::{Heads, count_under};
+use crate::header::{KEYS, NO_RUNS};
+use crate::heads::Heads;
 use crate::layout::{CONTAINER_WORDS, MAX_ARRAY_LEN, flat_size};
 use crate::number::{put_u16, put_u32, put_u64};
+use crate::source::{ContainerSource, WordSource};
 use hibitset::BitSet;
 use std::alloc::{AllocError, Global};
 
@@ -56,8 +57,8 @@ fn write_bits(out: &mut [u8], at: usize, words: &[usize], key: usize)
     write_zeros(out, at + 8 * count, CONTAINER_WORDS - count);
 }
 
-// Writes a container.
-pub(crate) fn write_container(
+// Writes a container that is no runs.
+pub(crate) fn write_flat(
     out: &mut [u8],
     at: usize,
     words: &[usize],
@@ -115,29 +116,27 @@ fn write_offsets(out: &mut [u8], counts: &[usize])
 }
 
 // Writes the containers.
-fn write_containers(
+fn write_containers<S: ContainerSource>(
     out: &mut [u8],
     keys: &[usize],
     counts: &[usize],
-    words: &[usize],
-    above: &[usize],
+    source: &S,
 )
-    requires above { AreSummaries words.now above.now }
     requires same { length counts.now ≡ length keys.now }
     requires few { length keys.now ≤ 16384 }
     requires room { start counts.now (length keys.now) ≤ length out.old }
     requires keys { (k : ℕ) → k < length keys.now → get_or keys.now k 0 < 16384 }
     requires counts { (k : ℕ) → k < length keys.now
-        → get_or counts.now k 0 ≡ ones_under words.now (get_or keys.now k 0) }
+        → get_or counts.now k 0 ≡ ones_under (S.words source.now) (get_or keys.now k 0) }
     requires small { (k : ℕ) → k < length keys.now → get_or counts.now k 0 ≤ 65536 }
     ensures before { SameBefore (8 + 8 * length counts.now) out.old out.new }
     ensures written { (k : ℕ) → k < length keys.now
-        → IsWritten words.now out.new (start counts.now k) (get_or keys.now k 0)
+        → IsWritten (S.words source.now) out.new (start counts.now k) (get_or keys.now k 0)
         (get_or counts.now k 0) }
 {
     let mut at = 8 + 8 * counts.len();
     'containers: for k in 0..keys.len() {
-        write_container(out, at, words, above, keys[k], counts[k]);
+        source.write_container(out, at, keys[k], counts[k]);
         at += flat_size(counts[k]);
     }
 }
@@ -157,53 +156,95 @@ fn len_of(counts: &[usize]) -> usize
 }
 
 // Writes a stream.
-pub(crate) fn write_stream(
+pub(crate) fn write_stream<S: ContainerSource>(
     out: &mut [u8],
     keys: &[usize],
     counts: &[usize],
-    words: &[usize],
-    above: &[usize],
+    source: &S,
 )
-    requires heads { AreHeads words.now keys.now counts.now ((length words.now + 1023) / 1024) }
-    requires short { length words.now ≤ 16777216 }
-    requires above { AreSummaries words.now above.now }
+    requires heads { AreHeads (S.words source.now) keys.now counts.now KEYS }
     requires room { length out.old ≡ start counts.now (length keys.now) }
-    ensures stream { IsCanonicalStream (stands_in words.now) out.new }
-    ensures below { HasKeysBelow out.new 16384 }
+    ensures stream { IsCanonicalStream (stands_in (S.words source.now)) out.new }
+    ensures below { HasKeysBelow out.new KEYS }
 {
     write_header(out, keys, counts);
     write_offsets(out, counts);
-    write_containers(out, keys, counts, words, above);
+    write_containers(out, keys, counts, source);
 }
 
 // Writes a stream behind the first bytes.
-fn write_behind(out: &mut [u8], from: usize, heads: &Heads, words: &[usize], above: &[usize])
-    requires heads { AreHeads words.now heads.now.keys.items heads.now.counts.items
-        ((length words.now + 1023) / 1024) }
-    requires short { length words.now ≤ 16777216 }
-    requires above { AreSummaries words.now above.now }
+fn write_behind<S: ContainerSource>(out: &mut [u8], from: usize, heads: &Heads, source: &S)
+    requires heads { AreHeads (S.words source.now) heads.now.keys.items heads.now.counts.items
+        KEYS }
     requires room { length out.old ≡ from
         + start heads.now.counts.items (length heads.now.keys.items) }
     ensures before { SameBefore from out.old out.new }
-    ensures stream { IsCanonicalStream (stands_in words.now) (drop from out.new) }
-    ensures below { HasKeysBelow (drop from out.new) 16384 }
+    ensures stream { IsCanonicalStream (stands_in (S.words source.now)) (drop from out.new) }
+    ensures below { HasKeysBelow (drop from out.new) KEYS }
 {
-    write_stream(&mut out[from..], &heads.keys, &heads.counts, words, above);
+    write_stream(&mut out[from..], &heads.keys, &heads.counts, source);
 }
 
 // Writes a stream into the first bytes.
-fn write_first(out: &mut [u8], len: usize, heads: &Heads, words: &[usize], above: &[usize])
-    requires heads { AreHeads words.now heads.now.keys.items heads.now.counts.items
-        ((length words.now + 1023) / 1024) }
-    requires short { length words.now ≤ 16777216 }
-    requires above { AreSummaries words.now above.now }
+fn write_first<S: ContainerSource>(out: &mut [u8], len: usize, heads: &Heads, source: &S)
+    requires heads { AreHeads (S.words source.now) heads.now.keys.items heads.now.counts.items
+        KEYS }
     requires room { len ≤ length out.old }
     requires len { len ≡ start heads.now.counts.items (length heads.now.keys.items) }
-    ensures stream { IsCanonicalStream (stands_in words.now) (take len out.new) }
-    ensures below { HasKeysBelow (take len out.new) 16384 }
+    ensures stream { IsCanonicalStream (stands_in (S.words source.now)) (take len out.new) }
+    ensures below { HasKeysBelow (take len out.new) KEYS }
     ensures rest { drop len out.new ≡ drop len out.old }
 {
-    write_stream(&mut out[..len], &heads.keys, &heads.counts, words, above);
+    write_stream(&mut out[..len], &heads.keys, &heads.counts, source);
+}
+
+// Writes a stream behind the bytes of `out`.
+fn write_source_to<S: ContainerSource>(
+    alloc: Global,
+    source: &S,
+    out: &mut Vec<u8>,
+) -> Result<(), AllocError>
+    ensures stream { OnOk result (Appends (IsCanonicalStream (stands_in (S.words source.now)))
+        out.old.items out.new.items) }
+    ensures below { OnOk result (HasKeysBelow (drop (vec_len out.old) out.new.items) KEYS) }
+    ensures err { OnErr result (out.new.items ≡ out.old.items) }
+{
+    let heads = Heads::of(alloc, source)?;
+    let from = out.len();
+    out.resize(from + len_of(&heads.counts), 0)?;
+    write_behind(out, from, &heads, source);
+    Ok(())
+}
+
+// The stream of a set.
+pub(crate) fn write_source<S: ContainerSource>(
+    alloc: Global,
+    source: &S,
+) -> Result<Vec<u8>, AllocError>
+    ensures stream { IfOk result (λ out. IsCanonicalStream (stands_in (S.words source.now))
+        out.items) }
+    ensures below { IfOk result (λ out. HasKeysBelow out.items KEYS) }
+{
+    let mut out = Vec::new(alloc);
+    write_source_to(alloc, source, &mut out)?;
+    Ok(out)
+}
+
+// How many bytes the stream of a set takes.
+pub(crate) fn len_of_source<S: ContainerSource>(source: &S) -> usize
+    ensures { (bytes : List ℕ) → IsPlainStream (stands_in (S.words source.now)) bytes
+        → length bytes ≡ result }
+{
+    let mut len = 8;
+    let mut key = source.next_key(0);
+    'keys: while key < KEYS {
+        let count = source.count_under(key);
+        if count != 0 {
+            len += 8 + flat_size(count);
+        }
+        key = source.next_key(key + 1);
+    }
+    len
 }
 
 /// How many bytes `write` makes of a set with these words of layer 0, over which those of layer 1 lie.
@@ -212,14 +253,7 @@ pub fn len_of_words(words: &[usize], above: &[usize]) -> usize
     requires above { AreSummaries words.now above.now }
     ensures { (bytes : List ℕ) → IsPlainStream (stands_in words.now) bytes → length bytes ≡ result }
 {
-    let mut len = 8;
-    'keys: for key in 0..(words.len() + (CONTAINER_WORDS - 1)) / CONTAINER_WORDS {
-        let count = count_under(words, above, key);
-        if count != 0 {
-            len += 8 + flat_size(count);
-        }
-    }
-    len
+    len_of_source(&WordSource::new(words, above))
 }
 
 /// Writes the set with these words of layer 0, over which those of layer 1 lie, into the first bytes of a buffer, as
@@ -245,10 +279,11 @@ pub fn write_words(
     ensures few { IfOk result (λ len. length out.old < len → out.new ≡ out.old) }
     ensures err { OnErr result (out.new ≡ out.old) }
 {
-    let heads = Heads::of(alloc, words, above)?;
+    let source = WordSource::new(words, above);
+    let heads = Heads::of(alloc, &source)?;
     let len = len_of(&heads.counts);
     if len <= out.len() {
-        write_first(out, len, &heads, words, above);
+        write_first(out, len, &heads, &source);
     }
     Ok(len)
 }
@@ -257,7 +292,7 @@ pub fn write_words(
 pub fn serialized_len(set: &BitSet) -> usize
     ensures { (bytes : List ℕ) → IsPlainStream (has set.now) bytes → length bytes ≡ result }
 {
-    len_of_words(set.layer0_as_slice(), set.layer1_as_slice())
+    len_of_source(&WordSource::of(set))
 }
 
 /// Writes a set in the portable Roaring format behind the bytes of `out`: the one stream without runs of its members.
@@ -271,13 +306,7 @@ pub fn write_to(alloc: Global, set: &BitSet, out: &mut Vec<u8>) -> Result<(), Al
     ensures below { OnOk result (HasKeysBelow (drop (vec_len out.old) out.new.items) KEYS) }
     ensures err { OnErr result (out.new.items ≡ out.old.items) }
 {
-    let words = set.layer0_as_slice();
-    let above = set.layer1_as_slice();
-    let heads = Heads::of(alloc, words, above)?;
-    let from = out.len();
-    out.resize(from + len_of(&heads.counts), 0)?;
-    write_behind(out, from, &heads, words, above);
-    Ok(())
+    write_source_to(alloc, &WordSource::of(set), out)
 }
 
 /// A set in the portable Roaring format, as `write_to` writes it.

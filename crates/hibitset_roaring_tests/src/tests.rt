@@ -1,15 +1,20 @@
 //! What is read and written: values from outside, and each public call at least once.
 mod callers;
+mod calls;
+mod costs;
 mod optimized;
+mod sparse;
+mod texts;
 mod transfers;
 mod vectors;
 
 use hibitset::{BitSet, BitSetLike, Index, MAX_EID};
 use hibitset_roaring::{
-    Fault, KEYS, Malformed, ReadError, ReadFromError, read, read_below, read_from,
-    run_optimized_len, serialized_len, write, write_into, write_like, write_run_optimized,
-    write_run_optimized_to, write_to,
+    Fault, KEYS, Malformed, ReadError, ReadFromError, read, read_below, read_from, read_sparse,
+    read_sparse_below, read_sparse_from, run_optimized_len, serialized_len, write, write_into,
+    write_like, write_run_optimized, write_run_optimized_to, write_to,
 };
+use hibitset_sparse::SparseBitSet;
 use std::alloc::{AllocError, Global};
 use std::test::Fail;
 
@@ -24,19 +29,42 @@ fn set_of(alloc: Global, ranges: &[(Index, Index)]) -> Result<BitSet, AllocError
     Ok(set)
 }
 
-// Returns whether bytes are read as a set, which is written as these bytes in turn.
+// Returns whether a sparse set has the members of a dense one.
+fn is_like(sparse: &SparseBitSet, dense: &BitSet) -> bool {
+    sparse.contains_set(dense) && sparse.is_subset(dense)
+}
+
+// Returns whether bytes are read as a sparse set, which is written as these bytes in turn.
+fn is_read_sparse_as(
+    alloc: Global,
+    bytes: &[u8],
+    set: &BitSet,
+    plain: &[u8],
+) -> Result<bool, ReadError> {
+    let found = read_sparse(alloc, bytes)?;
+    let written = write_like(alloc, &found)?;
+    Ok(is_like(&found, set) && written.as_slice() == plain)
+}
+
+// Returns whether bytes are read as a set, which is written as these bytes in turn, and as a sparse one too.
 fn is_read_as(alloc: Global, bytes: &[u8], set: &BitSet, plain: &[u8]) -> Result<bool, ReadError> {
     let found = read(alloc, bytes)?;
     let written = write(alloc, &found)?;
-    Ok(found == *set && written.as_slice() == plain && serialized_len(set) == plain.len())
+    let alike = is_read_sparse_as(alloc, bytes, set, plain)?;
+    Ok(alike && found == *set && written.as_slice() == plain && serialized_len(set) == plain.len())
 }
 
-// Returns whether bytes are refused for this fault at this position.
-fn is_refused(alloc: Global, bytes: &[u8], fault: Fault, at: usize) -> bool {
-    match read(alloc, bytes) {
+// Returns whether no set was read, for this fault at this position.
+fn has_fault<T: Drop>(made: Result<T, ReadError>, fault: Fault, at: usize) -> bool {
+    match made {
         Ok(_) => false,
         Err(error) => error == ReadError::Malformed(Malformed { fault, at }),
     }
+}
+
+// Returns whether bytes are refused for this fault at this position, whichever set is to be read.
+fn is_refused(alloc: Global, bytes: &[u8], fault: Fault, at: usize) -> bool {
+    has_fault(read(alloc, bytes), fault, at) && has_fault(read_sparse(alloc, bytes), fault, at)
 }
 
 // A stream without runs of one container with key 0, and offsets where it begins.

@@ -13,7 +13,7 @@ use Rattle.hibitset_sparse.specs.Chunk.{or_zero}
 use Rattle.hibitset_sparse.specs.Rank.{rank_in, value_from, IsSetAt}
 use Rattle.hibitset_sparse.specs.Layout.{word_or_none, values_before, AreLaidOut, value_by_group, value_of_place}
 use Rattle.hibitset_sparse.specs.PackedArray.{value_in}
-use Rattle.hibitset_sparse.specs.Parts.{word_from, AreWordsFrom, BeginsWith, IsMadeUpTo}
+use Rattle.hibitset_sparse.specs.Parts.{item_from, AreWordsFrom, BeginsWith, IsMadeUpTo}
 use Rattle.hibitset_sparse.specs.declared.group.Group.{Group}
 use Rattle.hibitset_sparse.specs.declared.packed_array.PackedArray.{PackedArray}
 use Rattle.hibitset_sparse.proofs.EditLemmas.{get-insert_below, get-insert_at, get-insert_above}
@@ -98,8 +98,8 @@ left-above left rest b c is small on = elim (cases_order c b) [
 pub ones-taken : (left rest b : ℕ) → TakesLowest left rest b → left < 2 ^ 64 → rest < 2 ^ 64 → count_ones left ≡ count_ones rest + 1
 ones-taken left rest b is fits_l fits_r = ones-set left rest b fits_l fits_r is.below is.gone is.stood (λ c small other. sym (is.same c small other))
 
-pub no-word : (items : List ℕ) (start b : ℕ) → word_from items start 0 b ≡ None
-no-word items start b = value-off (λ k. slice_get items (start + k)) 0 b (zero-is-clear 0 b (bit_at-zero b))
+pub no-item : {T : Type 0} (items : List T) (start b : ℕ) → item_from items start 0 b ≡ None
+no-item items start b = value-off (λ k. slice_get items (start + k)) 0 b (zero-is-clear 0 b (bit_at-zero b))
 
 pub no-ones : count_ones 0 ≡ 0
 no-ones = let few = ones_le_self 0 in omega (arith, few)
@@ -107,17 +107,17 @@ no-ones = let few = ones_le_self 0 in omega (arith, few)
 -- Words are appended for some bits, and those of the bits that are left come behind them.
 pub record AreBeingPushed (start left bits : ℕ) (items : List ℕ) (word : ℕ → ℕ) : Type 0 where
   pub counted : length items ≡ start + count_ones bits
-  pub nonzero : (b w : ℕ) → b < 64 → word_from items start bits b ≡ Some w → (0 < w) × (w < 2 ^ 64)
+  pub nonzero : (b w : ℕ) → b < 64 → item_from items start bits b ≡ Some w → (0 < w) × (w < 2 ^ 64)
   pub todo : (b c : ℕ) → b ≤ c → c < 64 → bit_at left b ≡ 1 → bit_at bits c ≡ 0
-  pub done : (b : ℕ) → b < 64 → bit_at left b ≡ 0 → or_zero (word_from items start bits b) ≡ word b
+  pub done : (b : ℕ) → b < 64 → bit_at left b ≡ 0 → or_zero (item_from items start bits b) ≡ word b
 
 pub words-first : (start left : ℕ) (items : List ℕ) (word : ℕ → ℕ) → length items ≡ start → ((b : ℕ) → b < 64 → bit_at left b ≡ 0 → word b ≡ 0)
     → AreBeingPushed start left 0 items word
 words-first start left items word long none = record {
   counted = (let ones = no-ones in omega (arith, ones, long));
-  nonzero = λ b w small is. absurd (none-some w (sym (no-word items start b) ∙ is));
+  nonzero = λ b w small is. absurd (none-some w (sym (no-item items start b) ∙ is));
   todo = λ b c order small on. bit_at-zero c;
-  done = λ b small off. ap or_zero (no-word items start b) ∙ sym (none b small off);
+  done = λ b small off. ap or_zero (no-item items start b) ∙ sym (none b small off);
 }
 
 module _ (start left rest b bits : ℕ) (xs : List ℕ) (word : ℕ → ℕ) (takes : TakesLowest left rest b) (was : AreBeingPushed start left bits xs word) where
@@ -162,13 +162,13 @@ module _ (start left rest b bits : ℕ) (xs : List ℕ) (word : ℕ → ℕ) (ta
       set : IsSetAt v bits b
       set = record { within = takes.below; clear = none-yet b (omega arith) takes.below; set = here; same = same }
 
-      put : (c : ℕ) → c < 64 → word_from ys start v c ≡ (if c == b then Some y else word_from xs start bits c)
+      put : (c : ℕ) → c < 64 → item_from ys start v c ≡ (if c == b then Some y else item_from xs start bits c)
       put = value-pushed v bits b start xs ys y set fits_w none-yet was.counted pushed
 
-      at-here : (c : ℕ) → c < 64 → c ≡ b → word_from ys start v c ≡ Some y
+      at-here : (c : ℕ) → c < 64 → c ≡ b → item_from ys start v c ≡ Some y
       at-here c small at = rw (eq_same c b at) at (put c small)
 
-      at-other : (c : ℕ) → c < 64 → c ≢ b → word_from ys start v c ≡ word_from xs start bits c
+      at-other : (c : ℕ) → c < 64 → c ≢ b → item_from ys start v c ≡ item_from xs start bits c
       at-other c small other = rw (eq_other c b other) at (put c small)
 
 -- no bit is left
@@ -194,12 +194,64 @@ before-end group q (suc k) none few =
 pub before-all : (group : ℕ → Option Group) (q : ℕ) → q ≤ 64 → ((p : ℕ) → q ≤ p → p < 64 → group p ≡ None) → values_before group 64 ≡ values_before group q
 before-all group q few none = let e : q + (64 - q) ≡ 64 = omega arith in rw e at (before-end group q (64 - q) none (omega arith))
 
--- the values stay where the list grows
-pub same-values : (group : ℕ → Option Group) (xs ys : List ℕ) → AreLaidOut group (length xs) → BeginsWith xs ys → (p : ℕ) → p < 4096
-    → value_of_place group ys p ≡ value_of_place group xs p
-same-values group xs ys laid begins p low = same-group xs ys (p % 64) (group (p / 64)) (λ g some.
+-- the values stay where the list does
+pub same-values : {T : Type 0} (group : ℕ → Option Group) (n : ℕ) (xs ys : List T) → AreLaidOut group n → ((k : ℕ) → k < n → slice_get ys k ≡ slice_get xs k)
+    → (p : ℕ) → p < 4096 → value_of_place group ys p ≡ value_of_place group xs p
+same-values group n xs ys laid same p low = same-group xs ys (p % 64) (group (p / 64)) (λ g some.
     from-same (λ k. slice_get xs (g.start + k)) (λ k. slice_get ys (g.start + k)) g.word (p % 64) (λ on.
-    begins (g.start + rank_in g.word (p % 64)) (place-inside group (length xs) (p / 64) (p % 64) g laid (omega arith) some on)))
+    same (g.start + rank_in g.word (p % 64)) (place-inside group n (p / 64) (p % 64) g laid (omega arith) some on)))
+
+-- Groups of which none lies in group q or after it, and those with one put there, which begins where the values end.
+module _ (q n bits : ℕ) (old new : ℕ → Option Group) (group : q < 64) (laid : AreLaidOut old n) (none : (p : ℕ) → q ≤ p → p < 64 → old p ≡ None)
+    (put : (p : ℕ) → p < 64 → new p ≡ (if p == q then Some (record { word = bits; start = n }) else old p)) where
+  pub at-group : new q ≡ Some (record { word = bits; start = n })
+  at-group = rw (eq_same q q refl) at (put q group)
+
+  pub at-other : (p : ℕ) → p < 64 → p ≢ q → new p ≡ old p
+  at-other p low other = rw (eq_other p q other) at (put p low)
+
+  below : (p : ℕ) → p ≤ q → values_before new p ≡ values_before old p
+  below p upto = before-same old new p (λ r less. ap word_or_none (at-other r (omega arith) (λ e. absurd (omega arith))))
+
+  pub above : (p : ℕ) → q + 1 ≤ p → p < 64 → new p ≡ None
+  above p from low = at-other p low (λ e. absurd (omega arith)) ∙ none p (omega arith) low
+
+  starts-at : n ≡ values_before old q
+  starts-at = let all = laid.all in let end = before-all old q (omega arith) none in omega (arith, all, end)
+
+  in-all : n + count_ones bits ≡ values_before new 64
+  in-all =
+      let end = before-all new (q + 1) (omega arith) above in
+      let e : suc q ≡ q + 1 = omega arith in
+      let step : values_before new (q + 1) ≡ values_before new q + count_ones (word_or_none (new q)) = rw e at (before-more new q) in
+      let here : count_ones (word_or_none (new q)) ≡ count_ones bits = ap (λ o. count_ones (word_or_none o)) at-group in
+      let lower = below q (omega arith) in
+      let start = starts-at in
+      omega (arith, end, step, here, lower, start)
+
+  laid-at : 0 < bits → bits < 2 ^ 64 → (p : ℕ) (g : Group) → p < 64 → new p ≡ Some g → (0 < g.word) × (g.word < 2 ^ 64) × (g.start ≡ values_before new p)
+  laid-at some fits p g low is = elim (cases_order p q) [
+    | inl same ↦
+        let g-is : record { word = bits; start = n } ≡ g = same_Some (record { word = bits; start = n }) g
+        (sym at-group ∙ (ap new (sym same) ∙ is)) in
+        let word-is : bits ≡ g.word = ap (λ h. h.word) g-is in
+        let start-is : n ≡ g.start = ap (λ h. h.start) g-is in
+        let before : values_before new p ≡ values_before old q = ap (values_before new) same ∙ below q (omega arith) in
+        let start = starts-at in
+        (omega (arith, word-is, some), omega (arith, word-is, fits), omega (arith, start-is, before, start))
+    | inr (inl less) ↦
+        let there : old p ≡ Some g = sym (at-other p low (λ e. absurd (omega arith))) ∙ is in
+        (laid.nonzero p g low there, laid.fits p g low there, laid.starts p g low there ∙ sym (below p (omega arith)))
+    | inr (inr more) ↦ absurd (none-some g (sym (above p (omega arith) low) ∙ is))
+  ]
+
+  pub laid-more : 0 < bits → bits < 2 ^ 64 → AreLaidOut new (n + count_ones bits)
+  laid-more some fits = record {
+    nonzero = λ p g low is. (laid-at some fits p g low is).0;
+    fits = λ p g low is. (laid-at some fits p g low is).1;
+    starts = λ p g low is. (laid-at some fits p g low is).2;
+    all = in-all;
+  }
 
 -- What making a group gave: the words of a set, where none was.
 pub record IsOneMade (q : ℕ) (old new : ℕ → Option Group) (xs ys : List ℕ) (word : ℕ → ℕ) : Type 0 where
@@ -219,75 +271,29 @@ module _ (q bits : ℕ) (old : ℕ → Option Group) (xs ys : List ℕ) (word : 
       nonzero = λ p w low is. was.nonzero p w low (sym (stay p low) ∙ is);
     };
     pushed = λ p low here.
-        let clear : word_from ys (length xs) bits (p % 64) ≡ None = ap (λ v. word_from ys (length xs) v (p % 64)) none ∙ no-word ys (length xs) (p % 64) in
+        let clear : item_from ys (length xs) bits (p % 64) ≡ None = ap (λ v. item_from ys (length xs) v (p % 64)) none ∙ no-item ys (length xs) (p % 64) in
         ap or_zero (ap (option_and_then (value_by_group ys (p % 64))) (was.none (p / 64) (omega (arith, here)) (omega (arith, low))))
         ∙ (sym (ap or_zero clear) ∙ are.words (p % 64) (omega arith));
     others = λ p low other. stay p low;
   }
     where
       stay : (p : ℕ) → p < 4096 → value_of_place old ys p ≡ value_of_place old xs p
-      stay = same-values old xs ys was.laid_out begins
+      stay = same-values old (length xs) xs ys was.laid_out begins
 
   module _ (new : ℕ → Option Group) (put : (p : ℕ) → p < 64 → new p ≡ (if p == q then Some (record { word = bits; start = length xs }) else old p)) where
-    at-group : new q ≡ Some (record { word = bits; start = length xs })
-    at-group = rw (eq_same q q refl) at (put q group)
-
-    at-other : (p : ℕ) → p < 64 → p ≢ q → new p ≡ old p
-    at-other p low other = rw (eq_other p q other) at (put p low)
-
-    below : (p : ℕ) → p ≤ q → values_before new p ≡ values_before old p
-    below p upto = before-same old new p (λ r less. ap word_or_none (at-other r (omega arith) (λ e. absurd (omega arith))))
-
-    above : (p : ℕ) → q + 1 ≤ p → p < 64 → new p ≡ None
-    above p from low = at-other p low (λ e. absurd (omega arith)) ∙ was.none p (omega arith) low
-
-    starts-at : length xs ≡ values_before old q
-    starts-at = let all = was.laid_out.all in let end = before-all old q (omega arith) was.none in omega (arith, all, end)
-
-    in-all : length ys ≡ values_before new 64
-    in-all =
-        let counted = are.counted in
-        let end = before-all new (q + 1) (omega arith) above in
-        let e : suc q ≡ q + 1 = omega arith in
-        let step : values_before new (q + 1) ≡ values_before new q + count_ones (word_or_none (new q)) = rw e at (before-more new q) in
-        let here : count_ones (word_or_none (new q)) ≡ count_ones bits = ap (λ o. count_ones (word_or_none o)) at-group in
-        let lower = below q (omega arith) in
-        let start = starts-at in
-        omega (arith, counted, end, step, here, lower, start)
-
-    laid-at : 0 < bits → bits < 2 ^ 64 → (p : ℕ) (g : Group) → p < 64 → new p ≡ Some g → (0 < g.word) × (g.word < 2 ^ 64) × (g.start ≡ values_before new p)
-    laid-at some fits p g low is = elim (cases_order p q) [
-      | inl same ↦
-          let g-is : record { word = bits; start = length xs } ≡ g = same_Some (record { word = bits; start = length xs }) g
-          (sym at-group ∙ (ap new (sym same) ∙ is)) in
-          let word-is : bits ≡ g.word = ap (λ h. h.word) g-is in
-          let start-is : length xs ≡ g.start = ap (λ h. h.start) g-is in
-          let before : values_before new p ≡ values_before old q = ap (values_before new) same ∙ below q (omega arith) in
-          let start = starts-at in
-          (omega (arith, word-is, some), omega (arith, word-is, fits), omega (arith, start-is, before, start))
-      | inr (inl less) ↦
-          let there : old p ≡ Some g = sym (at-other p low (λ e. absurd (omega arith))) ∙ is in
-          (was.laid_out.nonzero p g low there, was.laid_out.fits p g low there, was.laid_out.starts p g low there ∙ sym (below p (omega arith)))
-      | inr (inr more) ↦ absurd (none-some g (sym (above p (omega arith) low) ∙ is))
-    ]
-
-    value-here : (p : ℕ) → p / 64 ≡ q → value_of_place new ys p ≡ word_from ys (length xs) bits (p % 64)
-    value-here p here = ap (option_and_then (value_by_group ys (p % 64))) (ap new here ∙ at-group)
+    value-here : (p : ℕ) → p / 64 ≡ q → value_of_place new ys p ≡ item_from ys (length xs) bits (p % 64)
+    value-here p here = ap (option_and_then (value_by_group ys (p % 64))) (ap new here ∙ at-group q (length xs) bits old new group was.laid_out was.none put)
 
     value-there : (p : ℕ) → p < 4096 → p / 64 ≢ q → value_of_place new ys p ≡ value_of_place old xs p
-    value-there p low other = ap (option_and_then (value_by_group ys (p % 64))) (at-other (p / 64) (omega arith) other)
-        ∙ same-values old xs ys was.laid_out begins p low
+    value-there p low other =
+        ap (option_and_then (value_by_group ys (p % 64))) (at-other q (length xs) bits old new group was.laid_out was.none put (p / 64) (omega arith) other)
+        ∙ same-values old (length xs) xs ys was.laid_out begins p low
 
     pub one-made : 0 < bits → bits < 2 ^ 64 → IsOneMade q old new xs ys word
     one-made some fits = record {
       made = record {
-        laid_out = record {
-          nonzero = λ p g low is. (laid-at some fits p g low is).0;
-          fits = λ p g low is. (laid-at some fits p g low is).1;
-          starts = λ p g low is. (laid-at some fits p g low is).2;
-          all = in-all;
-        };
-        none = above;
+        laid_out = subst (AreLaidOut new) (sym are.counted) (laid-more q (length xs) bits old new group was.laid_out was.none put some fits);
+        none = above q (length xs) bits old new group was.laid_out was.none put;
         nonzero = λ p w low is. elim (same_or_not (p / 64) q) [
           | inl here ↦ are.nonzero (p % 64) w (omega arith) (sym (value-here p here) ∙ is)
           | inr other ↦ was.nonzero p w low (sym (value-there p low other) ∙ is)

@@ -32,12 +32,12 @@ and-true true = refl
 and-true false = refl
 
 module _ (old new : ℕ → Option ℕ) (i v : ℕ) where
-  other-word : ((p : ℕ) → p < 4096 → new p ≡ (if p == i / 64 then Some v else old p)) → (j : ℕ) → j < 262144 → j / 64 ≢ i / 64 → has_at new j ≡ has_at old j
+  pub other-word : ((p : ℕ) → p < 4096 → new p ≡ (if p == i / 64 then Some v else old p)) → (j : ℕ) → j < 262144 → j / 64 ≢ i / 64 → has_at new j ≡ has_at old j
   other-word put j low other =
       let is : (if j / 64 == i / 64 then Some v else old (j / 64)) ≡ old (j / 64) = rw (eq_other (j / 64) (i / 64) other) refl in
       ap (λ o. bit_is_set (or_zero o) (j % 64)) (put (j / 64) (omega arith) ∙ is)
 
-  same-word : ((p : ℕ) → p < 4096 → new p ≡ (if p == i / 64 then Some v else old p)) → (j : ℕ) → j < 262144 → j / 64 ≡ i / 64 → has_at new j ≡ bit_is_set v (j % 64)
+  pub same-word : ((p : ℕ) → p < 4096 → new p ≡ (if p == i / 64 then Some v else old p)) → (j : ℕ) → j < 262144 → j / 64 ≡ i / 64 → has_at new j ≡ bit_is_set v (j % 64)
   same-word put j low same =
       let is : (if j / 64 == i / 64 then Some v else old (j / 64)) ≡ Some v = rw (eq_same (j / 64) (i / 64) same) refl in
       ap (λ o. bit_is_set (or_zero o) (j % 64)) (put (j / 64) (omega arith) ∙ is)

@@ -1,5 +1,5 @@
 -- The words of one group, as those of a set of its own.
-use Rattle.hibitset_sparse.proofs.AppendLemmas.{no-word}
+use Rattle.hibitset_sparse.proofs.AppendLemmas.{no-item}
 use Rattle.std.proofs.Common.{◌≡◌, ℕ, suc, ◌+◌, ◌*◌, ◌/◌, ◌%◌, ◌<◌, ◌≤◌, true, false, nat_lt, List, length, Option, Some, None, sym, ◌∙◌, ap, arith, inl, inr}
 use Rattle.std.specs.Prelude.{if◌then◌else◌, option_and_then}
 use Rattle.std.specs.Int.RustNames.{count_ones}
@@ -8,7 +8,7 @@ use Rattle.std.proofs.lemmas.Nat.{ones_le_self}
 use Rattle.hibitset_sparse.specs.Decisions.{lt_yes}
 use Rattle.hibitset_sparse.specs.Chunk.{or_zero}
 use Rattle.hibitset_sparse.specs.Layout.{word_or_none, AreLaidOut, value_by_group, value_of_place}
-use Rattle.hibitset_sparse.specs.Parts.{word_from}
+use Rattle.hibitset_sparse.specs.Parts.{item_from}
 use Rattle.hibitset_sparse.specs.Rank.{bit_is_set, rank_in}
 use Rattle.std.proofs.lemmas.Bool.{cases_Bool}
 use Rattle.std.proofs.lemmas.Option.{slice_get_past}
@@ -42,32 +42,32 @@ module _ (group : ℕ → Option Group) (xs ys : List ℕ) (q i : ℕ) (low : i 
 
   -- the members of a group that has values
   pub view-some : (g : Group) → group q ≡ Some g
-      → bit_is_set (if nat_lt (i / 64) 64 then or_zero (word_from ys g.start g.word (i / 64)) else 0) (i % 64) ≡ bit_is_set
+      → bit_is_set (if nat_lt (i / 64) 64 then or_zero (item_from ys g.start g.word (i / 64)) else 0) (i % 64) ≡ bit_is_set
       (or_zero (value_of_place group xs ((4096 * q + i) / 64))) ((4096 * q + i) % 64)
   view-some g is =
       let yes : nat_lt (i / 64) 64 ≡ true = lt_yes (i / 64) 64 (omega (arith, low)) in
-      rw (yes, last-bit) (ap (λ zs. bit_is_set (or_zero (word_from zs g.start g.word (i / 64))) (i % 64)) same
+      rw (yes, last-bit) (ap (λ zs. bit_is_set (or_zero (item_from zs g.start g.word (i / 64))) (i % 64)) same
       ∙ sym (ap (λ o. bit_is_set (or_zero o) (i % 64)) (of-group (Some g) is)))
 
   -- and of one that has none
   pub view-none : group q ≡ None
-      → bit_is_set (if nat_lt (i / 64) 64 then or_zero (word_from ys 0 0 (i / 64)) else 0) (i % 64) ≡ bit_is_set
+      → bit_is_set (if nat_lt (i / 64) 64 then or_zero (item_from ys 0 0 (i / 64)) else 0) (i % 64) ≡ bit_is_set
       (or_zero (value_of_place group xs ((4096 * q + i) / 64))) ((4096 * q + i) % 64)
   view-none is =
       let yes : nat_lt (i / 64) 64 ≡ true = lt_yes (i / 64) 64 (omega (arith, low)) in
-      rw (yes, last-bit) (ap (λ o. bit_is_set (or_zero o) (i % 64)) (no-word ys 0 (i / 64)) ∙ sym (ap (λ o. bit_is_set (or_zero o) (i % 64)) (of-group None is)))
+      rw (yes, last-bit) (ap (λ o. bit_is_set (or_zero o) (i % 64)) (no-item ys 0 (i / 64)) ∙ sym (ap (λ o. bit_is_set (or_zero o) (i % 64)) (of-group None is)))
 
 -- What reading a word by its bit gives.
 module _ (items : List ℕ) (start word i : ℕ) where
   pub read-on : (w : ℕ) → i < 64 → bit_is_set word i ≡ true → slice_get items (start + rank_in word i) ≡ Some w
-      → w ≡ (if nat_lt i 64 then or_zero (word_from items start word i) else 0)
+      → w ≡ (if nat_lt i 64 then or_zero (item_from items start word i) else 0)
   read-on w small on found = let yes : nat_lt i 64 ≡ true = lt_yes i 64 small in rw yes
       (sym (ap or_zero (value-on (λ k. slice_get items (start + k)) word i on ∙ found)))
 
-  pub read-off : i < 64 → bit_is_set word i ≡ false → 0 ≡ (if nat_lt i 64 then or_zero (word_from items start word i) else 0)
+  pub read-off : i < 64 → bit_is_set word i ≡ false → 0 ≡ (if nat_lt i 64 then or_zero (item_from items start word i) else 0)
   read-off small off = let yes : nat_lt i 64 ≡ true = lt_yes i 64 small in rw yes (sym (ap or_zero (value-off (λ k. slice_get items (start + k)) word i off)))
 
-  pub read-past : i < 64 → length items ≤ start + rank_in word i → 0 ≡ (if nat_lt i 64 then or_zero (word_from items start word i) else 0)
+  pub read-past : i < 64 → length items ≤ start + rank_in word i → 0 ≡ (if nat_lt i 64 then or_zero (item_from items start word i) else 0)
   read-past small past = elim (cases_Bool (bit_is_set word i)) [
     | inl on ↦
         let yes : nat_lt i 64 ≡ true = lt_yes i 64 small in

@@ -304,6 +304,15 @@ none-laid group none = record {
   all = sym (before-empty group 64 none);
 }
 
+-- the same groups are laid out as well
+pub laid-same : (g h : ℕ → Option Group) (n : ℕ) → ((q : ℕ) → h q ≡ g q) → AreLaidOut g n → AreLaidOut h n
+laid-same g h n same laid = record {
+  nonzero = λ q x small some. laid.nonzero q x small (sym (same q) ∙ some);
+  fits = λ q x small some. laid.fits q x small (sym (same q) ∙ some);
+  starts = λ q x small some. laid.starts q x small (sym (same q) ∙ some) ∙ sym (before-same g h q (λ p low. ap word_or_none (same p)));
+  all = laid.all ∙ sym (before-same g h 64 (λ p low. ap word_or_none (same p)));
+}
+
 -- groups without values between two add none
 pub before-gap : (group : ℕ → Option Group) (p k : ℕ) → ((r : ℕ) → p ≤ r → r < p + k → group r ≡ None) → values_before group (p + k) ≡ values_before group p
 before-gap group p zero none = let e : p + 0 ≡ p = omega arith in ap (values_before group) e

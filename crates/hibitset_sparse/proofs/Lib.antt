@@ -6,12 +6,16 @@ pub mod WordLemmas
 pub mod AppendLemmas
 pub mod LawfulWordLemmas
 pub mod GroupViewLemmas
+pub mod RetainLemmas
 pub mod ExactLemmas
 pub mod ChunkLemmas
 pub mod SetLemmas
+pub mod AddedWordLemmas
 pub mod ReplaceLemmas
+pub mod JoinLemmas
 pub mod ChunksOfLemmas
 pub mod AssignLemmas
+pub mod KeptLemmas
 pub mod MergeLemmas
 pub mod MemberWordLemmas
 pub mod CopyLemmas

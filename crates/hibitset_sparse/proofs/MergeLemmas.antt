@@ -17,7 +17,7 @@ use Rattle.hibitset_sparse.proofs.SetLemmas.{has_under, holds-under, none-under}
 use Rattle.hibitset_sparse.proofs.WordLemmas.{array-none}
 
 -- a chunk has no index under a clear bit of its root
-root-clear : (chunk : Chunk) (p b : ℕ) → b < 64 → bit_at chunk.words.groups.word (p / 64) ≡ 0 → has_in chunk (64 * p + b) ≡ false
+pub root-clear : (chunk : Chunk) (p b : ℕ) → b < 64 → bit_at chunk.words.groups.word (p / 64) ≡ 0 → has_in chunk (64 * p + b) ≡ false
 root-clear chunk p b few off =
     let row : (64 * p + b) / 64 ≡ p = omega (arith, few) in
     let none : value_at chunk.words p ≡ None = ap (option_and_then (value_by_group chunk.words.items.items (p % 64))) (array-none chunk.words.groups (p / 64) off) in

@@ -1,5 +1,5 @@
 -- A set's chunks and members, after a chunk was put in, written over or taken out.
-use Rattle.std.proofs.Common.{◌≡◌, ℕ, ◌+◌, ◌/◌, ◌%◌, ◌^◌, ◌<◌, ◌≤◌, ◌==◌, Bool, true, false, length, Option, Some, None, Result, Ok, Err, OnOk, refl, sym, ◌∙◌, ap, arith, inl, inr}
+use Rattle.std.proofs.Common.{◌≡◌, ℕ, ◌/◌, ◌%◌, ◌^◌, ◌<◌, ◌≤◌, ◌==◌, Bool, true, false, Option, Some, None, Result, Ok, Err, OnOk, refl, sym, ◌∙◌, ap, arith, inl, inr}
 use Rattle.std.specs.Prelude.{◌≢◌, ◌⊎◌, if◌then◌else◌, IsOk}
 use Rattle.std.proofs.lemmas.Bool.{false≢true}
 use Rattle.std.proofs.lemmas.Option.{none-some, same_Some}
@@ -8,7 +8,7 @@ use Rattle.hibitset_base.specs.Words.{holds_at}
 use Rattle.hibitset_sparse.specs.Chunk.{chunk_word, has_in}
 use Rattle.hibitset_sparse.specs.Chunks.{AreFull, word_in}
 use Rattle.hibitset_sparse.specs.Replacement.{CanTakePlace, has_in_or}
-use Rattle.hibitset_sparse.specs.Table.{HasCapacityFor, value_at}
+use Rattle.hibitset_sparse.specs.Table.{HasCapacityFor, HasValue, value_at}
 use Rattle.hibitset_sparse.specs.declared.chunk.Chunk.{Chunk}
 use Rattle.hibitset_sparse.specs.declared.table.Table.{Table}
 use Rattle.hibitset_sparse.proofs.SetLemmas.{has_under, holds-under}
@@ -82,13 +82,10 @@ none-put chunks own before fits = record {
 }
 
 module _ (chunks left next own after : Table Chunk) (before now new : ℕ → Bool) (c : ℕ) (chunk : Chunk)
-    (is : AreBeingPut chunks left own before now) (low : c < 4096) (was : value_at left c ≡ Some chunk) (taken : IsPut left next c None) (one : length left.items.items ≡ length next.items.items + 1) where
+    (is : AreBeingPut chunks left own before now) (low : c < 4096) (was : value_at left c ≡ Some chunk) (taken : IsPut left next c None) where
   -- the next one can be put in
-  pub next-fits : value_at own c ≡ None → 0 < chunk_word chunk 2 0 → HasCapacityFor 1 own
-  next-fits none some = elim is.fits [
-    | inl capacity ↦ capacity-fewer 1 (length left.items.items) own (omega (arith, one)) capacity
-    | inr there ↦ let own-chunk = there c chunk low was some in absurd (none-some own-chunk.0 (sym none ∙ own-chunk.1))
-  ]
+  pub next-fits : 0 < chunk_word chunk 2 0 → HasValue own c
+  next-fits some = is.fits c chunk low was some
 
   in-chunks : value_at chunks c ≡ Some chunk
   in-chunks = elim (is.some c low) [
@@ -99,9 +96,8 @@ module _ (chunks left next own after : Table Chunk) (before now new : ℕ → Bo
   -- it has been put in
   pub one-put : ((i : ℕ) → i < 2 ^ 30 → new i ≡ (if i / 262144 == c then has_in chunk (i % 262144) else now i))
       → ((d : ℕ) → d < 4096 → d ≢ c → value_at after d ≡ value_at own d)
-      → ((n : ℕ) → HasCapacityFor (n + 1) own → HasCapacityFor n after)
       → AreBeingPut chunks next after before new
-  one-put members others capacity = record {
+  one-put members others = record {
     some = λ d small. elim (same_or_not d c) [
       | inl same ↦ inl (ap (value_at next) same ∙ put-here left next c None taken low)
       | inr other ↦ elim (is.some d small) [
@@ -124,14 +120,11 @@ module _ (chunks left next own after : Table Chunk) (before now new : ℕ → Bo
           let there : (if i / 262144 == c then has_in chunk (i % 262144) else now i) ≡ now i = rw (eq_other (i / 262144) c other) refl in
           members i small ∙ (there ∙ is.unput i x small (sym (put-other left next c None taken (i / 262144) (omega (arith, small)) other) ∙ some))
     ];
-    fits = elim is.fits [
-      | inl room ↦ inl (capacity (length next.items.items) (let e : length next.items.items + 1 ≡ length left.items.items = sym one in rw e room))
-      | inr there ↦ inr (λ d x small some full. elim (same_or_not d c) [
-        | inl same ↦ absurd (none-some x (sym (put-here left next c None taken low) ∙ (ap (value_at next) (sym same) ∙ some)))
-        | inr other ↦
-            let own-chunk = there d x small (sym (put-other left next c None taken d small other) ∙ some) full in
-            (own-chunk.0, others d small other ∙ own-chunk.1)
-      ])
+    fits = λ d x small some full. elim (same_or_not d c) [
+      | inl same ↦ absurd (none-some x (sym (put-here left next c None taken low) ∙ (ap (value_at next) (sym same) ∙ some)))
+      | inr other ↦
+          let own-chunk = is.fits d x small (sym (put-other left next c None taken d small other) ∙ some) full in
+          (own-chunk.0, others d small other ∙ own-chunk.1)
     ];
   }
 

@@ -1,5 +1,5 @@
 -- The members of a set, after a chunk was written.
-use Rattle.std.proofs.Common.{◌≡◌, ℕ, ◌/◌, ◌%◌, ◌^◌, ◌<◌, ◌≤◌, ◌==◌, ◌||◌, ◌&&◌, not, Bool, true, false, List, Option, Some, None, Result, Ok, Err, OnOk, OnErr, IfOk, refl, sym, ◌∙◌, ap, arith, inl, inr}
+use Rattle.std.proofs.Common.{◌≡◌, ℕ, ◌+◌, ◌*◌, ◌/◌, ◌%◌, ◌^◌, ◌<◌, ◌≤◌, ◌==◌, ◌||◌, ◌&&◌, not, Bool, true, false, List, Option, Some, None, Result, Ok, Err, OnOk, OnErr, IfOk, refl, sym, ◌∙◌, ap, arith, inl, inr}
 use Rattle.std.proofs.Math.Bool.{or-false}
 use Rattle.std.specs.Prelude.{◌≢◌, if◌then◌else◌}
 use Rattle.std.specs.Int.{bit_at}
@@ -55,24 +55,29 @@ module _ (old new : ℕ → Option Chunk) (id : ℕ) (chunk : Chunk) (put : (c :
       let is : (if id / 262144 == id / 262144 then Some chunk else old (id / 262144)) ≡ Some chunk = rw (eq_same (id / 262144) (id / 262144) refl) refl in
       put (id / 262144) (omega arith) ∙ is
 
-  -- the index was added
-  pub set-added : id < 2 ^ 30 → ((r : ℕ) → r < 262144 → has_in chunk r ≡ (has_under (old (id / 262144)) r || r == id % 262144))
-      → (j : ℕ) → has_under (new (j / 262144)) (j % 262144) ≡ (has_under (old (j / 262144)) (j % 262144) || j == id)
-  set-added within added j = elim (same_or_not (j / 262144) (id / 262144)) [
+  -- the numbers that pass a test were added, all of this chunk
+  pub set-added-by : (test : ℕ → Bool) → ((j : ℕ) → j / 262144 ≢ id / 262144 → test j ≡ false) → id < 2 ^ 30
+      → ((r : ℕ) → r < 262144 → has_in chunk r ≡ (has_under (old (id / 262144)) r || test (262144 * (id / 262144) + r)))
+      → (j : ℕ) → has_under (new (j / 262144)) (j % 262144) ≡ (has_under (old (j / 262144)) (j % 262144) || test j)
+  set-added-by test none within added j = elim (same_or_not (j / 262144) (id / 262144)) [
     | inl here ↦
         let now : has_under (new (j / 262144)) (j % 262144) ≡ has_in chunk (j % 262144) = same-under (Some chunk) (new (j / 262144)) (j % 262144) (ap new here ∙ at-chunk within) in
         let was : has_under (old (id / 262144)) (j % 262144) ≡ has_under (old (j / 262144)) (j % 262144) = same-under (old (j / 262144)) (old (id / 262144)) (j % 262144) (ap old (sym here)) in
-        let same : (j % 262144 == id % 262144) ≡ (j == id) = same-rest j here in
-        now ∙ (added (j % 262144) (omega arith) ∙ (ap (λ b. b || (j % 262144 == id % 262144)) was ∙ ap (λ b. has_under (old (j / 262144)) (j % 262144) || b) same))
-    | inr other ↦
-        let apart : (j == id) ≡ false = eq_other j id (λ e. other (ap (λ x. x / 262144) e)) in
-        elsewhere j other ∙ sym (ap (λ b. has_under (old (j / 262144)) (j % 262144) || b) apart ∙ or-false (has_under (old (j / 262144)) (j % 262144)))
+        let place : 262144 * (id / 262144) + j % 262144 ≡ j = omega (arith, here) in
+        now ∙ (added (j % 262144) (omega arith) ∙ (ap (λ b. b || test (262144 * (id / 262144) + j % 262144)) was ∙ ap (λ i. has_under (old (j / 262144)) (j % 262144) || test i) place))
+    | inr other ↦ elsewhere j other ∙ sym (ap (λ b. has_under (old (j / 262144)) (j % 262144) || b) (none j other) ∙ or-false (has_under (old (j / 262144)) (j % 262144)))
   ]
+
+  -- the index was added
+  pub set-added : id < 2 ^ 30 → ((r : ℕ) → r < 262144 → has_in chunk r ≡ (has_under (old (id / 262144)) r || r == id % 262144))
+      → (j : ℕ) → has_under (new (j / 262144)) (j % 262144) ≡ (has_under (old (j / 262144)) (j % 262144) || j == id)
+  set-added within added = set-added-by (λ j. j == id) (λ j other. eq_other j id (λ e. other (ap (λ x. x / 262144) e))) within
+      (λ r low. added r low ∙ ap (λ b. has_under (old (id / 262144)) r || b) (same-rest r low))
     where
-      same-rest : (j : ℕ) → j / 262144 ≡ id / 262144 → (j % 262144 == id % 262144) ≡ (j == id)
-      same-rest j here = elim (same_or_not j id) [
-        | inl same ↦ eq_same (j % 262144) (id % 262144) (ap (λ x. x % 262144) same) ∙ sym (eq_same j id same)
-        | inr other ↦ eq_other (j % 262144) (id % 262144) (λ rest. other (omega (arith, here, rest))) ∙ sym (eq_other j id other)
+      same-rest : (r : ℕ) → r < 262144 → (r == id % 262144) ≡ (262144 * (id / 262144) + r == id)
+      same-rest r low = elim (same_or_not r (id % 262144)) [
+        | inl same ↦ eq_same r (id % 262144) same ∙ sym (eq_same (262144 * (id / 262144) + r) id (omega (arith, same)))
+        | inr other ↦ eq_other r (id % 262144) other ∙ sym (eq_other (262144 * (id / 262144) + r) id (λ e. other (omega (arith, e, low))))
       ]
 
   -- the members are the same

@@ -11,12 +11,12 @@ use Rattle.hibitset_base.specs.declared.util.TheConstants.{LAYERS}
 use Rattle.hibitset_sparse.specs.Decisions.{lt_no, lt_yes}
 use Rattle.hibitset_sparse.specs.Chunk.{or_zero}
 use Rattle.hibitset_sparse.specs.Rank.{bit_is_set, value_from}
-use Rattle.hibitset_sparse.specs.Parts.{word_from}
+use Rattle.hibitset_sparse.specs.Parts.{item_from}
 use Rattle.hibitset_sparse.specs.declared.group_view.GroupView.{GroupView}
 
 -- the word of a layer at a position; above layer 1 the first bit is always set
 abbrev pub view_word : GroupView → ℕ → ℕ → ℕ
-view_word view zero p = if nat_lt p 64 then or_zero (word_from view.items.now view.start view.word p) else 0
+view_word view zero p = if nat_lt p 64 then or_zero (item_from view.items.now view.start view.word p) else 0
 view_word view (suc zero) p = if p == 0 then view.word else 0
 view_word view (suc (suc l)) p = if p == 0 then 1 else 0
 
@@ -52,7 +52,7 @@ module _ (view : GroupView) where
   over_word p some = elim (cases_lt p 64) [
     | inl low ↦
         let yes : nat_lt p 64 ≡ true = lt_yes p 64 low in
-        let here : 0 < or_zero (word_from view.items.now view.start view.word p) = rw yes at some in
+        let here : 0 < or_zero (item_from view.items.now view.start view.word p) = rw yes at some in
         let row : p / 64 ≡ 0 = omega (arith, low) in
         let bit : p % 64 ≡ p = omega (arith, low) in
         rw (row, bit) (one_from view.word p (λ k. slice_get view.items.now (view.start + k)) here)

@@ -5,6 +5,7 @@ pub mod Layout
 pub mod Table
 pub mod Chunk
 pub mod Parts
+pub mod Retain
 pub mod GroupView
 pub mod Merge
 pub mod Chunks
@@ -12,5 +13,6 @@ pub mod Replacement
 pub mod Copy
 pub mod SparseBitSet
 pub mod Extension
+pub mod AddedWords
 pub mod Walk
 pub mod WholeWalk

@@ -6,15 +6,15 @@ use Rattle.hibitset_sparse.specs.Layout.{AreLaidOut, value_of_place}
 use Rattle.hibitset_sparse.specs.Rank.{value_from}
 use Rattle.hibitset_sparse.specs.declared.group.Group.{Group}
 
--- the word at a bit, if there is one, where words lie in a list from `start` on
-abbrev pub word_from : List ℕ → ℕ → ℕ → ℕ → Option ℕ
-word_from items start = value_from (λ k. slice_get items (start + k))
+-- the value of a bit, where those of the bits that are set lie in a list from `start` on
+abbrev pub item_from : {T : Type 0} → List T → ℕ → ℕ → ℕ → Option T
+item_from items start = value_from (λ k. slice_get items (start + k))
 
 -- A list has one word for each of some bits, from `start` to its end. These words are nonzero, and those of a set.
 pub record AreWordsFrom (start bits : ℕ) (items : List ℕ) (word : ℕ → ℕ) : Type 0 where
   pub counted : length items ≡ start + count_ones bits
-  pub nonzero : (b w : ℕ) → b < 64 → word_from items start bits b ≡ Some w → (0 < w) × (w < 2 ^ 64)
-  pub words : (b : ℕ) → b < 64 → or_zero (word_from items start bits b) ≡ word b
+  pub nonzero : (b w : ℕ) → b < 64 → item_from items start bits b ≡ Some w → (0 < w) × (w < 2 ^ 64)
+  pub words : (b : ℕ) → b < 64 → or_zero (item_from items start bits b) ≡ word b
 
 -- a list begins with another
 abbrev pub BeginsWith : List ℕ → List ℕ → Type 0

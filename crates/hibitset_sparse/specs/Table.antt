@@ -27,6 +27,10 @@ module _ {T : Type 0} where
   abbrev pub group_word : Table T → ℕ → ℕ
   group_word table q = word_or_none (value_in table.groups q)
 
+  -- the place has a value
+  abbrev pub HasValue : Table T → ℕ → Type 0
+  HasValue table i = (x : T) × (value_at table i ≡ Some x)
+
   -- how many values of a table lie before a place
   abbrev pub values_before_place : Table T → ℕ → ℕ
   values_before_place table i = values_before (value_in table.groups) (i / 64) + rank_in (group_word table (i / 64)) (i % 64)

@@ -1,17 +1,15 @@
 //! Assignments: a set put together with any other.
-ghost use Rattle.std.specs.Prelude.{◌≡◌, ℕ, ◌&&◌, not, [], IfOk, IsOk, OnOk, OnErr};
+ghost use Rattle.std.specs.Prelude.{◌≡◌, ℕ, [], IfOk, IsOk, OnOk, OnErr};
 ghost use Rattle.hibitset_base.specs.Connectives.{IsDifference, IsIntersection, IsSymmetricDifference, IsUnion, is_member};
 ghost use Rattle.hibitset_base.specs.Members.{members_below};
 ghost use Rattle.hibitset_base.specs.declared.util.TheConstants.{MAX_EID};
-ghost use Rattle.hibitset_sparse.specs.Replacement.{AreChunksOf};
 ghost use Rattle.hibitset_sparse.specs.SparseBitSet.{has};
 
-use crate::chunk::Chunk;
 use crate::gather::chunks_of;
+use crate::kept::{Alone, Both};
 use crate::set::SparseBitSet;
-use crate::table::Table;
-use hibitset_base::like::{BitSetLike, DrainableBitSet};
-use hibitset_base::virt::{BitSetAnd, BitSetNot, BitSetOr, BitSetXor};
+use hibitset_base::like::BitSetLike;
+use hibitset_base::virt::{BitSetOr, BitSetXor};
 use std::alloc::{AllocError, Global};
 use std::ops::{BitAndAssign, SubAssign};
 
@@ -28,8 +26,8 @@ impl SparseBitSet {
 
     /// Adds the members of any other set. If an allocation fails, the members stay.
     ///
-    /// Only chunks in which the other has members are made anew, each beside its old form; the others stay where they
-    /// are. It can't fail if the other has none.
+    /// Only chunks in which the other has members are made anew, each beside its old form. Where one of them is new, so
+    /// is the list of all chunks, 56 bytes each. It can't fail if the other has none.
     pub fn bitor_assign<B: BitSetLike>(&mut self, other: &B) -> Result<(), AllocError>
         ensures members { OnOk result (IsUnion (has self.old) (is_member (B.holds other.now))
             (has self.new)) }
@@ -41,16 +39,14 @@ impl SparseBitSet {
         }
         let alloc = self.allocator();
         let chunks = chunks_of(alloc, &BitSetOr(&*self, other), other)?;
-        self.reserve_chunks(chunks.items.len())?;
-        self.put_chunks(chunks);
-        Ok(())
+        self.put_chunks(chunks)
     }
 
     /// Adds the members of any other set that were not there, and takes out those that were. If an allocation fails,
     /// the members stay.
     ///
-    /// Only chunks in which the other has members are made anew, each beside its old form; the others stay where they
-    /// are. It can't fail if the other has none.
+    /// Only chunks in which the other has members are made anew, each beside its old form. Where one of them is new, so
+    /// is the list of all chunks, 56 bytes each. It can't fail if the other has none.
     pub fn bitxor_assign<B: BitSetLike>(&mut self, other: &B) -> Result<(), AllocError>
         ensures members { OnOk result (IsSymmetricDifference (has self.old)
             (is_member (B.holds other.now)) (has self.new)) }
@@ -62,52 +58,32 @@ impl SparseBitSet {
         }
         let alloc = self.allocator();
         let chunks = chunks_of(alloc, &BitSetXor(&*self, other), other)?;
-        self.reserve_chunks(chunks.items.len())?;
-        self.put_chunks(chunks);
-        Ok(())
+        self.put_chunks(chunks)
     }
 
-    /// Takes out the members that are in the other set. It can't fail.
+    /// Takes out the members that are in the other set. It can't fail, and does not allocate.
     ///
-    /// Chunks in which both have members are made anew, beside their old forms. Where an allocation fails, members are
-    /// taken out one by one.
+    /// It goes through the words of this set once, in the chunks in which the other has members, and looks up those of
+    /// the other. They are changed where they lie, and those that are left close up.
     pub fn subtract_assign<B: BitSetLike>(&mut self, other: &B)
         ensures { IsDifference (has self.old) (B.holds other.now) (has self.new) }
     {
-        let kept = BitSetNot(other);
-        let alloc = self.allocator();
-        let chunks = chunks_of(alloc, &BitSetAnd(&*self, &kept), &BitSetAnd(&*self, other));
-        self.keep(chunks, &kept);
-    }
-
-    // Takes out what is not in another set: puts chunks in the place of the set's own that have what is in both, or goes
-    // one by one where there was no memory for them.
-    pub(crate) fn keep<K: BitSetLike>(&mut self, chunks: Result<Table<Chunk>, AllocError>, kept: &K)
-        requires made { IfOk chunks (AreChunksOf (λ i. has self.old i && K.holds kept.now i)
-            (λ i. has self.old i && not (K.holds kept.now i))) }
-        ensures { IsIntersection (has self.old) (K.holds kept.now) (has self.new) }
-    {
-        match chunks {
-            Ok(chunks) => self.put_chunks(chunks),
-            Err(_) => self.retain(|i| kept.contains(i)),
-        }
+        self.retain_chunks(&Alone(other));
     }
 }
 
-/// Takes out the members that are not in the other set. It can't fail.
+/// Takes out the members that are not in the other set. It can't fail, and does not allocate.
 ///
-/// All chunks are made anew, beside their old forms. Where an allocation fails, members are taken out one by one.
+/// It goes through the words of this set as `subtract_assign` does.
 impl<B: BitSetLike> BitAndAssign<&B> for SparseBitSet {
     ghost bitand_assign_gives = { λ old other new. IsIntersection (has old) (B.holds other.now) (has new) };
 
     fn bitand_assign(&mut self, other: &B) {
-        let alloc = self.allocator();
-        let chunks = chunks_of(alloc, &BitSetAnd(&*self, other), &*self);
-        self.keep(chunks, other);
+        self.retain_chunks(&Both(other));
     }
 }
 
-/// Takes out the members that are in the other set, as `subtract_assign` does. It can't fail.
+/// Takes out the members that are in the other set, as `subtract_assign` does. It can't fail, and does not allocate.
 impl<B: BitSetLike> SubAssign<&B> for SparseBitSet {
     ghost sub_assign_gives = { λ old other new. IsDifference (has old) (B.holds other.now) (has new) };
 

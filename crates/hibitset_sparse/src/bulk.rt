@@ -20,8 +20,8 @@ use crate::walk::WordIter;
 use hibitset_base::util::{Index, MAX_EID};
 use std::alloc::{AllocError, Global};
 
-// How many bits the words have that are set: how many members they have at any places of a chunk.
-fn count_words(words: &[usize]) -> usize
+/// How many bits the words have that are set: how many members they have at any places of a chunk.
+pub(crate) fn count_words(words: &[usize]) -> usize
     requires { length words.now ≤ PLACES_PER_TABLE }
     ensures counted { (base : ℕ) (places : List ℕ) → length places ≡ length words.now
         → result ≡ length (in_words base (zip places words.now)) }

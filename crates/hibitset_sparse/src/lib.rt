@@ -21,7 +21,8 @@
 //! }
 //! ```
 //!
-//! - `add`, `remove`, `contains`, `clear`; ranges; assignments; building from iterators, slices and other sets.
+//! - `add`, `remove`, `contains`, `clear`; ranges; assignments; whole words; building from iterators, slices and other
+//!   sets.
 //! - `BitSetLike` and `DrainableBitSet` have the rest: `iter`, `rank`, `first`, `is_subset`, `drain`, `retain`.
 //! - `laws` has what holds of all sparse sets, for proofs of callers.
 #![tactic(auto)]
@@ -35,6 +36,7 @@ mod copy;
 mod gather;
 mod group;
 mod group_view;
+mod kept;
 pub mod laws;
 pub mod merge;
 pub mod ops;
@@ -42,11 +44,14 @@ mod packed_array;
 pub mod range;
 mod rank;
 mod replace;
+mod retain;
+mod select;
 pub mod set;
 mod shrink;
 mod table;
 mod table_iter;
 pub mod walk;
+pub mod words;
 
 pub use set::SparseBitSet;
 pub use walk::SparseIter;

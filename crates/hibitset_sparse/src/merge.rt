@@ -1,5 +1,5 @@
 //! Two sparse sets put together, chunk beside chunk.
-ghost use Rattle.std.specs.Prelude.{◌≡◌, ◌≢◌, ℕ, ◌+◌, ◌*◌, ◌/◌, ◌%◌, ◌<◌, Bool, false, ◌||◌, ◌&&◌, not, [], IfOk, IsOk, OnOk, OnErr};
+ghost use Rattle.std.specs.Prelude.{◌≡◌, ◌≢◌, ℕ, ◌+◌, ◌*◌, ◌/◌, ◌%◌, ◌<◌, Bool, false, refl, ◌||◌, [], IfOk, IsOk, OnOk, OnErr};
 ghost use Rattle.hibitset_base.specs.Connectives.{IsDifference, IsIntersection, IsSymmetricDifference, IsUnion};
 ghost use Rattle.hibitset_base.specs.Members.{members_below};
 ghost use Rattle.hibitset_base.specs.Virtual.{differ};
@@ -18,12 +18,13 @@ use crate::chunk::Chunk;
 use crate::gather::{ChunkSource, chunks_from, push_group};
 use crate::group::Group;
 use crate::group_view::GroupView;
+use crate::kept::{AloneSparse, BothSparse};
 use crate::packed_array::PackedArray;
 use crate::rank::take_lowest;
 use crate::set::SparseBitSet;
 use crate::table::{GROUPS_PER_TABLE, PLACES_PER_TABLE, Table};
 use hibitset_base::like::BitSetLike;
-use hibitset_base::virt::{BitSetAnd, BitSetNot, BitSetOr, BitSetXor};
+use hibitset_base::virt::{BitSetOr, BitSetXor};
 use std::alloc::{AllocError, Global};
 
 /// A way to put two sets together, index by index.
@@ -55,6 +56,9 @@ trait Merge: Drop {
         ensures others { OnOk result ((p : ℕ) → p < PLACES_PER_TABLE → p / 64 ≢ q
             → value_of_place (value_in groups.new) items.new.items p
             ≡ value_of_place (value_in groups.old) items.old.items p) };
+
+    // Of what is in the other alone, all is there.
+    ghost other_alone: { (b : Bool) → test false b ≡ b };
 }
 
 /// What is in one or both.
@@ -63,6 +67,8 @@ struct Union;
 
 impl Merge for Union {
     ghost test = { λ a b. a || b };
+
+    ghost other_alone = { λ b. refl };
 
     #[inline]
     fn merged_bits(own: usize, other: usize) -> usize {
@@ -86,70 +92,14 @@ impl Merge for Union {
     }
 }
 
-/// What is in both.
-#[derive(Drop)]
-struct Intersection;
-
-impl Merge for Intersection {
-    ghost test = { λ a b. a && b };
-
-    #[inline]
-    fn merged_bits(own: usize, other: usize) -> usize {
-        own & other
-    }
-
-    #[inline]
-    fn most_words(own: usize, other: usize) -> usize {
-        own.min(other)
-    }
-
-    #[inline]
-    fn push_merged(
-        groups: &mut PackedArray<Group>,
-        items: &mut Vec<usize>,
-        own: &GroupView<'_>,
-        other: &GroupView<'_>,
-        q: usize,
-    ) -> Result<(), AllocError> {
-        push_group(groups, items, &BitSetAnd(own, other), 0, q)
-    }
-}
-
-/// What is in the one and not in the other.
-#[derive(Drop)]
-struct Difference;
-
-impl Merge for Difference {
-    ghost test = { λ a b. a && not b };
-
-    #[inline]
-    fn merged_bits(own: usize, _other: usize) -> usize {
-        own
-    }
-
-    #[inline]
-    fn most_words(own: usize, _other: usize) -> usize {
-        own
-    }
-
-    #[inline]
-    fn push_merged(
-        groups: &mut PackedArray<Group>,
-        items: &mut Vec<usize>,
-        own: &GroupView<'_>,
-        other: &GroupView<'_>,
-        q: usize,
-    ) -> Result<(), AllocError> {
-        push_group(groups, items, &BitSetAnd(own, BitSetNot(other)), 0, q)
-    }
-}
-
 /// What is in one alone.
 #[derive(Drop)]
 struct SymmetricDifference;
 
 impl Merge for SymmetricDifference {
     ghost test = { λ a b. differ a b };
+
+    ghost other_alone = { λ b. refl };
 
     #[inline]
     fn merged_bits(own: usize, other: usize) -> usize {
@@ -222,6 +172,9 @@ impl<M: Merge> ChunkSource for Merged<'_, M> {
         let empty = Chunk::new(alloc);
         let own = chunk_or(self.own, c, &empty);
         let other = chunk_or(self.other, c, &empty);
+        if own.layer2() == 0 {
+            return other.clone();
+        }
         merge_chunks::<M>(alloc, own, other)
     }
 }
@@ -229,8 +182,9 @@ impl<M: Merge> ChunkSource for Merged<'_, M> {
 impl SparseBitSet {
     /// Adds the members of another sparse set. If an allocation fails, the members stay.
     ///
-    /// It goes through the words of both sets in the chunks in which the other has members. These are made anew, each
-    /// beside its old form; the others stay where they are. It can't fail if the other has none.
+    /// It goes through the words of both sets in the chunks in which both have members, and copies those of the other.
+    /// These are made anew, each beside its old form. Where one of them is new, so is the list of all chunks, 56 bytes each. It can't fail if the
+    /// other has none.
     pub fn union_with(&mut self, other: &SparseBitSet) -> Result<(), AllocError>
         ensures members { OnOk result (IsUnion (has self.old) (has other.now) (has self.new)) }
         ensures err { OnErr result ((i : ℕ) → has self.new i ≡ has self.old i) }
@@ -246,9 +200,7 @@ impl SparseBitSet {
             by: Union,
         };
         let chunks = chunks_from(alloc, &merged, other)?;
-        self.reserve_chunks(chunks.items.len())?;
-        self.put_chunks(chunks);
-        Ok(())
+        self.put_chunks(chunks)
     }
 
     /// Adds the members of another sparse set that were not there, and takes out those that were. If an allocation
@@ -271,42 +223,25 @@ impl SparseBitSet {
             by: SymmetricDifference,
         };
         let chunks = chunks_from(alloc, &merged, other)?;
-        self.reserve_chunks(chunks.items.len())?;
-        self.put_chunks(chunks);
-        Ok(())
+        self.put_chunks(chunks)
     }
 
-    /// Takes out the members that are not in the other sparse set. It can't fail.
+    /// Takes out the members that are not in the other sparse set. It can't fail, and does not allocate.
     ///
-    /// It goes through the words of both sets in the chunks of this one. These are made anew, beside their old forms.
-    /// Where an allocation fails, members are taken out one by one.
+    /// It goes through the words of this set once, in the chunks in which both have members. They are changed where
+    /// they lie, and those that are left close up.
     pub fn intersect_with(&mut self, other: &SparseBitSet)
         ensures { IsIntersection (has self.old) (has other.now) (has self.new) }
     {
-        let alloc = self.allocator();
-        let merged = Merged {
-            own: &*self,
-            other,
-            by: Intersection,
-        };
-        let chunks = chunks_from(alloc, &merged, &*self);
-        self.keep(chunks, other);
+        self.retain_chunks(&BothSparse(other));
     }
 
-    /// Takes out the members that are in the other sparse set. It can't fail.
+    /// Takes out the members that are in the other sparse set. It can't fail, and does not allocate.
     ///
-    /// It goes through the words of both sets in the chunks in which both have members. These are made anew, beside
-    /// their old forms. Where an allocation fails, members are taken out one by one.
+    /// It goes through the words of this set as `intersect_with` does.
     pub fn difference_with(&mut self, other: &SparseBitSet)
         ensures { IsDifference (has self.old) (has other.now) (has self.new) }
     {
-        let alloc = self.allocator();
-        let merged = Merged {
-            own: &*self,
-            other,
-            by: Difference,
-        };
-        let chunks = chunks_from(alloc, &merged, &BitSetAnd(&*self, other));
-        self.keep(chunks, &BitSetNot(other));
+        self.retain_chunks(&AloneSparse(other));
     }
 }

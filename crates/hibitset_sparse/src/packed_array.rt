@@ -45,7 +45,7 @@ impl<T: Drop> PackedArray<T> {
         Some(&self.items[rank(self.word, bit)])
     }
 
-    /// Reserves capacity for so many values more. Whatever it returns, the values are the same.
+    /// Reserves capacity for `count` more values. Whatever it returns, the values are the same.
     #[inline]
     pub(crate) fn reserve(&mut self, count: usize) -> Result<(), AllocError>
         ensures word { self.new.word ≡ self.old.word }

@@ -26,7 +26,7 @@ impl SparseBitSet {
         self.bitor_assign(&BitSetRange { start, end })
     }
 
-    /// Takes the indices from `start` on before `end` out, for any two numbers. It can't fail.
+    /// Takes the indices from `start` on before `end` out, for any two numbers. It can't fail, and does not allocate.
     pub fn remove_range(&mut self, start: Index, end: Index)
         ensures { (i : ℕ) → has self.new i ≡ (has self.old i && not (in_range start end i)) }
     {

@@ -8,6 +8,7 @@ ghost use Rattle.hibitset_sparse.specs.Chunks.{AreFull, word_in};
 
 use crate::bulk::{count_before, count_members, list_members};
 use crate::chunk::{Chunk, INDICES_PER_CHUNK};
+use crate::select::nth_member;
 use crate::table::{PLACES_PER_TABLE, Table};
 use crate::walk::SparseIter;
 use hibitset_base::like::{BitSetLike, DrainableBitSet};
@@ -25,7 +26,7 @@ pub struct SparseBitSet {
 }
 
 impl SparseBitSet {
-    ghost use Rattle.std.specs.Prelude.{◌≤◌, length, min};
+    ghost use Rattle.std.specs.Prelude.{◌≤◌, length, min, slice_get};
     ghost use Rattle.std.specs.Iterator.{YieldsFirst};
     ghost use Rattle.std.specs.Iterator.Runs.{YieldsInOrder};
     ghost use Rattle.hibitset_base.specs.Members.{members_below};
@@ -131,6 +132,15 @@ impl SparseBitSet {
             return self.len();
         }
         count_before(&self.chunks, end)
+    }
+
+    /// The member at a position of the ascending list of all, the least one at 0, or `None` past its end.
+    ///
+    /// It reads each stored word up to that member's once, 8 bytes, and those of its chunk up to it once more.
+    pub fn select(&self, at: usize) -> Option<Index>
+        ensures { result ≡ slice_get (members_below MAX_EID (has self.now)) at }
+    {
+        nth_member(&self.chunks, at)
     }
 
     /// Takes all members out, and gives the memory back.

@@ -8,7 +8,7 @@ ghost use Rattle.std.specs.Int.{bit_at};
 
 use crate::group::Group;
 use crate::packed_array::PackedArray;
-use crate::rank::{is_set, rank};
+use crate::rank::{is_set, rank, take_lowest};
 use hibitset_base::bits::{last_bit, with_bit};
 use std::alloc::{AllocError, Global};
 
@@ -139,7 +139,7 @@ fn put<T: Drop>(items: &mut Vec<T>, at: usize, value: T)
 }
 
 impl<T: Drop> Table<T> {
-    ghost use Rattle.hibitset_sparse.specs.Table.{value_at, values_before_place, group_word, HasCapacityFor, IsSameTable};
+    ghost use Rattle.hibitset_sparse.specs.Table.{value_at, values_before_place, group_word, HasCapacityFor, HasValue, IsSameTable};
 
     /// No place has a value. It does not allocate.
     #[inline]
@@ -243,7 +243,23 @@ impl<T: Drop> Table<T> {
         self.start(i / 64) + rank(self.word(i / 64), i % 64)
     }
 
-    /// Reserves capacity for so many values more. Whatever it returns, the table is the same.
+    /// Whether each place that has a value in another table has one here too.
+    pub(crate) fn covers(&self, other: &Table<T>) -> bool
+        ensures { result ≡ true → (i : ℕ) (x : T) → i < PLACES_PER_TABLE
+            → value_at other.now i ≡ Some x → HasValue self.now i }
+    {
+        let mut left = other.groups.word;
+        'groups: while left != 0 {
+            let q = take_lowest(&mut left);
+            let word = self.word(q);
+            if other.word(q) | word != word {
+                return false;
+            }
+        }
+        true
+    }
+
+    /// Reserves capacity for `count` more values. Whatever it returns, the table is the same.
     pub(crate) fn reserve(&mut self, count: usize) -> Result<(), AllocError>
         ensures same { IsSameTable self.old self.new }
         ensures reserved { OnOk result (HasCapacityFor count self.new) }

@@ -24,7 +24,7 @@ pub(crate) struct WordIter<'a> {
 }
 
 impl<'a> WordIter<'a> {
-    ghost use Rattle.hibitset_sparse.specs.Walk.{members_left, members_of, words_ahead};
+    ghost use Rattle.hibitset_sparse.specs.Walk.{entries_of, in_words, members_left, members_of, words_ahead};
 
     /// A walk over the words of all chunks.
     #[inline]
@@ -35,6 +35,19 @@ impl<'a> WordIter<'a> {
             chunks: TableIter::new(chunks),
             words: TableIter::empty(),
             base: 0,
+        }
+    }
+
+    /// A walk over the words of one chunk, whose first index is `base`.
+    #[inline]
+    pub(crate) fn of_chunk(chunk: &'a Chunk, base: usize) -> WordIter<'a>
+        requires { base + INDICES_PER_CHUNK ≤ MAX_EID }
+        ensures { members_left result ≡ in_words base (entries_of chunk.now.words) }
+    {
+        WordIter {
+            chunks: TableIter::empty(),
+            words: TableIter::new(&chunk.words),
+            base,
         }
     }
 

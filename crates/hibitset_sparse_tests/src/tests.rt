@@ -6,6 +6,7 @@ mod changes;
 mod lists;
 mod order;
 mod ranges;
+mod words;
 
 use hibitset::{BitSet, BitSetLike, Index, MAX_EID};
 use hibitset_sparse::SparseBitSet;

@@ -8,6 +8,7 @@ mod drains;
 mod indices;
 mod life;
 mod made;
+mod once;
 mod operators;
 mod order;
 mod parallel;

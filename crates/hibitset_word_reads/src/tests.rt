@@ -4,6 +4,7 @@
 mod clones;
 mod ends;
 mod joins;
+mod once;
 mod parts;
 mod reach;
 mod reads;

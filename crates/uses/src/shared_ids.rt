@@ -1,7 +1,7 @@
 //! Identifiers that many threads take from one set, none of them twice.
-ghost use Rattle.std.specs.Prelude.{◌≡◌, ◌⊎◌, ℕ, ◌+◌, ◌<◌, ◌≤◌, ◌∷◌, [], true, Contains, IfSome, IfNone, length, reverse};
+ghost use Rattle.std.specs.Prelude.{◌≡◌, ◌⊎◌, ℕ, ◌+◌, ◌-◌, ◌*◌, ◌<◌, ◌≤◌, ◌∷◌, [], true, Contains, IfSome, IfNone, MatchOption, length, min, reverse};
 ghost use Rattle.hibitset_atomic.specs.declared.atomic.TheConstants.{ATOMIC_MAX_EID};
-ghost use Rattle.hibitset_atomic.specs.Seats.{IsOld, BelongsTo, IsKnown, weight_of, reports_of};
+ghost use Rattle.hibitset_atomic.specs.Seats.{IsOld, BelongsTo, IsKnown, weight_of, reports_of, loads_by};
 
 use hibitset::{ATOMIC_MAX_EID, Index, Seat, SharedBitSet};
 use std::alloc::Global;
@@ -20,7 +20,7 @@ pub struct Taken {
 ///
 /// It was not there when the set was shared, nor did the seat know it, and it is the newest of the seat's reports from
 /// then on. No two seats that are joined have a report in common, as `join` says, so no other of them is given it,
-/// whatever the threads do.
+/// whatever the threads do. It makes at most seven loads for each index that it tries.
 pub fn take_fresh(set: &SharedBitSet, seat: &mut Seat, start: Index, tries: u32) -> Option<Index>
     requires { BelongsTo set.now seat.old }
     ensures came { BelongsTo set.now seat.new × (weight_of seat.new ≡ weight_of seat.old) }
@@ -34,6 +34,9 @@ pub fn take_fresh(set: &SharedBitSet, seat: &mut Seat, start: Index, tries: u32)
     ensures none { IfNone result (reports_of seat.new ≡ reports_of seat.old) }
     ensures all { IfNone result ((i : ℕ) → start ≤ i → i < start + tries → i < ATOMIC_MAX_EID
         → IsKnown seat.new i) }
+    ensures loads { MatchOption result
+        (loads_by seat.new ≤ loads_by seat.old + 7 * (min (start + tries) ATOMIC_MAX_EID - start))
+        (λ id. loads_by seat.new ≤ loads_by seat.old + 7 * (id + 1 - start)) }
 {
     let end = start.saturating_add(tries).min(ATOMIC_MAX_EID as Index);
     for id in start..end {
@@ -54,6 +57,7 @@ fn take_into(set: &SharedBitSet, seat: &mut Seat, ids: &mut Vec<Index>, count: u
     ensures count { length ids.new.items ≤ count }
     ensures short { (length ids.new.items ≡ count) ⊎ (result ≡ true)
         ⊎ ((i : ℕ) → i < ATOMIC_MAX_EID → IsKnown seat.new i) }
+    ensures loads { loads_by seat.new ≤ loads_by seat.old + 7 * ATOMIC_MAX_EID }
 {
     let mut start = 0;
     for _ in 0..count {
@@ -71,7 +75,8 @@ fn take_into(set: &SharedBitSet, seat: &mut Seat, ids: &mut Vec<Index>, count: u
 
 /// Takes so many fresh identifiers with a new seat. It takes fewer only where memory for the list is refused, as
 /// `refused` tells, and where each index below `ATOMIC_MAX_EID` is there, as the seat then knows. Room is made before
-/// one is taken, so that none is lost.
+/// one is taken, so that none is lost. Each index is tried at most once: however many are taken, it makes at most
+/// seven loads for each index below `ATOMIC_MAX_EID`.
 pub fn take_many(alloc: Global, set: &SharedBitSet, seat: Seat, count: usize) -> Taken
     requires { BelongsTo set.now seat × (reports_of seat ≡ []) }
     ensures came { BelongsTo set.now result.seat × (weight_of result.seat ≡ weight_of seat) }
@@ -79,6 +84,7 @@ pub fn take_many(alloc: Global, set: &SharedBitSet, seat: Seat, count: usize) ->
     ensures count { length result.ids.items ≤ count }
     ensures short { (length result.ids.items ≡ count) ⊎ (result.refused ≡ true)
         ⊎ ((i : ℕ) → i < ATOMIC_MAX_EID → IsKnown result.seat i) }
+    ensures loads { loads_by result.seat ≤ loads_by seat + 7 * ATOMIC_MAX_EID }
 {
     let mut seat = seat;
     let mut ids = Vec::new(alloc);

@@ -8,6 +8,7 @@ use std::test::Fail;
 use uses::walks::{first, indices};
 
 mod atomic_lists;
+mod costs;
 mod held;
 mod ids;
 mod marks;

@@ -191,6 +191,16 @@ fn columns_in_order(rt: HostRuntime) -> Result<(), Fail> {
     ask(&rt)
 }
 
+// While there is room for one more page, pages are not laid out in order: three take room for four.
+// allocates: none
+#[test]
+fn columns_with_room_for_a_page(rt: HostRuntime) -> Result<(), Fail> {
+    let mut column = column_of(rt.alloc(), &[(550, 5), (600, 6), (700, 7)])?;
+    ask(&rt)?;
+    assert!(rt; column.insert(750, 8) == Ok(None));
+    ask(&rt)
+}
+
 // Gives each of these indices its first value, and returns whether no allocation failed.
 fn inserts_row(column: &mut Column<u32>, from: Index, to: Index) -> bool
     requires { to < MAX_EID }

@@ -254,6 +254,57 @@ fn bitxor_assign(rt: HostRuntime) -> Result<(), Fail> {
     Ok(())
 }
 
+// A set with room for 64 words, which is more than half of what the other one needs.
+fn with_half_of_the_room(alloc: Global) -> Result<BitSet, AllocError> {
+    let mut set = BitSet::with_capacity(alloc, 4_096)?;
+    set.add(3)?;
+    Ok(set)
+}
+
+// It makes room for the 94 words that are needed, and those over them.
+// allocates: 1, 784 bytes: hibitset::BitSet::bitor_assign
+#[test]
+fn bitor_assign_past_the_room(rt: HostRuntime) -> Result<(), Fail> {
+    let other = set_of(rt.alloc(), &[6_015])?;
+    let mut set = with_half_of_the_room(rt.alloc())?;
+    let united = tried!(&rt, joined(&mut set, &other));
+    if united.is_err() {
+        assert_has(&rt, &set, &[3]);
+        joined(&mut set, &other)?;
+    }
+    assert_has(&rt, &set, &[3, 6_015]);
+    Ok(())
+}
+
+// allocates: 1, 784 bytes: hibitset::BitSet::bitxor_assign
+#[test]
+fn bitxor_assign_past_the_room(rt: HostRuntime) -> Result<(), Fail> {
+    let other = set_of(rt.alloc(), &[3, 6_015])?;
+    let mut set = with_half_of_the_room(rt.alloc())?;
+    let changed = tried!(&rt, differing(&mut set, &other));
+    if changed.is_err() {
+        assert_has(&rt, &set, &[3]);
+        differing(&mut set, &other)?;
+    }
+    assert_has(&rt, &set, &[6_015]);
+    Ok(())
+}
+
+// The next word then takes an allocation, of room for 128.
+// allocates: 1, 1_056 bytes: hibitset::BitSet::add
+#[test]
+fn add_past_a_union(rt: HostRuntime) -> Result<(), Fail> {
+    let mut set = with_half_of_the_room(rt.alloc())?;
+    joined(&mut set, &set_of(rt.alloc(), &[6_015])?)?;
+    let added = tried!(&rt, added(&mut set, 6_016));
+    if added.is_err() {
+        assert_has(&rt, &set, &[3, 6_015]);
+        assert_new(&rt, &mut set, 6_016)?;
+    }
+    assert_has(&rt, &set, &[3, 6_015, 6_016]);
+    Ok(())
+}
+
 const ITEMS: [Index; 3] = [6, FAR, 7];
 
 // What is made of the items, or of references to them.
@@ -424,6 +475,37 @@ fn to_vec_of_a_member_a_word(rt: HostRuntime) -> Result<(), Fail> {
     let set = one_a_word(rt.alloc())?;
     let list = retried!(&rt, list_of(rt.alloc(), &set));
     assert_list(&rt, &set, list.as_slice(), 40, 3_900);
+    Ok(())
+}
+
+// The set of so many members from the first on in each of 32 words.
+fn few_a_word(alloc: Global, members: Index) -> Result<BitSet, AllocError> {
+    let mut set = BitSet::with_capacity(alloc, 2_048)?;
+    for word in 0..32u32 {
+        for member in 0..members.min(64) {
+            set.add(64 * word + member)?;
+        }
+    }
+    Ok(set)
+}
+
+// allocates: 1, 256 bytes: hibitset_base::BitSetLike::to_vec
+#[test]
+fn to_vec_of_two_members_a_word(rt: HostRuntime) -> Result<(), Fail> {
+    let set = few_a_word(rt.alloc(), 2)?;
+    let list = retried!(&rt, list_of(rt.alloc(), &set));
+    assert_list(&rt, &set, list.as_slice(), 64, 1_985);
+    assert!(rt; list.capacity() == 64);
+    Ok(())
+}
+
+// allocates: 1, 384 bytes: hibitset_base::BitSetLike::to_vec
+#[test]
+fn to_vec_of_three_members_a_word(rt: HostRuntime) -> Result<(), Fail> {
+    let set = few_a_word(rt.alloc(), 3)?;
+    let list = retried!(&rt, list_of(rt.alloc(), &set));
+    assert_list(&rt, &set, list.as_slice(), 96, 1_986);
+    assert!(rt; list.capacity() == 96);
     Ok(())
 }
 

@@ -1,11 +1,13 @@
 //! Sets read from streams and written to them.
 use crate::tests::{ask, assert_has, say};
 use hibitset::BitSet;
-use hibitset_roaring::laws::{round_trip, round_trip_optimized};
+use hibitset_roaring::laws::{round_trip, round_trip_optimized, round_trip_sparse};
 use hibitset_roaring::{
-    ReadFromError, read, read_below, read_from, write, write_into, write_like, write_run_optimized,
-    write_run_optimized_to, write_to, write_words,
+    ReadFromError, read, read_below, read_from, read_sparse, read_sparse_below, read_sparse_from,
+    write, write_into, write_like, write_run_optimized, write_run_optimized_to, write_to,
+    write_words,
 };
+use hibitset_sparse::SparseBitSet;
 use hibitset_testing::sets::set_of;
 use std::alloc::{AllocError, Global};
 use std::io::{self, ErrorKind, Read};
@@ -45,6 +47,43 @@ fn read_from_a_reader(rt: HostRuntime) -> Result<(), Fail> {
     let made = tried!(&rt, read_from(rt.alloc(), &mut STREAM.as_slice(), 2));
     assert!(rt; made.is_ok() || lacks_memory(&made));
     let set = or_again!(made, read_from(rt.alloc(), &mut STREAM.as_slice(), 2));
+    assert_has(&rt, &set, &[5, 70_000]);
+    Ok(())
+}
+
+// The stream of {1073741823}, which a `BitSet` takes 136 MB for.
+const LAST: [u8; 18] = [
+    58, 48, 0, 0, 1, 0, 0, 0, 255, 63, 0, 0, 16, 0, 0, 0, 255, 255,
+];
+
+// The words of a container, the groups and the words of a chunk, and those of the table of chunks.
+// allocates: 5, 8_576 bytes: hibitset_roaring::read_sparse
+#[test]
+fn read_the_last_index(rt: HostRuntime) -> Result<(), Fail> {
+    let set = retried!(&rt, read_sparse(rt.alloc(), &LAST));
+    assert_has(&rt, &set, &[1_073_741_823]);
+    Ok(())
+}
+
+// The same, for two containers of one chunk.
+// allocates: 5, 8_576 bytes: hibitset_roaring::read_sparse_below
+#[test]
+fn read_a_sparse_set_with_a_bound(rt: HostRuntime) -> Result<(), Fail> {
+    let set = retried!(&rt, read_sparse_below(rt.alloc(), &STREAM, 2));
+    assert_has(&rt, &set, &[5, 70_000]);
+    Ok(())
+}
+
+// The bytes, and the same.
+// allocates: 6, 8_604 bytes: hibitset_roaring::read_sparse_from
+#[test]
+fn read_a_sparse_set_from_a_reader(rt: HostRuntime) -> Result<(), Fail> {
+    let made = tried!(&rt, read_sparse_from(rt.alloc(), &mut STREAM.as_slice(), 2));
+    assert!(rt; made.is_ok() || matches!(made, Err(ReadFromError::Memory)));
+    let set = or_again!(
+        made,
+        read_sparse_from(rt.alloc(), &mut STREAM.as_slice(), 2)
+    );
     assert_has(&rt, &set, &[5, 70_000]);
     Ok(())
 }
@@ -92,8 +131,8 @@ fn write_a_set(rt: HostRuntime) -> Result<(), Fail> {
     Ok(())
 }
 
-// The words of what two sets have in common, in four layers, and then as a `BitSet` is written.
-// allocates: 4, 9_004 bytes: hibitset_roaring::write_like
+// As a `BitSet` is written: no words are kept.
+// allocates: 3, 92 bytes: hibitset_roaring::write_like
 #[test]
 fn write_a_virtual_set(rt: HostRuntime) -> Result<(), Fail> {
     let first = set_of(rt.alloc(), &[5, 6, 70_000])?;
@@ -195,6 +234,18 @@ fn write_runs_behind_a_byte(rt: HostRuntime) -> Result<(), Fail> {
 fn round_trip_with_runs(rt: HostRuntime) -> Result<(), Fail> {
     let set = set_of(rt.alloc(), &[5, 70_000])?;
     let copy: BitSet = retried!(&rt, round_trip_optimized(rt.alloc(), &set));
+    assert_has(&rt, &copy, &[5, 70_000]);
+    Ok(())
+}
+
+// The stream, as any set is written, and what is read of it.
+// allocates: 8, 8_668 bytes: hibitset_roaring::round_trip_sparse
+#[test]
+fn round_trip_of_a_sparse_set(rt: HostRuntime) -> Result<(), Fail> {
+    let mut set = SparseBitSet::new(rt.alloc());
+    set.add(5)?;
+    set.add(70_000)?;
+    let copy: SparseBitSet = retried!(&rt, round_trip_sparse(rt.alloc(), &set));
     assert_has(&rt, &copy, &[5, 70_000]);
     Ok(())
 }

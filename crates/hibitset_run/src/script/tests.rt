@@ -1,4 +1,5 @@
 //! Lines of set commands: what each is read as, and the answers to a script.
+mod calls;
 mod streams;
 
 use super::*;

@@ -1,4 +1,6 @@
 //! Parts of a walk that wait for one another, which only threads that run side by side get through.
+mod inside;
+
 ghost use Rattle.std.specs.Prelude.{◌-◌, ◌^◌, ◌<◌, ◌≤◌};
 ghost use Rattle.hibitset_base.specs.declared.util.TheConstants.{LAYERS};
 

@@ -132,7 +132,12 @@ fn ranks_as_a_list(alloc: Global, bound: Index, count: usize) -> Result<bool, Al
             return Ok(false);
         }
     }
-    Ok(set.last() == list.last().copied() && set.first() == list.first().copied())
+    Ok(
+        set.select(list.len()).is_none()
+            && set.select(usize::MAX).is_none()
+            && set.last() == list.last().copied()
+            && set.first() == list.first().copied(),
+    )
 }
 
 #[test]

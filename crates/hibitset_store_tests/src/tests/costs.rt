@@ -14,11 +14,11 @@ const GAP: Index = 4_096;
 // How often a key is put in and taken out.
 const STEPS: Index = 500_000;
 
-// The column of these keys.
-fn many_keys(alloc: Global) -> Result<Column<()>, AllocError> {
+// The column of these keys, each with the same value.
+fn many_keys<V: Copy + Drop>(alloc: Global, value: V) -> Result<Column<V>, AllocError> {
     let mut column = Column::new(alloc);
     for key in 0..KEYS {
-        if column.insert(GAP * key, ()).is_err() {
+        if column.insert(GAP * key, value).is_err() {
             return Err(AllocError);
         }
     }
@@ -42,7 +42,7 @@ fn is_counted(column: &mut Column<()>) -> bool {
 
 #[test]
 fn len_of_many_keys(rt: HostRuntime) -> Result<(), Fail> {
-    let mut column = many_keys(rt.alloc())?;
+    let mut column = many_keys(rt.alloc(), ())?;
     assert!(rt; is_counted(&mut column));
     Ok(())
 }
@@ -63,6 +63,13 @@ fn is_never_empty(column: &mut Column<Index>) -> bool {
 #[test]
 fn is_empty_below_a_far_key(rt: HostRuntime) -> Result<(), Fail> {
     let mut column = column_of(rt.alloc(), &[(67_108_863, 7)])?;
+    assert!(rt; is_never_empty(&mut column));
+    Ok(())
+}
+
+#[test]
+fn is_empty_of_many_keys(rt: HostRuntime) -> Result<(), Fail> {
+    let mut column = many_keys(rt.alloc(), 7)?;
     assert!(rt; is_never_empty(&mut column));
     Ok(())
 }

@@ -23,6 +23,15 @@ fn is_empty_below_a_far_member(rt: HostRuntime) -> Result<(), AllocError> {
     Ok(())
 }
 
+// All indices of a million words but one.
+#[test]
+fn is_empty_of_many_members(rt: HostRuntime) -> Result<(), AllocError> {
+    let mut set = million_words(rt.alloc())?;
+    assert!(rt; set.remove(5));
+    assert!(rt; is_never_empty(&mut set));
+    Ok(())
+}
+
 // Clears the set and adds a low index, many times, and returns whether that alone is there each time.
 fn is_cleared(set: &mut BitSet) -> Result<bool, AllocError> {
     for _ in 0..STEPS {

@@ -2,7 +2,7 @@
 //! gap, and a look for a common member.
 use crate::tests::words::{Logging, OVER_64_AND_300000};
 use crate::tests::{assert_count, assert_index};
-use hibitset::{BitSetAnd, BitSetLike, Index, Ranked};
+use hibitset::{BitSetAnd, BitSetLike, DrainableBitSet, Index, Ranked};
 use std::alloc::AllocError;
 
 #[test]
@@ -10,6 +10,20 @@ fn the_last_member(rt: HostRuntime) -> Result<(), AllocError> {
     let set = Logging::over(rt.alloc(), &[64, 300_000])?;
     assert_index(&rt, set.last(), Some(300_000));
     set.assert_read(&rt, &[(4, 0), (3, 0), (2, 1), (1, 73), (0, 4_687)])
+}
+
+// To take it out takes one look for it, and so does the first.
+#[test]
+fn the_ends_that_are_taken_out(rt: HostRuntime) -> Result<(), AllocError> {
+    let mut set = Logging::over(rt.alloc(), &[64, 300_000])?;
+    assert_index(&rt, set.pop_last(), Some(300_000));
+    set.assert_read(&rt, &[(4, 0), (3, 0), (2, 1), (1, 73), (0, 4_687)])?;
+    assert_index(&rt, set.pop_first(), Some(64));
+    set.assert_read(&rt, &[(4, 0), (3, 0), (2, 0), (1, 0), (0, 1)])?;
+    assert_index(&rt, set.pop_last(), None);
+    set.assert_read(&rt, &[(4, 0)])?;
+    assert_index(&rt, set.pop_first(), None);
+    set.assert_read(&rt, &[(4, 0)])
 }
 
 // Both have words under the last bits, and no member in common there.

@@ -1,4 +1,4 @@
-//! A set of the tests' own that tells a watch which of its words are read.
+//! A set of the tests' own that tells a watch which of its words are read, and which indices are taken out.
 use hibitset::{BitSet, BitSetLike, DrainableBitSet, Index, LAYERS};
 
 // In the place of a layer: the set was asked whether it has the index that stands in the place of the position.
@@ -8,6 +8,9 @@ pub(super) const ASKED: usize = LAYERS;
 pub(super) trait Watch: Drop {
     // A word of a layer was read, at a position, which is 0 in the top layer.
     fn see(&self, layer: usize, position: usize);
+
+    // An index was taken out, or was to be.
+    fn see_removal(&self, _index: Index) {}
 }
 
 // A set that tells its watch of each word that is read, and of each index that it is asked for.
@@ -69,6 +72,7 @@ impl<W: Watch> DrainableBitSet for Watched<W> {
     ghost keeps_both = { λ a b c first second. second ∙ first };
 
     fn remove(&mut self, i: Index) -> bool {
+        self.watch.see_removal(i);
         self.set.remove(i)
     }
 }

@@ -16,6 +16,9 @@ const LENGTHS: [Index; 4] = [20_000, 200_000, 2_000_000, 8_000_000];
 // No set has more words of layer 0.
 const MOST_WORDS: usize = 16_777_216;
 
+// No walk takes more threads, whatever the processors.
+const MOST_THREADS: usize = 32;
+
 // How often threads are counted, at most.
 const TURNS: u32 = 1_000_000;
 
@@ -73,15 +76,27 @@ fn weight_below(rt: &(impl Threads + Sync), alloc: Global, end: Index) -> Result
     weight_of_both(rt, alloc, &set, &set, &[5, 7])
 }
 
+// How many threads are to be there at once, so many more than before. Where other tests run beside this one, their threads
+// end meanwhile, and two more are enough.
+fn threads_wanted(before: usize, more: usize) -> usize {
+    before.saturating_add(if before > 1 { more.min(2) } else { more })
+}
+
+// Returns whether so many threads were there at once, and never more, unless others run beside these.
+fn were_there(before: usize, most: usize, wanted: usize) -> bool {
+    most == wanted || (most > wanted && before > 1)
+}
+
 // One thread that is started here would do for lists one after the other. Beside it there are three for four lists, of
 // which the calling thread takes the fourth.
 #[test]
 fn workers_meet(rt: HostRuntime) -> Result<(), Fail> {
     let before = count_threads(&rt);
+    let wanted = threads_wanted(before, 4);
     let mut most = 0usize;
     for end in LENGTHS {
-        if before == 0 || most >= before.saturating_add(3) {
-            return Ok(());
+        if before == 0 || most >= wanted {
+            break;
         }
         let is_done = AtomicBool::new(false);
         let (new, seen) = join(
@@ -96,19 +111,27 @@ fn workers_meet(rt: HostRuntime) -> Result<(), Fail> {
         assert!(rt; new? == end as usize);
         most = most.max(seen);
     }
-    assert!(rt; most >= before.saturating_add(3), "{before} {most}");
+    assert!(rt;
+        before == 0 || were_there(before, most, wanted),
+        "{before} {most}"
+    );
     Ok(())
 }
 
-// One thread that is started here would do for the walk in one thread. From half a million members on there are others.
+// One thread that is started here would do for the walk in one thread. From half a million members on there is one for
+// each processor beside it, of which the calling thread is one.
 #[test]
 fn weights_meet(rt: HostRuntime) -> Result<(), Fail> {
     let processors = available_parallelism(&rt).map_or(1, |count| count.get());
     let before = count_threads(&rt);
+    if processors == 1 || before == 0 {
+        return Ok(());
+    }
+    let wanted = threads_wanted(before, processors.min(MOST_THREADS));
     let mut most = 0usize;
     for end in LENGTHS {
-        if processors == 1 || before == 0 || most >= before.saturating_add(2) {
-            return Ok(());
+        if most >= wanted {
+            break;
         }
         let is_done = AtomicBool::new(false);
         let (weight, seen) = join(
@@ -123,6 +146,6 @@ fn weights_meet(rt: HostRuntime) -> Result<(), Fail> {
         assert!(rt; weight? == 12);
         most = most.max(seen);
     }
-    assert!(rt; most >= before.saturating_add(2), "{before} {most}");
+    assert!(rt; were_there(before, most, wanted), "{before} {most}");
     Ok(())
 }

@@ -116,15 +116,15 @@ fn read_runs_of(
     check_count(total, cardinality, at)
 }
 
-// Adds the members of a container that is no bits to words.
+// Adds the members of a container that is no bits to words, with other high bits.
 fn read_numbers(
     bytes: &[u8],
     header: &Header,
     k: usize,
     at: usize,
     words: &mut [usize],
+    key: usize,
 ) -> Result<(), Malformed> {
-    let key = header.key(bytes, k);
     let cardinality = header.cardinality(bytes, k);
     if header.is_run(bytes, k) {
         return read_runs_of(bytes, at, cardinality, words, key);
@@ -132,19 +132,20 @@ fn read_numbers(
     read_array(bytes, at, cardinality, words, key)
 }
 
-// Adds the members of a container to words, which end before the container's and then with them.
+// Adds the members of a container to words, with other high bits. The words end before those of these high bits, and then
+// with them.
 pub(crate) fn read_container(
     bytes: &[u8],
     header: &Header,
     k: usize,
     at: usize,
     words: &mut Vec<usize>,
+    key: usize,
 ) -> Result<(), ReadError> {
-    let key = header.key(bytes, k);
     let cardinality = header.cardinality(bytes, k);
     if header.is_run(bytes, k) || cardinality <= MAX_ARRAY_LEN {
         lengthen(words, CONTAINER_WORDS * (key + 1))?;
-        return Ok(read_numbers(bytes, header, k, at, words)?);
+        return Ok(read_numbers(bytes, header, k, at, words, key)?);
     }
     lengthen(words, CONTAINER_WORDS * key)?;
     let count = append_bits(bytes, at, words)?;

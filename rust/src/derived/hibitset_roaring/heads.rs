@@ -4,8 +4,10 @@
 
 use crate::support::rattle_std::prelude::*;
 
+use crate::derived::hibitset_roaring::header::KEYS;
 use crate::derived::hibitset_roaring::layout::CONTAINER_WORDS;
 use crate::derived::hibitset_roaring::slots::{CONTAINER_BLOCKS, blocks_over, slot_after, slot_from, word_of};
+use crate::derived::hibitset_roaring::source::ContainerSource;
 use crate::support::rattle_std::alloc::{AllocError, Global};
 
 // From this many nonzero words on, all words of a container are counted.
@@ -59,7 +61,7 @@ fn has_many(words: &[usize], above: &[usize], key: usize, blocks: usize) -> bool
 }
 
 // How many members have these high bits.
-pub(crate) fn count_under(words: &[usize], above: &[usize], key: usize) -> usize {
+pub(crate) fn count_members(words: &[usize], above: &[usize], key: usize) -> usize {
     let blocks = blocks_over(above, key);
     if has_many(words, above, key, blocks) {
         count_whole(words, CONTAINER_WORDS * key)
@@ -70,8 +72,8 @@ pub(crate) fn count_under(words: &[usize], above: &[usize], key: usize) -> usize
 
 impl Heads {
     // Notes a container, if there are members for it.
-    fn note(&mut self, words: &[usize], above: &[usize], key: usize) -> Result<(), AllocError> {
-        let count = count_under(words, above, key);
+    fn note<S: ContainerSource>(&mut self, source: &S, key: usize) -> Result<(), AllocError> {
+        let count = source.count_under(key);
         if count == 0 {
             return Ok(());
         }
@@ -80,23 +82,23 @@ impl Heads {
         Ok(())
     }
 
-    /// The containers of the set with these words.
+    /// The containers of a set.
     ///
     /// # Contract
     ///
     /// ```text
-    /// requires short { length words.now ≤ 16777216 }
-    /// requires above { AreSummaries words.now above.now }
-    /// ensures { IfOk result (λ heads. AreHeads words.now heads.keys.items heads.counts.items
-    ///     ((length words.now + 1023) / 1024)) }
+    /// ensures { IfOk result (λ heads. AreHeads (S.words source.now) heads.keys.items
+    ///     heads.counts.items KEYS) }
     /// ```
-    pub(crate) fn of(alloc: Global, words: &[usize], above: &[usize]) -> Result<Heads, AllocError> {
+    pub(crate) fn of<S: ContainerSource>(alloc: Global, source: &S) -> Result<Heads, AllocError> {
         let mut heads = Heads {
             keys: Vec::new(alloc),
             counts: Vec::new(alloc),
         };
-        'keys: for key in 0..(words.len() + (CONTAINER_WORDS - 1)) / CONTAINER_WORDS {
-            heads.note(words, above, key)?;
+        let mut key = source.next_key(0);
+        'keys: while key < KEYS {
+            heads.note(source, key)?;
+            key = source.next_key(key + 1);
         }
         Ok(heads)
     }

@@ -56,8 +56,17 @@ pub fn read_from<R: Read>(
     reader: &mut R,
     end: usize,
 ) -> Result<BitSet, ReadFromError> {
-    let bytes = read_all(alloc, reader, LONGEST_START + LONGEST_CONTAINER * end)?;
+    let bytes = read_within(alloc, reader, end)?;
     Ok(read_below(alloc, &bytes, end)?)
+}
+
+// All bytes of a reader, unless they are more than any stream with keys below `end` has.
+pub(crate) fn read_within<R: Read>(
+    alloc: Global,
+    reader: &mut R,
+    end: usize,
+) -> Result<Vec<u8>, ReadFromError> {
+    read_all(alloc, reader, LONGEST_START + LONGEST_CONTAINER * end)
 }
 
 // All bytes of a reader, unless they are more than `most`.

@@ -4,22 +4,35 @@
 
 use crate::support::rattle_std::prelude::*;
 
-use crate::derived::hibitset_roaring::container::read_container;
-use crate::derived::hibitset_roaring::error::ReadError;
+use crate::derived::hibitset_roaring::error::{Malformed, ReadError};
 use crate::derived::hibitset_roaring::header::{Header, KEYS};
 use crate::derived::hibitset_roaring::layout::CONTAINER_WORDS;
+use crate::derived::hibitset_roaring::sink::ContainerSink;
 use crate::derived::hibitset::BitSet;
 use crate::support::rattle_std::alloc::Global;
 
-// Puts the words of all containers, and those between them, into an empty vector.
-fn read_containers(bytes: &[u8], header: &Header, words: &mut Vec<usize>) -> Result<(), ReadError> {
+// Takes all containers, where nothing was taken before.
+pub(crate) fn read_containers<S: ContainerSink>(
+    bytes: &[u8],
+    header: &Header,
+    sink: &mut S,
+) -> Result<(), ReadError> {
     let mut at = header.first;
     'containers: for k in 0..header.count {
         let end = header.end(bytes, k, at);
-        read_container(bytes, header, k, at, words)?;
+        sink.take_container(bytes, header, k, at)?;
         at = end;
     }
     Ok(())
+}
+
+// The header of a stream, whose keys ascend below `end` and whose containers lie where it says, and the number after its
+// last key.
+pub(crate) fn check_stream(bytes: &[u8], end: usize) -> Result<(Header, usize), Malformed> {
+    let header = Header::read(bytes)?;
+    let keys = header.check_keys(bytes, end)?;
+    header.check_layout(bytes)?;
+    Ok((header, keys))
 }
 
 /// The set whose members a stream in the portable Roaring format has, if each key is below `end`: a key is the high 16
@@ -28,7 +41,7 @@ fn read_containers(bytes: &[u8], header: &Header, words: &mut Vec<usize>) -> Res
 /// An error names a fault of the bytes and its position, or says that an allocation failed.
 ///
 /// The set takes at most 8,192 bytes for each key below `end`, and a sixty-third more, in one request for memory: if
-/// `end` is `KEYS`, 18 bytes can ask for 136 MB.
+/// `end` is `KEYS`, 18 bytes can ask for 136 MB. A stranger's bytes are better read by `read_sparse`.
 ///
 /// # Contract
 ///
@@ -45,9 +58,7 @@ fn read_containers(bytes: &[u8], header: &Header, words: &mut Vec<usize>) -> Res
 ///     → IfErr result (λ error. error ≡ errors.Memory) }
 /// ```
 pub fn read_below(alloc: Global, bytes: &[u8], end: usize) -> Result<BitSet, ReadError> {
-    let header = Header::read(bytes)?;
-    let keys = header.check_keys(bytes, end)?;
-    header.check_layout(bytes)?;
+    let (header, keys) = check_stream(bytes, end)?;
     let mut words = BitSet::vec_with_room(alloc, CONTAINER_WORDS * keys)?;
     read_containers(bytes, &header, &mut words)?;
     Ok(BitSet::from_vec(words)?)

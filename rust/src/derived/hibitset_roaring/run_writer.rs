@@ -4,13 +4,14 @@
 
 use crate::support::rattle_std::prelude::*;
 
-use crate::derived::hibitset_roaring::header::{LEAST_WITH_OFFSETS, RUNS, first_after, keys_after, offsets_are};
-use crate::derived::hibitset_roaring::heads::{Heads, count_under};
+use crate::derived::hibitset_roaring::header::{KEYS, LEAST_WITH_OFFSETS, RUNS, first_after, keys_after, offsets_are};
+use crate::derived::hibitset_roaring::heads::{Heads, count_members};
 use crate::derived::hibitset_roaring::layout::{CONTAINER_WORDS, flat_size};
 use crate::derived::hibitset_roaring::number::{put_u8, put_u16, put_u32};
 use crate::derived::hibitset_roaring::runs::{are_shorter, count_runs, write_runs};
 use crate::derived::hibitset_roaring::slots::word_of;
-use crate::derived::hibitset_roaring::writer::{write_container, write_stream};
+use crate::derived::hibitset_roaring::source::WordSource;
+use crate::derived::hibitset_roaring::writer::{write_flat, write_stream};
 use crate::derived::hibitset::BitSet;
 use crate::derived::hibitset_base::bits::with_bit;
 use crate::support::rattle_std::alloc::{AllocError, Global};
@@ -35,7 +36,7 @@ struct Sizes {
 impl Sizes {
     // The sizes with the container that has a key, if there are members for it.
     fn with_container(self, words: &[usize], above: &[usize], key: usize) -> Sizes {
-        let count = count_under(words, above, key);
+        let count = count_members(words, above, key);
         if count == 0 {
             return self;
         }
@@ -151,7 +152,7 @@ fn write_best(
     if are_shorter(runs, count) {
         write_runs(out, at, words, above, key, runs);
     } else {
-        write_container(out, at, words, above, key, count);
+        write_flat(out, at, words, above, key, count);
     }
 }
 
@@ -201,7 +202,7 @@ fn write_best_stream(
     if some {
         write_run_stream(out, keys, counts, runs, words, above);
     } else {
-        write_stream(out, keys, counts, words, above);
+        write_stream(out, keys, counts, &WordSource::new(words, above));
     }
 }
 
@@ -272,7 +273,7 @@ pub fn write_run_optimized_to(
 ) -> Result<(), AllocError> {
     let words = set.layer0_as_slice();
     let above = set.layer1_as_slice();
-    let heads = Heads::of(alloc, words, above)?;
+    let heads = Heads::of(alloc, &WordSource::new(words, above))?;
     let runs = runs_of(alloc, &heads.keys, &heads.counts, words, above)?;
     let some = some_runs(&heads.counts, &runs);
     let from = out.len();

@@ -5,10 +5,11 @@
 use crate::support::rattle_std::prelude::*;
 
 use crate::derived::hibitset_roaring::array::write_array;
-use crate::derived::hibitset_roaring::header::NO_RUNS;
-use crate::derived::hibitset_roaring::heads::{Heads, count_under};
+use crate::derived::hibitset_roaring::header::{KEYS, NO_RUNS};
+use crate::derived::hibitset_roaring::heads::Heads;
 use crate::derived::hibitset_roaring::layout::{CONTAINER_WORDS, MAX_ARRAY_LEN, flat_size};
 use crate::derived::hibitset_roaring::number::{put_u16, put_u32, put_u64};
+use crate::derived::hibitset_roaring::source::{ContainerSource, WordSource};
 use crate::derived::hibitset::BitSet;
 use crate::support::rattle_std::alloc::{AllocError, Global};
 
@@ -34,8 +35,8 @@ fn write_bits(out: &mut [u8], at: usize, words: &[usize], key: usize) {
     write_zeros(out, at + 8 * count, CONTAINER_WORDS - count);
 }
 
-// Writes a container.
-pub(crate) fn write_container(
+// Writes a container that is no runs.
+pub(crate) fn write_flat(
     out: &mut [u8],
     at: usize,
     words: &[usize],
@@ -71,16 +72,15 @@ fn write_offsets(out: &mut [u8], counts: &[usize]) {
 }
 
 // Writes the containers.
-fn write_containers(
+fn write_containers<S: ContainerSource>(
     out: &mut [u8],
     keys: &[usize],
     counts: &[usize],
-    words: &[usize],
-    above: &[usize],
+    source: &S,
 ) {
     let mut at = 8 + 8 * counts.len();
     'containers: for k in 0..keys.len() {
-        write_container(out, at, words, above, keys[k], counts[k]);
+        source.write_container(out, at, keys[k], counts[k]);
         at += flat_size(counts[k]);
     }
 }
@@ -95,26 +95,62 @@ fn len_of(counts: &[usize]) -> usize {
 }
 
 // Writes a stream.
-pub(crate) fn write_stream(
+pub(crate) fn write_stream<S: ContainerSource>(
     out: &mut [u8],
     keys: &[usize],
     counts: &[usize],
-    words: &[usize],
-    above: &[usize],
+    source: &S,
 ) {
     write_header(out, keys, counts);
     write_offsets(out, counts);
-    write_containers(out, keys, counts, words, above);
+    write_containers(out, keys, counts, source);
 }
 
 // Writes a stream behind the first bytes.
-fn write_behind(out: &mut [u8], from: usize, heads: &Heads, words: &[usize], above: &[usize]) {
-    write_stream(&mut out[from..], &heads.keys, &heads.counts, words, above);
+fn write_behind<S: ContainerSource>(out: &mut [u8], from: usize, heads: &Heads, source: &S) {
+    write_stream(&mut out[from..], &heads.keys, &heads.counts, source);
 }
 
 // Writes a stream into the first bytes.
-fn write_first(out: &mut [u8], len: usize, heads: &Heads, words: &[usize], above: &[usize]) {
-    write_stream(&mut out[..len], &heads.keys, &heads.counts, words, above);
+fn write_first<S: ContainerSource>(out: &mut [u8], len: usize, heads: &Heads, source: &S) {
+    write_stream(&mut out[..len], &heads.keys, &heads.counts, source);
+}
+
+// Writes a stream behind the bytes of `out`.
+fn write_source_to<S: ContainerSource>(
+    alloc: Global,
+    source: &S,
+    out: &mut Vec<u8>,
+) -> Result<(), AllocError> {
+    let heads = Heads::of(alloc, source)?;
+    let from = out.len();
+    out.resize(from + len_of(&heads.counts), 0)?;
+    write_behind(out, from, &heads, source);
+    Ok(())
+}
+
+// The stream of a set.
+pub(crate) fn write_source<S: ContainerSource>(
+    alloc: Global,
+    source: &S,
+) -> Result<Vec<u8>, AllocError> {
+    let mut out = Vec::new(alloc);
+    write_source_to(alloc, source, &mut out)?;
+    Ok(out)
+}
+
+// How many bytes the stream of a set takes.
+pub(crate) fn len_of_source<S: ContainerSource>(source: &S) -> usize {
+    let mut len = 8;
+    let mut key = source.next_key(0);
+    'keys: while key < KEYS {
+        let count = source.count_under(key);
+        if count != 0 {
+            len += 8 + flat_size(count);
+        }
+        key = source.next_key(key + 1);
+    }
+    len
 }
 
 /// How many bytes `write` makes of a set with these words of layer 0, over which those of layer 1 lie.
@@ -127,14 +163,7 @@ fn write_first(out: &mut [u8], len: usize, heads: &Heads, words: &[usize], above
 /// ensures { (bytes : List ℕ) → IsPlainStream (stands_in words.now) bytes → length bytes ≡ result }
 /// ```
 pub fn len_of_words(words: &[usize], above: &[usize]) -> usize {
-    let mut len = 8;
-    'keys: for key in 0..(words.len() + (CONTAINER_WORDS - 1)) / CONTAINER_WORDS {
-        let count = count_under(words, above, key);
-        if count != 0 {
-            len += 8 + flat_size(count);
-        }
-    }
-    len
+    len_of_source(&WordSource::new(words, above))
 }
 
 /// Writes the set with these words of layer 0, over which those of layer 1 lie, into the first bytes of a buffer, as
@@ -164,10 +193,11 @@ pub fn write_words(
     above: &[usize],
     out: &mut [u8],
 ) -> Result<usize, AllocError> {
-    let heads = Heads::of(alloc, words, above)?;
+    let source = WordSource::new(words, above);
+    let heads = Heads::of(alloc, &source)?;
     let len = len_of(&heads.counts);
     if len <= out.len() {
-        write_first(out, len, &heads, words, above);
+        write_first(out, len, &heads, &source);
     }
     Ok(len)
 }
@@ -180,7 +210,7 @@ pub fn write_words(
 /// ensures { (bytes : List ℕ) → IsPlainStream (has set.now) bytes → length bytes ≡ result }
 /// ```
 pub fn serialized_len(set: &BitSet) -> usize {
-    len_of_words(set.layer0_as_slice(), set.layer1_as_slice())
+    len_of_source(&WordSource::of(set))
 }
 
 /// Writes a set in the portable Roaring format behind the bytes of `out`: the one stream without runs of its members.
@@ -198,13 +228,7 @@ pub fn serialized_len(set: &BitSet) -> usize {
 /// ensures err { OnErr result (out.new.items ≡ out.old.items) }
 /// ```
 pub fn write_to(alloc: Global, set: &BitSet, out: &mut Vec<u8>) -> Result<(), AllocError> {
-    let words = set.layer0_as_slice();
-    let above = set.layer1_as_slice();
-    let heads = Heads::of(alloc, words, above)?;
-    let from = out.len();
-    out.resize(from + len_of(&heads.counts), 0)?;
-    write_behind(out, from, &heads, words, above);
-    Ok(())
+    write_source_to(alloc, &WordSource::of(set), out)
 }
 
 /// A set in the portable Roaring format, as `write_to` writes it.

@@ -4,12 +4,11 @@
 
 use crate::support::rattle_std::prelude::*;
 
-use crate::derived::hibitset_sparse::chunk::Chunk;
 use crate::derived::hibitset_sparse::gather::chunks_of;
+use crate::derived::hibitset_sparse::kept::{Alone, Both};
 use crate::derived::hibitset_sparse::set::SparseBitSet;
-use crate::derived::hibitset_sparse::table::Table;
-use crate::derived::hibitset_base::like::{BitSetLike, DrainableBitSet};
-use crate::derived::hibitset_base::virt::{BitSetAnd, BitSetNot, BitSetOr, BitSetXor};
+use crate::derived::hibitset_base::like::BitSetLike;
+use crate::derived::hibitset_base::virt::{BitSetOr, BitSetXor};
 use crate::support::rattle_std::alloc::{AllocError, Global};
 use crate::support::rattle_std::ops::{BitAndAssign, SubAssign};
 
@@ -30,8 +29,8 @@ impl SparseBitSet {
 
     /// Adds the members of any other set. If an allocation fails, the members stay.
     ///
-    /// Only chunks in which the other has members are made anew, each beside its old form; the others stay where they
-    /// are. It can't fail if the other has none.
+    /// Only chunks in which the other has members are made anew, each beside its old form. Where one of them is new, so
+    /// is the list of all chunks, 56 bytes each. It can't fail if the other has none.
     ///
     /// # Contract
     ///
@@ -47,16 +46,14 @@ impl SparseBitSet {
         }
         let alloc = self.allocator();
         let chunks = chunks_of(alloc, &BitSetOr(&*self, other), other)?;
-        self.reserve_chunks(chunks.items.len())?;
-        self.put_chunks(chunks);
-        Ok(())
+        self.put_chunks(chunks)
     }
 
     /// Adds the members of any other set that were not there, and takes out those that were. If an allocation fails,
     /// the members stay.
     ///
-    /// Only chunks in which the other has members are made anew, each beside its old form; the others stay where they
-    /// are. It can't fail if the other has none.
+    /// Only chunks in which the other has members are made anew, each beside its old form. Where one of them is new, so
+    /// is the list of all chunks, 56 bytes each. It can't fail if the other has none.
     ///
     /// # Contract
     ///
@@ -72,15 +69,13 @@ impl SparseBitSet {
         }
         let alloc = self.allocator();
         let chunks = chunks_of(alloc, &BitSetXor(&*self, other), other)?;
-        self.reserve_chunks(chunks.items.len())?;
-        self.put_chunks(chunks);
-        Ok(())
+        self.put_chunks(chunks)
     }
 
-    /// Takes out the members that are in the other set. It can't fail.
+    /// Takes out the members that are in the other set. It can't fail, and does not allocate.
     ///
-    /// Chunks in which both have members are made anew, beside their old forms. Where an allocation fails, members are
-    /// taken out one by one.
+    /// It goes through the words of this set once, in the chunks in which the other has members, and looks up those of
+    /// the other. They are changed where they lie, and those that are left close up.
     ///
     /// # Contract
     ///
@@ -88,34 +83,20 @@ impl SparseBitSet {
     /// ensures { IsDifference (has self.old) (B.holds other.now) (has self.new) }
     /// ```
     pub fn subtract_assign<B: BitSetLike>(&mut self, other: &B) {
-        let kept = BitSetNot(other);
-        let alloc = self.allocator();
-        let chunks = chunks_of(alloc, &BitSetAnd(&*self, &kept), &BitSetAnd(&*self, other));
-        self.keep(chunks, &kept);
-    }
-
-    // Takes out what is not in another set: puts chunks in the place of the set's own that have what is in both, or goes
-    // one by one where there was no memory for them.
-    pub(crate) fn keep<K: BitSetLike>(&mut self, chunks: Result<Table<Chunk>, AllocError>, kept: &K) {
-        match chunks {
-            Ok(chunks) => self.put_chunks(chunks),
-            Err(_) => self.retain(|i| kept.contains(i)),
-        }
+        self.retain_chunks(&Alone(other));
     }
 }
 
-/// Takes out the members that are not in the other set. It can't fail.
+/// Takes out the members that are not in the other set. It can't fail, and does not allocate.
 ///
-/// All chunks are made anew, beside their old forms. Where an allocation fails, members are taken out one by one.
+/// It goes through the words of this set as `subtract_assign` does.
 impl<B: BitSetLike> BitAndAssign<&B> for SparseBitSet {
     fn bitand_assign(&mut self, other: &B) {
-        let alloc = self.allocator();
-        let chunks = chunks_of(alloc, &BitSetAnd(&*self, other), &*self);
-        self.keep(chunks, other);
+        self.retain_chunks(&Both(other));
     }
 }
 
-/// Takes out the members that are in the other set, as `subtract_assign` does. It can't fail.
+/// Takes out the members that are in the other set, as `subtract_assign` does. It can't fail, and does not allocate.
 impl<B: BitSetLike> SubAssign<&B> for SparseBitSet {
     fn sub_assign(&mut self, other: &B) {
         self.subtract_assign(other);

@@ -12,8 +12,17 @@ use crate::derived::hibitset_sparse::walk::WordIter;
 use crate::derived::hibitset_base::util::{Index, MAX_EID};
 use crate::support::rattle_std::alloc::{AllocError, Global};
 
-// How many bits the words have that are set: how many members they have at any places of a chunk.
-fn count_words(words: &[usize]) -> usize {
+/// How many bits the words have that are set: how many members they have at any places of a chunk.
+///
+/// # Contract
+///
+/// ```text
+/// requires { length words.now ≤ PLACES_PER_TABLE }
+/// ensures counted { (base : ℕ) (places : List ℕ) → length places ≡ length words.now
+///     → result ≡ length (in_words base (zip places words.now)) }
+/// ensures few { result ≤ INDICES_PER_CHUNK }
+/// ```
+pub(crate) fn count_words(words: &[usize]) -> usize {
     let mut count = 0;
     'words: for word in words {
         count += word.count_ones() as usize;

@@ -48,7 +48,7 @@ impl<T> PackedArray<T> {
         Some(&self.items[rank(self.word, bit)])
     }
 
-    /// Reserves capacity for so many values more. Whatever it returns, the values are the same.
+    /// Reserves capacity for `count` more values. Whatever it returns, the values are the same.
     ///
     /// # Contract
     ///

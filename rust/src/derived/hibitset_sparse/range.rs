@@ -29,7 +29,7 @@ impl SparseBitSet {
         self.bitor_assign(&BitSetRange { start, end })
     }
 
-    /// Takes the indices from `start` on before `end` out, for any two numbers. It can't fail.
+    /// Takes the indices from `start` on before `end` out, for any two numbers. It can't fail, and does not allocate.
     ///
     /// # Contract
     ///

@@ -6,6 +6,7 @@ use crate::support::rattle_std::prelude::*;
 
 use crate::derived::hibitset_sparse::bulk::{count_before, count_members, list_members};
 use crate::derived::hibitset_sparse::chunk::{Chunk, INDICES_PER_CHUNK};
+use crate::derived::hibitset_sparse::select::nth_member;
 use crate::derived::hibitset_sparse::table::{PLACES_PER_TABLE, Table};
 use crate::derived::hibitset_sparse::walk::SparseIter;
 use crate::derived::hibitset_base::like::{BitSetLike, DrainableBitSet};
@@ -151,6 +152,19 @@ impl SparseBitSet {
             return self.len();
         }
         count_before(&self.chunks, end)
+    }
+
+    /// The member at a position of the ascending list of all, the least one at 0, or `None` past its end.
+    ///
+    /// It reads each stored word up to that member's once, 8 bytes, and those of its chunk up to it once more.
+    ///
+    /// # Contract
+    ///
+    /// ```text
+    /// ensures { result ≡ slice_get (members_below MAX_EID (has self.now)) at }
+    /// ```
+    pub fn select(&self, at: usize) -> Option<Index> {
+        nth_member(&self.chunks, at)
     }
 
     /// Takes all members out, and gives the memory back.

@@ -6,7 +6,7 @@ use crate::support::rattle_std::prelude::*;
 
 use crate::derived::hibitset_sparse::group::Group;
 use crate::derived::hibitset_sparse::packed_array::PackedArray;
-use crate::derived::hibitset_sparse::rank::{is_set, rank};
+use crate::derived::hibitset_sparse::rank::{is_set, rank, take_lowest};
 use crate::derived::hibitset_base::bits::{last_bit, with_bit};
 use crate::support::rattle_std::alloc::{AllocError, Global};
 
@@ -210,7 +210,27 @@ impl<T> Table<T> {
         self.start(i / 64) + rank(self.word(i / 64), i % 64)
     }
 
-    /// Reserves capacity for so many values more. Whatever it returns, the table is the same.
+    /// Whether each place that has a value in another table has one here too.
+    ///
+    /// # Contract
+    ///
+    /// ```text
+    /// ensures { result ≡ true → (i : ℕ) (x : T) → i < PLACES_PER_TABLE
+    ///     → value_at other.now i ≡ Some x → HasValue self.now i }
+    /// ```
+    pub(crate) fn covers(&self, other: &Table<T>) -> bool {
+        let mut left = other.groups.word;
+        'groups: while left != 0 {
+            let q = take_lowest(&mut left);
+            let word = self.word(q);
+            if other.word(q) | word != word {
+                return false;
+            }
+        }
+        true
+    }
+
+    /// Reserves capacity for `count` more values. Whatever it returns, the table is the same.
     ///
     /// # Contract
     ///

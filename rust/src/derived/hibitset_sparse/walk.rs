@@ -35,6 +35,23 @@ impl<'a> WordIter<'a> {
         }
     }
 
+    /// A walk over the words of one chunk, whose first index is `base`.
+    ///
+    /// # Contract
+    ///
+    /// ```text
+    /// requires { base + INDICES_PER_CHUNK ≤ MAX_EID }
+    /// ensures { members_left result ≡ in_words base (entries_of chunk.now.words) }
+    /// ```
+    #[inline]
+    pub(crate) fn of_chunk(chunk: &'a Chunk, base: usize) -> WordIter<'a> {
+        WordIter {
+            chunks: TableIter::empty(),
+            words: TableIter::new(&chunk.words),
+            base,
+        }
+    }
+
     /// The index of the next word's first bit, and the word.
     ///
     /// # Contract

@@ -22,9 +22,9 @@ adds_after high low old mid new same adds = record { bits = λ i. adds.bits i �
 pub returns-clause-members : goal.returns-clause-members
 returns-clause-members c =
     let bytes = c.args.bytes.now in
-    let key : ℕ = c.key-key.result in
+    let key : ℕ = c.args.key in
     let card = c.cardinality-cardinality.ensures.cardinality in
     let more = c.if-cardinality-le-MAX_ARRAY_LEN.false in
     let adds = adds_after key (in_bits bytes c.args.at) c.args.words.now.items c.lengthen-2.new.words.items c.append_bits.new.words.items c.lengthen-2.ensures.same (c.in_ok-count.ensures.members key c.in_ok-lengthen-2.ensures.length) in
-    rw (← c.key-key.ensures.key) (adds_same key (in_bits bytes c.args.at) (in_container bytes c.args.k) _ _
-    (λ v. ap (λ a. in_bits bytes a v) c.requires.at ∙ in_bits_is bytes c.args.k (sym c.is_run.ensures ∙ c.if-is_run.false) (omega (arith, card, more)) v) adds)
+    adds_same key (in_bits bytes c.args.at) (in_container bytes c.args.k) _ _
+    (λ v. ap (λ a. in_bits bytes a v) c.requires.at ∙ in_bits_is bytes c.args.k (sym c.is_run.ensures ∙ c.if-is_run.false) (omega (arith, card, more)) v) adds

@@ -16,8 +16,8 @@ read_runs_of-requires-clause-within c =
 
 pub returns-then-is_run-clause-members : goal.returns-then-is_run-clause-members
 returns-then-is_run-clause-members c = on_ok_weaker c.read_runs_of.result (λ adds.
-    rw (← c.key-key.ensures.key) (adds_same c.key-key.result (in_runs c.args.bytes.now c.args.at) (in_container c.args.bytes.now c.args.k) _ _
-    (λ v. ap (λ a. in_runs c.args.bytes.now a v) c.requires.at ∙ in_runs_is c.args.bytes.now c.args.k (sym c.is_run.ensures ∙ c.if-is_run.true) v) adds)) c.read_runs_of.ensures.members
+    adds_same c.args.key (in_runs c.args.bytes.now c.args.at) (in_container c.args.bytes.now c.args.k) _ _
+    (λ v. ap (λ a. in_runs c.args.bytes.now a v) c.requires.at ∙ in_runs_is c.args.bytes.now c.args.k (sym c.is_run.ensures ∙ c.if-is_run.true) v) adds) c.read_runs_of.ensures.members
 
 pub read_array-requires-clause-within : goal.read_array-requires-clause-within
 read_array-requires-clause-within c =
@@ -33,8 +33,8 @@ returns-clause-members c =
     let card = c.cardinality-cardinality.ensures.cardinality in
     let few = c.requires.numbers (sym c.is_run.ensures ∙ c.if-is_run.false) in
     on_ok_weaker c.read_array.result (λ adds.
-    rw (← c.key-key.ensures.key) (adds_same c.key-key.result (in_array c.args.bytes.now c.args.at c.cardinality-cardinality.result) (in_container c.args.bytes.now c.args.k) _ _
-    (λ v. ap (λ a. in_array c.args.bytes.now a c.cardinality-cardinality.result v) c.requires.at ∙ (ap (λ n. in_array c.args.bytes.now (container_at c.args.bytes.now c.args.k) n v) card ∙ in_array_is c.args.bytes.now c.args.k (sym c.is_run.ensures ∙ c.if-is_run.false) few v)) adds)) c.read_array.ensures.members
+    adds_same c.args.key (in_array c.args.bytes.now c.args.at c.cardinality-cardinality.result) (in_container c.args.bytes.now c.args.k) _ _
+    (λ v. ap (λ a. in_array c.args.bytes.now a c.cardinality-cardinality.result v) c.requires.at ∙ (ap (λ n. in_array c.args.bytes.now (container_at c.args.bytes.now c.args.k) n v) card ∙ in_array_is c.args.bytes.now c.args.k (sym c.is_run.ensures ∙ c.if-is_run.false) few v)) adds) c.read_array.ensures.members
 
 pub returns-then-is_run-clause-fault : goal.returns-then-is_run-clause-fault
 returns-then-is_run-clause-fault c =

@@ -1,30 +1,22 @@
-use Rattle.std.proofs.Common.{◌≡◌, ℕ, ◌+◌, ◌-◌, ◌/◌, ◌%◌, ◌<◌, ◌==◌, ◌&&◌, ◌||◌, false, List, length, ap, sym, ◌∙◌, arith, inl, inr}
-use Rattle.std.specs.Int.{bit_at}
+use Rattle.std.proofs.Common.{◌≡◌, ℕ, ◌+◌, ◌-◌, ◌/◌, ◌%◌, ◌<◌, ◌==◌, ◌&&◌, ◌||◌, ap, sym, ◌∙◌, arith, inl, inr}
 use Rattle.std.proofs.lemmas.Bool.{cases_lt}
-use Rattle.std.proofs.lemmas.List.{get_or_past}
-use Rattle.std.proofs.lemmas.Nat.Bits.{bit_at-zero}
-use Rattle.hibitset.specs.WordBits.{stands_in}
 use Rattle.hibitset_roaring.specs.Numbers.{any_below}
 use Rattle.hibitset_roaring.specs.Format.{container_count, key_of, in_container, holds}
 use Rattle.hibitset_roaring.proofs.TestLemmas.{any_none, any_next, or_comm, eq_comm}
 use Rattle.hibitset_roaring.proofs.LayoutLemmas.{at_first, at_mono}
 use Rattle.hibitset_roaring.proofs.reader.read_containers.Goals as goal
 
--- no words have no members
-none_in : (words : List ℕ) (i : ℕ) → length words ≡ 0 → stands_in words i ≡ false
-none_in words i none = ap (λ w. bit_at w (i % 64) == 1) (get_or_past words (i / 64) 0 (omega (arith, none))) ∙ ap (λ x. x == 1) (bit_at-zero (i % 64))
-
 pub containers-init : goal.containers-init
-containers-init c = record {
+containers-init g c = record {
   at_is = c.requires.header.first_is ∙ sym (at_first c.args.bytes.now);
   containers = λ i below. absurd (omega (arith, below));
-  none = λ z. ap length c.requires.empty;
+  none = λ z. c.requires.none;
   last = λ i e. absurd (omega (arith, e));
-  members = λ i. none_in c.args.words.now.items i (ap length c.requires.empty) ∙ sym (any_none (λ k. (key_of c.args.bytes.now k == i / 65536) && in_container c.args.bytes.now k (i % 65536)));
+  members = λ i. c.requires.empty i ∙ sym (any_none (λ k. (key_of c.args.bytes.now k == i / 65536) && in_container c.args.bytes.now k (i % 65536)));
 }
 
 pub end-end-requires-clause-within : goal.end-end-requires-clause-within
-end-end-requires-clause-within c =
+end-end-requires-clause-within g c =
     let t = c.containers-test.true in
     let n = c.requires.header.count_is in
     let below : c.containers.k < container_count c.args.bytes.now = omega (arith, t, n) in
@@ -32,8 +24,8 @@ end-end-requires-clause-within c =
     let w = c.requires.whole in
     omega (arith, m, w)
 
-pub read_container-requires-clause-within : goal.read_container-requires-clause-within
-read_container-requires-clause-within c =
+pub take_container-requires-clause-within : goal.take_container-requires-clause-within
+take_container-requires-clause-within g c =
     let t = c.containers-test.true in
     let n = c.requires.header.count_is in
     let below : c.containers.k < container_count c.args.bytes.now = omega (arith, t, n) in
@@ -41,8 +33,11 @@ read_container-requires-clause-within c =
     let w = c.requires.whole in
     omega (arith, m, w)
 
-pub read_container-requires-clause-order : goal.read_container-requires-clause-order
-read_container-requires-clause-order c =
+pub take_container-requires-clause-key : goal.take_container-requires-clause-key
+take_container-requires-clause-key g c = c.requires.keys c.containers.k (let t = c.containers-test.true in let n = c.requires.header.count_is in omega (arith, t, n))
+
+pub take_container-requires-clause-order : goal.take_container-requires-clause-order
+take_container-requires-clause-order g c =
     let h = c.containers.invariant in
     let k : ℕ = c.containers.k in
     let bytes = c.args.bytes.now in
@@ -57,7 +52,7 @@ read_container-requires-clause-order c =
     ]
 
 pub returns-clause-least : goal.returns-clause-least
-returns-clause-least c = λ bound is.
+returns-clause-least g c = λ bound is.
     let h = c.containers.invariant in
     let k : ℕ = c.containers.k in
     let bytes = c.args.bytes.now in
@@ -71,7 +66,7 @@ returns-clause-least c = λ bound is.
     ]
 
 pub containers-preserved : goal.containers-preserved
-containers-preserved c =
+containers-preserved g c =
     let h = c.containers.invariant in
     let k : ℕ = c.containers.k in
     let bytes = c.args.bytes.now in
@@ -79,12 +74,12 @@ containers-preserved c =
       at_is = c.end-end.ensures;
       containers = λ i below. elim (cases_lt i k) [
         | inl lower ↦ h.containers i lower
-        | inr upper ↦ (let e : i ≡ k = omega (arith, below, upper) in rw e c.in_ok-read_container.ensures.container)
+        | inr upper ↦ (let e : i ≡ k = omega (arith, below, upper) in rw e c.in_ok-take_container.ensures.container)
       ];
       none = λ z. absurd (omega (arith, z));
-      last = λ i e. (let same : i ≡ k = omega (arith, e) in rw same c.in_ok-read_container.ensures.length);
+      last = λ i e. (let same : i ≡ k = omega (arith, e) in rw same c.in_ok-take_container.ensures.length);
       members = λ i.
-          c.in_ok-read_container.ensures.members.bits i ∙ (ap (λ t. t || ((i / 65536 == key_of bytes k) && in_container bytes k (i % 65536))) (h.members i)
+          c.in_ok-take_container.ensures.members i ∙ (ap (λ t. t || ((i / 65536 == key_of bytes k) && in_container bytes k (i % 65536))) (h.members i)
           ∙ (ap (λ t. any_below k (λ k. (key_of bytes k == i / 65536) && in_container bytes k (i % 65536)) || (t && in_container bytes k (i % 65536))) (eq_comm (i / 65536) (key_of bytes k))
           ∙ (or_comm (any_below k (λ k. (key_of bytes k == i / 65536) && in_container bytes k (i % 65536))) ((key_of bytes k == i / 65536) && in_container bytes k (i % 65536))
           ∙ sym (any_next k (λ k. (key_of bytes k == i / 65536) && in_container bytes k (i % 65536))))));
@@ -92,7 +87,7 @@ containers-preserved c =
 
 pub returns-clause-members : goal.returns-clause-members
 unfolding holds
-returns-clause-members c = λ i.
+returns-clause-members g c = λ i.
     let t = c.containers-test.false in
     let e = c.containers.auto.k-end in
     let all : c.containers.k ≡ container_count c.args.bytes.now = (let n = c.requires.header.count_is in omega (arith, t, e, n)) in

@@ -17,8 +17,8 @@ write_runs-requires-clause-runs c = c.requires.runs.exact (sym c.are_shorter.ens
 pub write_runs-requires-clause-small : goal.write_runs-requires-clause-small
 write_runs-requires-clause-small c = (let f = c.are_shorter.ensures.few c.if-are_shorter.true in omega (arith, f))
 
-pub write_container-requires-clause-room : goal.write_container-requires-clause-room
-write_container-requires-clause-room c =
+pub write_flat-requires-clause-room : goal.write_flat-requires-clause-room
+write_flat-requires-clause-room c =
     let off : are_runs_shorter c.args.runs c.args.count ≡ false = sym c.are_shorter.ensures.shorter ∙ c.if-are_shorter.false in
     let b = best_flat c.args.count c.args.runs off in
     let room = c.requires.room in
@@ -36,6 +36,6 @@ pub returns-else-are_shorter-clause-written : goal.returns-else-are_shorter-clau
 returns-else-are_shorter-clause-written c =
     let off : are_runs_shorter c.args.runs c.args.count ≡ false = sym c.are_shorter.ensures.shorter ∙ c.if-are_shorter.false in
     record {
-      flat = λ _. c.write_container.ensures.written;
+      flat = λ _. c.write_flat.ensures.written;
       as_runs = λ on. absurd (both_ways (are_runs_shorter c.args.runs c.args.count) off on);
     }

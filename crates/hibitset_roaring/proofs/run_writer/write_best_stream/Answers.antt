@@ -1,4 +1,4 @@
-use Rattle.std.proofs.Common.{◌≡◌, ℕ, ◌+◌, ◌*◌, ◌/◌, ◌^◌, ◌<◌, get_or, length, ap, ◌∙◌, arith}
+use Rattle.std.proofs.Common.{◌≡◌, ℕ, ◌+◌, ◌*◌, ◌^◌, ◌<◌, get_or, length, ap, ◌∙◌, arith}
 use Rattle.std.proofs.lemmas.Bool.{cond-true, cond-false}
 use Rattle.hibitset.specs.WordBits.{stands_in}
 use Rattle.hibitset_roaring.specs.Streams.{start}
@@ -34,7 +34,7 @@ write_stream-requires-clause-room c =
 pub returns-then-some-clause-stream : goal.returns-then-some-clause-stream
 returns-then-some-clause-stream c = record {
   optimized = c.write_run_stream.ensures.stream;
-  only = λ other is. same_optimized c.args.words.now c.args.keys.now c.args.counts.now c.args.runs.now ((length c.args.words.now + 1023) / 1024) (λ p. omega (arith, c.type_inv.words p)) c.requires.heads (omega arith) c.requires.runs c.args.some c.requires.some c.requires.none c.write_run_stream.new.out other c.write_run_stream.ensures.stream is;
+  only = λ other is. same_optimized c.args.words.now c.args.keys.now c.args.counts.now c.args.runs.now 16384 (λ p. omega (arith, c.type_inv.words p)) c.requires.heads (let short = c.requires.short in omega (arith, short)) c.requires.runs c.args.some c.requires.some c.requires.none c.write_run_stream.new.out other c.write_run_stream.ensures.stream is;
 }
 
 pub returns-else-some-clause-stream : goal.returns-else-some-clause-stream
@@ -43,12 +43,13 @@ returns-else-some-clause-stream c =
     let keys = c.args.keys.now in
     let counts = c.args.counts.now in
     let runs = c.args.runs.now in
-    let bound : ℕ = (length words + 1023) / 1024 in
+    let bound : ℕ = 16384 in
+    let short = c.requires.short in
     let fits : (p : ℕ) → get_or words p 0 < 2 ^ 64 = λ p. omega (arith, c.type_inv.words p) in
     let out = c.write_stream.new.out in
     let optimized : IsRunOptimizedStream (stands_in words) out =
-    plain_optimized words out keys counts runs bound fits c.requires.heads (omega arith) c.requires.runs c.write_stream.ensures.stream.plain (c.requires.none c.if-some.false) in
+    plain_optimized words out keys counts runs bound fits c.requires.heads (omega (arith, short)) c.requires.runs (rw c.new.ensures at c.write_stream.ensures.stream.plain) (c.requires.none c.if-some.false) in
     record {
       optimized = optimized;
-      only = λ other is. same_optimized words keys counts runs bound fits c.requires.heads (omega arith) c.requires.runs c.args.some c.requires.some c.requires.none out other optimized is;
+      only = λ other is. same_optimized words keys counts runs bound fits c.requires.heads (omega (arith, short)) c.requires.runs c.args.some c.requires.some c.requires.none out other optimized is;
     }

@@ -8,8 +8,8 @@ use Rattle.hibitset_roaring.proofs.AppendLemmas.{appends_from, take_whole}
 use Rattle.hibitset_roaring.proofs.RunStreamLemmas.{canonical_run_same}
 use Rattle.hibitset_roaring.proofs.run_writer.write_run_optimized_to.Goals as goal
 
-pub of-requires-clause-above : goal.of-requires-clause-above
-of-requires-clause-above c = summaries_of c.args.set.now c.layer0_as_slice-words.result.now c.layer1_as_slice-above.result.now c.layer0_as_slice-words.ensures.short c.layer0_as_slice-words.ensures.words c.layer1_as_slice-above.ensures.words
+pub new-requires-clause-above : goal.new-requires-clause-above
+new-requires-clause-above c = summaries_of c.args.set.now c.layer0_as_slice-words.result.now c.layer1_as_slice-above.result.now c.layer0_as_slice-words.ensures.short c.layer0_as_slice-words.ensures.words c.layer1_as_slice-above.ensures.words
 
 pub runs_of-requires-clause-above : goal.runs_of-requires-clause-above
 runs_of-requires-clause-above c = summaries_of c.args.set.now c.layer0_as_slice-words.result.now c.layer1_as_slice-above.result.now c.layer0_as_slice-words.ensures.short c.layer0_as_slice-words.ensures.words c.layer1_as_slice-above.ensures.words

@@ -1,4 +1,4 @@
-use Rattle.std.proofs.Common.{◌≡◌, ℕ, ◌+◌, ◌*◌, ◌/◌, ◌^◌, ◌<◌, get_or, length, ap, ◌∙◌, arith}
+use Rattle.std.proofs.Common.{◌≡◌, ℕ, ◌+◌, ◌*◌, ◌^◌, ◌<◌, get_or, length, ap, ◌∙◌, arith}
 use Rattle.hibitset_roaring.specs.RunParts.{start_from, fields_after, first_after_runs, IsBestWritten, IsRunHeaded}
 use Rattle.hibitset_roaring.proofs.FrameLemmas.{u32_same}
 use Rattle.hibitset_roaring.proofs.RunPartLemmas.{from_first, from_mono, fields_first, offsets_first, run_headed_same}
@@ -47,7 +47,7 @@ returns-clause-stream c =
     let counts = c.args.counts.now in
     let runs = c.args.runs.now in
     let n : ℕ = length keys in
-    let bound : ℕ = (length words + 1023) / 1024 in
+    let bound : ℕ = 16384 in
     let same = c.requires.heads.same in
     let short = c.requires.short in
     let fits : (p : ℕ) → get_or words p 0 < 2 ^ 64 = λ p. omega (arith, c.type_inv.words p) in
@@ -65,9 +65,9 @@ returns-clause-stream c =
     let x = c.write_run_header.auto.out in
     let y = c.write_best_offsets.auto.out in
     let z = c.write_best_containers.auto.out in
-    optimized words out keys counts runs bound fits c.requires.heads (omega (arith, short)) c.requires.runs headed written
+    optimized words out keys counts runs bound fits c.requires.heads (omega arith) c.requires.runs headed written
     (record { small = λ p. omega (arith, c.type_inv.out p) })
-    (omega arith)
+    (omega (arith, short))
     c.requires.some
     (λ four k below.
     let last = offsets_first n four in
@@ -82,7 +82,6 @@ returns-clause-below c =
     let counts = c.args.counts.now in
     let runs = c.args.runs.now in
     let n : ℕ = length keys in
-    let short = c.requires.short in
     let fits : (p : ℕ) → get_or words p 0 < 2 ^ 64 = λ p. omega (arith, c.type_inv.words p) in
     let head = c.write_run_header.new.out in
     let mid = c.write_best_offsets.new.out in
@@ -93,4 +92,4 @@ returns-clause-below c =
     let headed : IsRunHeaded out keys counts runs =
     run_headed_same first mid out c.write_best_containers.ensures.before keys counts runs (omega (arith, is, f))
     (run_headed_same (fields_after n + 4 * n) head mid c.write_best_offsets.ensures.before keys counts runs (omega arith) c.write_run_header.ensures) in
-    runs_written_below words out keys counts runs ((length words + 1023) / 1024) fits c.requires.heads (omega (arith, short)) c.requires.runs headed (rw (← is) c.write_best_containers.ensures.written)
+    runs_written_below words out keys counts runs 16384 fits c.requires.heads (omega arith) c.requires.runs headed (rw (← is) c.write_best_containers.ensures.written)

@@ -1,5 +1,8 @@
-use Rattle.hibitset_roaring.proofs.SummaryLemmas.{summaries_of}
+use Rattle.std.proofs.Common.{sym}
+use Rattle.hibitset.specs.BitSet.{has}
+use Rattle.hibitset.specs.WordBits.{stands_in}
+use Rattle.hibitset_roaring.proofs.AppendLemmas.{plain_same}
 use Rattle.hibitset_roaring.proofs.writer.serialized_len.Goals as goal
 
-pub len_of_words-requires-clause-above : goal.len_of_words-requires-clause-above
-len_of_words-requires-clause-above c = summaries_of c.args.set.now c.layer0_as_slice.result.now c.layer1_as_slice.result.now c.layer0_as_slice.ensures.short c.layer0_as_slice.ensures.words c.layer1_as_slice.ensures.words
+pub returns : goal.returns
+returns c = λ bytes stream. c.len_of_source.ensures bytes (plain_same (has c.args.set.now) (stands_in c.of.result.words.now) bytes (λ i. sym (c.of.ensures i)) stream)

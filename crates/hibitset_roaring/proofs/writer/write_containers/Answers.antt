@@ -6,14 +6,14 @@ use Rattle.hibitset_roaring.proofs.FrameLemmas.{before_none, before_both, before
 use Rattle.hibitset_roaring.proofs.writer.write_containers.Goals as goal
 
 pub containers-init : goal.containers-init
-containers-init c = record {
+containers-init g c = record {
   at_is = sym (start_first c.args.counts.now);
   before = before_none (8 + 8 * length c.args.counts.now) c.args.out.now;
   written = λ i below. absurd (omega (arith, below));
 }
 
 pub write_container-requires-clause-room : goal.write_container-requires-clause-room
-write_container-requires-clause-room c =
+write_container-requires-clause-room g c =
     let n = start_next c.args.counts.now c.containers.k in
     let t = c.containers-test.true in
     let m = start_mono c.args.counts.now (c.containers.k + 1) (length c.args.keys.now) (omega (arith, t)) in
@@ -23,7 +23,7 @@ write_container-requires-clause-room c =
     omega (arith, n, m, h, room, same)
 
 pub overflow_add-at-in-containers : goal.overflow_add-at-in-containers
-overflow_add-at-in-containers c =
+overflow_add-at-in-containers g c =
     let f = flat_from (get_or c.args.counts.now c.containers.k 0) c.flat_size-at.result c.flat_size-at.ensures.small c.flat_size-at.ensures.large in
     let n = start_next c.args.counts.now c.containers.k in
     let m = start_most c.args.counts.now (c.containers.k + 1) in
@@ -34,7 +34,7 @@ overflow_add-at-in-containers c =
     omega (arith, f, n, m, h, t, few, same)
 
 pub containers-preserved : goal.containers-preserved
-containers-preserved c =
+containers-preserved g c =
     let h = c.containers.invariant in
     let k : ℕ = c.containers.k in
     let counts = c.args.counts.now in
@@ -53,7 +53,7 @@ containers-preserved c =
         | inl lower ↦
             let m = start_mono counts (i + 1) k (omega (arith, lower)) in
             let s = start_next counts i in
-            written_same c.containers.at out new before c.args.words.now (start counts i) (get_or c.args.keys.now i 0) (get_or counts i 0)
+            written_same c.containers.at out new before (g.S.ContainerSource.words c.args.source.now) (start counts i) (get_or c.args.keys.now i 0) (get_or counts i 0)
             (λ small. (let b = flat_is_small (get_or counts i 0) small in omega (arith, m, s, b, at_is)))
             (λ large. (let b = flat_is_large (get_or counts i 0) large in omega (arith, m, s, b, at_is)))
             (h.written i lower)

@@ -1,4 +1,4 @@
-use Rattle.std.proofs.Common.{◌≡◌, ℕ, ◌+◌, ◌*◌, ◌/◌, length, ap, ◌∙◌, arith}
+use Rattle.std.proofs.Common.{◌≡◌, ℕ, ◌+◌, ◌*◌, length, ap, ◌∙◌, arith}
 use Rattle.hibitset.specs.WordBits.{stands_in}
 use Rattle.hibitset_roaring.specs.Numbers.{u32_at}
 use Rattle.hibitset_roaring.specs.Format.{IsPlainStream}
@@ -10,14 +10,14 @@ use Rattle.hibitset_roaring.proofs.UniqueLemmas.{same_bytes}
 use Rattle.hibitset_roaring.proofs.writer.write_stream.Goals as goal
 
 pub returns-clause-stream : goal.returns-clause-stream
-returns-clause-stream c =
-    let words = c.args.words.now in
+returns-clause-stream g c =
+    let words = g.S.ContainerSource.words c.args.source.now in
     let keys = c.args.keys.now in
     let counts = c.args.counts.now in
-    let bound : ℕ = (length words + 1023) / 1024 in
+    let bound : ℕ = 16384 in
     let n : ℕ = length keys in
     let same = c.requires.heads.same in
-    let short = c.requires.short in
+    let short = g.met.S.ContainerSource.short c.args.source.now in
     let out = c.write_containers.new.out in
     let room = c.requires.room in
     let a = c.write_header.auto.out in
@@ -28,21 +28,21 @@ returns-clause-stream c =
     (headed_same (8 + 4 * length counts) c.write_header.new.out c.write_offsets.new.out c.write_offsets.ensures.before keys counts (omega (arith, same)) c.write_header.ensures) in
     let plain : IsPlainStream (stands_in words) out = record {
       are = record { small = λ p. omega (arith, c.type_inv.out p) };
-      stream = stream_written words out keys counts bound c.requires.heads headed c.write_containers.ensures.written (omega (arith, short))
+      stream = stream_written words out keys counts bound c.requires.heads headed c.write_containers.ensures.written (omega arith)
           (λ k below.
           let at : 8 + 4 * n + 4 * k ≡ 8 + 4 * length counts + 4 * k = omega (arith, same) in
           ap (λ a. u32_at out a) at ∙ (u32_same (8 + 8 * length counts) c.write_offsets.new.out out c.write_containers.ensures.before (8 + 4 * length counts + 4 * k) (omega (arith, same, below)) ∙ c.write_offsets.ensures.offsets k (omega (arith, same, below))))
           (omega (arith, room, a, b, d));
       plain = plain_written words out keys counts bound c.requires.heads headed;
-      members = holds_written words out keys counts bound c.requires.heads headed c.write_containers.ensures.written (omega arith);
+      members = holds_written words out keys counts bound c.requires.heads headed c.write_containers.ensures.written (omega (arith, short));
     } in
     record {
       plain = plain;
-      only = λ other is. same_bytes words keys counts bound (λ p. omega (arith, c.type_inv.words p)) c.requires.heads (omega arith) out other plain is;
+      only = λ other is. same_bytes words keys counts bound (g.met.S.ContainerSource.fits c.args.source.now) c.requires.heads (omega (arith, short)) out other plain is;
     }
 
 pub write_header-requires-clause-room : goal.write_header-requires-clause-room
-write_header-requires-clause-room c =
+write_header-requires-clause-room g c =
     let m = start_mono c.args.counts.now 0 (length c.args.keys.now) (omega arith) in
     let f = start_first c.args.counts.now in
     let same = c.requires.heads.same in
@@ -50,7 +50,7 @@ write_header-requires-clause-room c =
     omega (arith, m, f, same, room)
 
 pub write_offsets-requires-clause-room : goal.write_offsets-requires-clause-room
-write_offsets-requires-clause-room c =
+write_offsets-requires-clause-room g c =
     let m = start_mono c.args.counts.now 0 (length c.args.keys.now) (omega arith) in
     let f = start_first c.args.counts.now in
     let same = c.requires.heads.same in
@@ -59,11 +59,11 @@ write_offsets-requires-clause-room c =
     omega (arith, m, f, same, room, out)
 
 pub returns-clause-below : goal.returns-clause-below
-returns-clause-below c =
+returns-clause-below g c =
     let same = c.requires.heads.same in
     let keys = c.args.keys.now in
     let counts = c.args.counts.now in
     let headed : IsHeaded c.write_containers.new.out keys counts =
     headed_same (8 + 8 * length counts) c.write_offsets.new.out c.write_containers.new.out c.write_containers.ensures.before keys counts (omega (arith, same))
     (headed_same (8 + 4 * length counts) c.write_header.new.out c.write_offsets.new.out c.write_offsets.ensures.before keys counts (omega (arith, same)) c.write_header.ensures) in
-    range_written c.args.words.now c.write_containers.new.out keys counts ((length c.args.words.now + 1023) / 1024) c.requires.heads headed c.write_containers.ensures.written (let short = c.requires.short in omega (arith, short))
+    range_written (g.S.ContainerSource.words c.args.source.now) c.write_containers.new.out keys counts 16384 c.requires.heads headed c.write_containers.ensures.written (omega arith)

@@ -1,6 +1,6 @@
-use Rattle.std.proofs.Common.{◌≡◌, ℕ, ◌<◌, ◌≤◌, length, reverse}
+use Rattle.std.proofs.Common.{◌≡◌, ℕ, ◌+◌, ◌*◌, ◌<◌, ◌≤◌, length, reverse}
 use Rattle.hibitset_atomic.specs.declared.atomic.TheConstants.{ATOMIC_MAX_EID}
-use Rattle.hibitset_atomic.specs.Seats.{BelongsTo, IsKnown, weight_of, reports_of}
+use Rattle.hibitset_atomic.specs.Seats.{BelongsTo, IsKnown, weight_of, reports_of, loads_by}
 use Rattle.uses.proofs.shared_ids.take_into.Given as goal
 
 abbrev pub invariant-loop : goal.invariant-loop
@@ -11,4 +11,5 @@ invariant-loop l = record {
   count : length l.ids.items ≡ l.counter;
   start : l.start ≤ ATOMIC_MAX_EID;
   passed : (i : ℕ) → i < l.start → IsKnown l.seat i;
+  loads : loads_by l.seat ≤ loads_by l.fn.seat + 7 * l.start;
 }

@@ -9,6 +9,7 @@ use ::std::thread::{self, Builder, ScopedJoinHandle};
 
 pub use super::rt::Threads;
 pub use crate::support::rayon::join;
+pub use ::std::thread::yield_now;
 
 /// How many processors there are.
 pub fn available_parallelism<R: Threads>(_rt: &R) -> io::Result<NonZeroUsize> {

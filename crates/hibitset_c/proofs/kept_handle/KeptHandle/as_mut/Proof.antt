@@ -32,7 +32,8 @@ use Rattle.hibitset_c.specs.Handle.{may_free, handle_owns}
 use Rattle.hibitset_c.specs.KeptLoan.{with_kept}
 use Rattle.hibitset_c.specs.contracts.kept_handle.KeptHandle.{the_row as R}
 use Rattle.hibitset_c.specs.contracts.kept_handle.KeptHandle.as_mut as f
-use Rattle.hibitset_c.proofs.KeptHandleLemmas.{kept_of, but_the_kept, comes_together}
+use Rattle.hibitset_c.proofs.HandleLemmas.{held_of}
+use Rattle.hibitset_c.proofs.KeptHandleLemmas.{but_the_kept, comes_together}
 use Rattle.hibitset_c.proofs.kept_handle.KeptHandle.TheLaws.{lowers}
 use Rattle.hibitset_c.proofs.kept_handle.KeptHandle.as_mut.Statement.{statement}
 use Rattle.hibitset_c.proofs.kept_handle.KeptHandle.as_mut.Code as code
@@ -49,7 +50,7 @@ as_mut_spec 𝓤 𝓛 𝓜 𝓡 wired =
     let κ = κs.0 in let q = qs.0 in let own = a.0.ref_ptr in let γ = a.0.ghost_name in let h = a.0.now in let vs = mut_vals a.0 in
     let y : W.Ghost = ((κs, qs, bounds, a, (vs, tt)), tt) in
     qed 𝓛 (((‵ (flft κ q) ⊛ ‵ ftrue) ⊛ ‵ ((MutRef (named 0) κ R).own_val a.0 vs) ⊛ ‵ ftrue) ∷ raw (fact 𝓤 (is_some h.kept ≡ true)) ∷ []) ∵
-    move ! (1 ∷ []) $ heard ! _ (λ there. let x = (kept_of h.kept there).0 in let is_x = (kept_of h.kept there).1 in
+    move ! (1 ∷ []) $ heard ! _ (λ there. let x = (held_of h.kept there).0 in let is_x = (held_of h.kept there).1 in
     split ! $ split ! $ move ! (2 ∷ []) $ split ! $ keep ! (0 ∷ 2 ∷ []) $
     enter ! _ _ _ _ _ $ alloc_all ! (λ l. pass_all ! refl ((tt, tt), tt) $
     fsplit3 ! $ move ! (1 ∷ 2 ∷ 3 ∷ []) $ opens ! tt R own.0 own.1 (λ us.

@@ -27,7 +27,7 @@ use Rattle.hibitset_c.specs.contracts.kept.Kept.{the_row as kept_row}
 use Rattle.hibitset_c.specs.declared.kept.Kept.{Kept}
 use Rattle.hibitset_c.specs.contracts.kept_handle.KeptHandle.{the_type}
 use Rattle.hibitset_c.specs.contracts.kept_handle.KeptHandle.of as f
-use Rattle.hibitset_c.proofs.KeptHandleLemmas.{handle_fits}
+use Rattle.hibitset_c.proofs.HandleLemmas.{handle_fits}
 use Rattle.hibitset_c.proofs.RawBoxLemmas.{Raw, two, two_fits, ptr_fits, raw_opens}
 use Rattle.hibitset_c.proofs.kept_handle.KeptHandle.of.Statement.{statement}
 use Rattle.hibitset_c.proofs.kept_handle.KeptHandle.of.Code as code

@@ -31,7 +31,7 @@ use Rattle.hibitset_c.specs.Handle.{handle_owns}
 use Rattle.hibitset_c.specs.contracts.kept_handle.KeptHandle.{the_row as R}
 use Rattle.hibitset_c.specs.declared.kept_handle.KeptHandle.{KeptHandle}
 use Rattle.hibitset_c.specs.contracts.kept_handle.KeptHandle.take as f
-use Rattle.hibitset_c.proofs.KeptHandleLemmas.{kept_of}
+use Rattle.hibitset_c.proofs.HandleLemmas.{held_of}
 use Rattle.hibitset_c.proofs.RawBoxLemmas.{two, two_fits, ptr_fits, raw_closes}
 use Rattle.hibitset_c.proofs.kept_handle.KeptHandle.TheLaws.{lowers}
 use Rattle.hibitset_c.proofs.kept_handle.KeptHandle.take.Statement.{statement}
@@ -55,7 +55,7 @@ take_spec 𝓤 𝓛 𝓜 𝓡 wired =
     let Self : KeptHandle → List Val → Item 𝓤 = λ now us. ‵ ((MutRef (named 0) κ R).own_val (record self { now = now }) us) in let emptied : KeptHandle = record h { kept = None } in let self_is = mut_Tells (named 0) κ R self z.0.4.0 are.0 in
     let Post : Val → SProp 𝓤 = (walk_of 𝓛 f.ended stayed c).post z in
     qed 𝓛 (((‵ (flft κ q) ⊛ ‵ ftrue) ⊛ ‵ (owns (types_at f.ended.signature.params z.0.0) z.0.3 z.0.4)) ∷ raw (fact 𝓤 (is_some h.kept ≡ true)) ∷ []) ∵
-    move ! (1 ∷ []) $ heard ! _ (λ there. let x = (kept_of h.kept there).0 in let is_x = (kept_of h.kept there).1 in
+    move ! (1 ∷ []) $ heard ! _ (λ there. let x = (held_of h.kept there).0 in let is_x = (held_of h.kept there).1 in
     split ! $ split ! $ move ! (2 ∷ []) $ fsplit ! $ rewrite ! 0 (Self h) self_is refl $ move ! (1 ∷ []) $ fsplit ! $
     handle_tells freeing ! a z.0.4.1.0 (λ alloc alloc_is fits. keep ! (0 ∷ 2 ∷ 3 ∷ []) $
     -- [the allocator; the reference; the token]

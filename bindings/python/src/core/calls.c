@@ -1,0 +1,136 @@
+/*
+ * calls.c: calls on sets, of which no two meet if one of them changes a set of the other's.
+ *
+ * A short call keeps the GIL from its beginning to its end. A long one marks its sets, as read or changed, and gives
+ * the GIL up. A call waits while a mark is against it, or while a call that it may not meet has waited longer: without
+ * the GIL, and with no set marked. So calls never wait for one another in a circle, and each has its turn.
+ */
+#include "core.h"
+
+#include <pthread.h>
+
+/* A call that goes over more words or indices than this takes some microseconds, and gives the GIL up. */
+enum { SHORT_WORK = 4096, INDICES_PER_WORD = 64 };
+
+static pthread_mutex_t mutex = PTHREAD_MUTEX_INITIALIZER;
+static pthread_cond_t woken = PTHREAD_COND_INITIALIZER;
+static unsigned long wakes; /* Written under the GIL and the mutex. */
+static Call *waiting;       /* The calls that wait, in order. Read and written under the GIL. */
+
+/* In the child of a fork there is no other thread, so no call waits. */
+static void forget_waiting(void) {
+    waiting = NULL;
+    pthread_mutex_init(&mutex, NULL);
+    pthread_cond_init(&woken, NULL);
+}
+
+bool calls_begin(void) {
+    if (pthread_atfork(NULL, NULL, forget_waiting) == 0) return true;
+    PyErr_NoMemory();
+    return false;
+}
+
+/* Lets the calls that wait look at their sets again. */
+static void wake(void) {
+    if (waiting == NULL) return;
+    pthread_mutex_lock(&mutex);
+    wakes++;
+    pthread_cond_broadcast(&woken);
+    pthread_mutex_unlock(&mutex);
+}
+
+static bool has(const Call *call, const Core *set) {
+    return set == call->changed || set == call->read[0] || set == call->read[1];
+}
+
+/* Returns whether two calls may not meet. */
+static bool conflicts(const Call *a, const Call *b) {
+    return (a->changed != NULL && has(b, a->changed)) || (b->changed != NULL && has(a, b->changed));
+}
+
+/* Returns whether no mark is against a call, and no call before it. */
+static bool is_free(const Call *call) {
+    if (call->changed != NULL && call->changed->readers != 0) return false;
+    for (int i = 0; i < 2; i++) {
+        if (call->read[i] != NULL && call->read[i]->readers < 0) return false;
+    }
+    for (const Call *other = waiting; other != NULL && other != call; other = other->next) {
+        if (conflicts(call, other)) return false;
+    }
+    return true;
+}
+
+static void wait_until_free(Call *call) {
+    Call **place = &waiting;
+    while (*place != NULL) place = &(*place)->next;
+    *place = call;
+    do {
+        unsigned long seen = wakes;
+        PyThreadState *thread = PyEval_SaveThread();
+        pthread_mutex_lock(&mutex);
+        while (wakes == seen) pthread_cond_wait(&woken, &mutex);
+        pthread_mutex_unlock(&mutex);
+        PyEval_RestoreThread(thread);
+    } while (!is_free(call));
+    for (place = &waiting; *place != call;) place = &(*place)->next;
+    *place = call->next;
+    wake(); /* Those that waited behind this one. */
+}
+
+static void give_gil_up(Call *call) {
+    if (call->changed != NULL) call->changed->readers = -1;
+    for (int i = 0; i < 2; i++) {
+        if (call->read[i] != NULL) call->read[i]->readers++;
+    }
+    call->thread = PyEval_SaveThread();
+}
+
+/* Begins a call, which keeps the GIL. */
+static bool begin_short(Call *call) {
+    if (call->read[0] == call->changed) call->read[0] = NULL;
+    if (!is_free(call)) wait_until_free(call);
+    if (call->changed == NULL || call->changed->views == 0) return true;
+    PyErr_SetString(PyExc_BufferError, "the set can't be changed while an array of its words is held");
+    return false;
+}
+
+static size_t words_of(const Core *set) {
+    size_t len = 0;
+    if (set != NULL) hibitset_words(&set->set, &len);
+    return len;
+}
+
+bool begin(Call *call, size_t work) {
+    if (!begin_short(call)) return false;
+    if (work > SHORT_WORK) give_gil_up(call);
+    return true;
+}
+
+bool begin_walk_and(Call *call, size_t work) {
+    if (!begin_short(call)) return false;
+    size_t words = words_of(call->changed) + words_of(call->read[0]) + words_of(call->read[1]);
+    if (words > SHORT_WORK || work > SHORT_WORK) give_gil_up(call);
+    return true;
+}
+
+bool begin_walk(Call *call) { return begin_walk_and(call, 0); }
+
+bool begin_range(Call *call, uint32_t start, uint32_t bound) {
+    if (!begin_short(call)) return false;
+    /* A set that grows has its words written from the first on. */
+    uint32_t from = bound > hibitset_capacity(&call->changed->set) ? 0 : start;
+    if (bound > from && (bound - from) / INDICES_PER_WORD > SHORT_WORK) give_gil_up(call);
+    return true;
+}
+
+void end(Call *call) {
+    if (call->thread != NULL) {
+        PyEval_RestoreThread(call->thread);
+        if (call->changed != NULL) call->changed->readers = 0;
+        for (int i = 0; i < 2; i++) {
+            if (call->read[i] != NULL) call->read[i]->readers--;
+        }
+        wake();
+    }
+    if (call->changed != NULL && !call->unchanged) call->changed->changes++;
+}

@@ -1,0 +1,391 @@
+"""BitSet beside set."""
+import copy
+import operator
+import pickle
+import sys
+from array import array
+from collections.abc import MutableSet
+from decimal import Decimal
+from fractions import Fraction
+
+import pytest
+from hypothesis import given
+from hypothesis import strategies as st
+from hypothesis.stateful import RuleBasedStateMachine, invariant, precondition, rule
+
+from hibitset import MAX_INDEX, BitSet
+
+# Indices at the ends of words and of words of layers above, and dense ones. Sets end below 2^24, so that they are small.
+BORDERS = [border + d for border in (64, 4096, 65536, 1 << 18, 1 << 24) for d in (-1, 0, 1)]
+index = st.one_of(st.integers(0, 300), st.sampled_from(BORDERS), st.integers(0, 1 << 20))
+indices = st.lists(index, max_size=60)
+bound = st.one_of(index, st.integers(-5, 5))
+# What may be in a set of Python's.
+things = st.lists(
+    st.one_of(st.integers(-3, 70), st.sampled_from([MAX_INDEX, MAX_INDEX + 1, 1 << 70, 5.0, 5.5, "5", True, (5,)])), max_size=20
+)
+
+
+def test_all_names_of_sets():
+    for kind in [set, MutableSet]:
+        assert not [name for name in dir(kind) if not name.startswith("_") and not hasattr(BitSet, name)]
+    assert issubclass(BitSet, MutableSet)
+
+
+def test_the_empty_set():
+    empty = BitSet()
+    assert not empty and len(empty) == 0 and list(empty) == [] and empty == set() and repr(empty) == "BitSet()"
+    for call, error in [(empty.pop, KeyError), (empty.pop_last, KeyError), (empty.min, ValueError), (empty.max, ValueError)]:
+        with pytest.raises(error):
+            call()
+    with pytest.raises(IndexError):
+        empty[0]
+    assert empty.first_from(0) is None and empty.last_before(1 << 30) is None and empty.first_gap(0) == 0
+
+
+@pytest.mark.parametrize(
+    "items",
+    [
+        [3, 1, 2, 3], (3, 1, 2), {1, 2, 3}, frozenset({1, 2, 3}), range(1, 4), range(1, 6, 2), iter([1, 2, 3]), {1: 0, 2: 0},
+        (i for i in (1, 2, 3)), array("I", [1, 2, 3]), array("q", [1, 2, 3]), array("B", [1, 2, 3]), b"\x01\x02\x03\x00",
+        bytearray(b"abcde"), [], (), "", range(5, 5), range(5, 1), [True, False], {1: 2}.keys(), {1: 2}.values(),
+    ],
+    ids=repr,
+)  # fmt: skip
+def test_made_of(items):
+    if hasattr(items, "__next__"):
+        items = list(items)
+        assert BitSet(iter(items)) == set(items)
+    assert list(BitSet(items)) == sorted(set(items))
+
+
+def test_made_anew():
+    some = BitSet([1, 2])
+    some.__init__([3])
+    assert some == {3}
+    for wrong in [(some, 2), (1,), ([[]],), (None,)]:
+        with pytest.raises(TypeError):
+            some.__init__(*wrong)
+    with pytest.raises(TypeError):
+        BitSet(items=[1])
+
+
+@pytest.mark.parametrize("bad", [-1, MAX_INDEX + 1, 1 << 32, 1 << 70, -(1 << 70)])
+def test_out_of_range(bad):
+    some = BitSet([1, 2])
+    calls = [some.add, some.add_new, lambda i: some.update([7, i]), lambda i: some.update({i}), lambda i: some | {i}, lambda i: some ^ {i}]
+    for call in [*calls, lambda i: some.add_range(3, i + 2 if i > 0 else i), lambda i: some.symmetric_difference([i])]:
+        with pytest.raises(OverflowError, match="range"):
+            call(bad)
+    assert bad not in some
+    some.discard(bad)
+    with pytest.raises(KeyError) as caught:
+        some.remove(bad)
+    assert caught.value.args == (bad,)
+    for wrong in [[5, 6, bad, 7], iter([5, 6, bad, 7])]:
+        with pytest.raises(OverflowError, match="at position 2 "):
+            BitSet(wrong)
+
+
+@pytest.mark.parametrize("bad", ["5", 5.0, None, (5,), [5], object()])
+def test_what_is_no_integer(bad):
+    some = BitSet([5])
+    for call in [some.add, some.rank, some.first_from, lambda i: some.update([i]), lambda i: some.add_range(0, i), lambda i: some[i]]:
+        with pytest.raises(TypeError):
+            call(bad)
+    assert some == {5}
+
+
+class Hashed:
+    """What has the hash of a member, and is none."""
+
+    def __hash__(self):
+        return 5
+
+
+@pytest.mark.parametrize("item", [Hashed(), "5", 5.0, 5.5, None, (5,), True, Decimal(5), Fraction(5), Fraction(11, 2), object(), -5, 1 << 70, float("nan"), float("inf")], ids=repr)
+def test_what_is_equal_to_a_member(item):
+    """As of set: an object is in a set if it equals a member."""
+    some, model = BitSet([1, 5]), {1, 5}
+    assert (item in some) == (item in model)
+    for call in [set.issubset, set.issuperset, set.isdisjoint, set.intersection, set.difference]:
+        assert getattr(some, call.__name__)([item, 1]) == call(model, [item, 1])
+    for call in [operator.and_, operator.sub, operator.eq, operator.ne, operator.le, operator.lt, operator.ge, operator.gt]:
+        assert call(some, {item, 1}) == call(model, {item, 1})
+    some.discard(item)
+    model.discard(item)
+    assert some == model
+    if item not in model:
+        with pytest.raises(KeyError) as caught:
+            some.remove(item)
+        assert caught.value.args == (item,)
+
+
+def test_what_has_no_hash():
+    some = BitSet([5])
+    for call in [some.__contains__, some.discard, some.remove, lambda i: some & [i], lambda i: some.intersection([i])]:
+        with pytest.raises(TypeError):
+            call([])
+    with pytest.raises(TypeError, match="unhashable"):
+        hash(some)
+
+
+def test_what_is_no_set():
+    some = BitSet([5])
+    calls = [operator.or_, operator.and_, operator.sub, operator.xor, operator.le, operator.lt, operator.ge, operator.gt]
+    for call in [*calls, operator.ior, operator.iand, operator.isub, operator.ixor]:
+        for other in [[5], (5,), 5, "5", b"5", {5: 5}, None]:
+            with pytest.raises(TypeError):
+                call(some, other)
+    assert some != [5] and some != 5 and not some == [5]
+
+
+@given(indices, things)
+def test_a_set_and_things(a, b):
+    ours, theirs, other = BitSet(a), set(a), set(b)
+    for call in [operator.and_, operator.sub]:
+        assert call(ours, other) == call(theirs, other)
+    for call in [operator.eq, operator.ne, operator.le, operator.lt, operator.ge, operator.gt]:
+        assert call(ours, other) == call(theirs, other) and call(other, ours) == call(other, theirs)
+    for name in ["issubset", "issuperset", "isdisjoint", "intersection", "difference"]:
+        assert getattr(ours, name)(b) == getattr(theirs, name)(b) == getattr(ours, name)(iter(b))
+    for name in ["__iand__", "__isub__"]:
+        changed = ours.copy()
+        assert getattr(changed, name)(other) is changed and changed == getattr(theirs.copy(), name)(other)
+    assert ours.intersection_len(b) == len(theirs.intersection(b)) and ours.difference_len(b) == len(theirs.difference(b))
+
+
+@given(indices, indices)
+def test_two_sets(a, b):
+    ours, theirs, other, model = BitSet(a), set(a), BitSet(b), set(b)
+    for call in [operator.or_, operator.and_, operator.sub, operator.xor]:
+        expected = call(theirs, model)
+        for found in [call(ours, other), call(ours, model), call(theirs, other)]:
+            assert type(found) is BitSet and found == expected
+        changed = ours.copy()
+        assert getattr(operator, "i" + call.__name__.strip("_"))(changed, other) is changed and changed == expected
+        assert list(call(ours, other)) == sorted(expected)
+    for call in [operator.eq, operator.ne, operator.le, operator.lt, operator.ge, operator.gt]:
+        assert call(ours, other) == call(ours, model) == call(theirs, model) == call(theirs, other)
+    for name in ["union", "intersection", "difference", "symmetric_difference"]:
+        assert getattr(ours, name)(other) == getattr(ours, name)(b) == getattr(theirs, name)(b)
+        assert getattr(ours, name + "_len")(other) == len(getattr(theirs, name)(b))
+    for name in ["issubset", "issuperset", "isdisjoint"]:
+        assert getattr(ours, name)(other) == getattr(ours, name)(b) == getattr(theirs, name)(b)
+    assert ours.union(b, a, [1]) == theirs.union(b, a, [1]) and ours.union() == ours.intersection() == ours.difference() == ours
+    assert ours.intersection(b, a) == theirs.intersection(b, a) and ours.difference(b, [1]) == theirs.difference(b, [1])
+    assert ours == theirs and other == model
+    assert (ours.fingerprint() == other.fingerprint()) == (theirs == model)
+
+
+@given(indices)
+def test_a_set_and_itself(a):
+    for name, expected in [("__ior__", set(a)), ("__iand__", set(a)), ("__isub__", set()), ("__ixor__", set())]:
+        some = BitSet(a)
+        getattr(some, name)(some)
+        assert some == expected
+    some = BitSet(a)
+    assert some | some == some & some == some and not some ^ some and not some - some
+    assert some == some and some <= some and not some < some and some.intersection_len(some) == len(some)
+    some.update(some)
+    assert some == set(a)
+
+
+@given(indices, bound, bound)
+def test_order(a, x, y):
+    some, members = BitSet(a), sorted(set(a))
+    assert list(some) == members and list(reversed(some)) == members[::-1] and len(some) == len(members)
+    assert some.rank(x) == sum(member < x for member in members)
+    assert some.len_range(x, y) == sum(x <= member < y for member in members)
+    assert some.first_from(x) == next((member for member in members if member >= x), None)
+    assert some.last_before(x) == next((member for member in reversed(members) if member < x), None)
+    gap = some.first_gap(x)
+    assert gap >= x and gap not in some and some.contains_range(max(x, 0), gap)
+    assert some.contains_range(x, y) == all(i in some for i in range(x, min(y, x + 400)))
+    assert [some[at] for at in range(-len(members), len(members))] == members * 2
+    assert [some.index(member) for member in members] == list(range(len(members)))
+    if members:
+        assert some.min() == members[0] and some.max() == members[-1]
+    for at in [len(members), -len(members) - 1, 1 << 70, -(1 << 70)]:
+        with pytest.raises(IndexError):
+            some[at]
+    with pytest.raises(ValueError):
+        some.index(gap)
+
+
+@given(indices, st.integers(-70, 70), st.integers(-70, 70), st.integers(-4, 4).filter(bool))
+def test_slices(a, start, stop, step):
+    some, members = BitSet(a), sorted(set(a))
+    for at in [slice(start, stop), slice(start, stop, step), slice(None, stop, step), slice(start, None, step)]:
+        assert list(some[at]) == sorted(members[at])
+
+
+def test_ends_of_the_range():
+    some = BitSet()
+    some.add(MAX_INDEX)
+    assert some.max() == MAX_INDEX and some.capacity() == MAX_INDEX + 1 and sys.getsizeof(some) > 1 << 27
+    assert some.first_gap(MAX_INDEX) is None and some.last_before(1 << 99) == MAX_INDEX and list(some) == [MAX_INDEX]
+    assert list(reversed(some)) == [MAX_INDEX] and some.rank(1 << 99) == 1 and some.first_from(-(1 << 99)) == MAX_INDEX
+    some.clear()
+    assert some.capacity() == 0 and not some
+    assert BitSet.with_capacity(1000).capacity() >= 1000
+    for bad in [-1, MAX_INDEX + 2]:
+        with pytest.raises(OverflowError):
+            BitSet.with_capacity(bad)
+
+
+@given(indices)
+def test_copies(a):
+    some = BitSet(a)
+    for made in [some.copy(), copy.copy(some), copy.deepcopy(some), BitSet(some), some[:], some.union(), some | set()]:
+        assert made == some and made is not some
+        made.add(301)
+        made ^= {1}
+        assert some == set(a)
+
+
+@given(indices, st.integers(0, 5))
+def test_pickles(a, protocol):
+    assert pickle.loads(pickle.dumps(BitSet(a), protocol)) == set(a)
+
+
+def test_pickle_out_of_band():
+    some, buffers = BitSet(range(0, 1 << 20, 7)), []
+    data = pickle.dumps(some, 5, buffer_callback=buffers.append)
+    assert len(data) < 300 and pickle.loads(data, buffers=buffers) == some
+
+
+class Pages(BitSet):
+    """A set that has a note too."""
+
+    def __init__(self, items=(), note=None):
+        super().__init__(items)
+        self.note = note
+
+
+def test_a_class_derived_from_it():
+    some = Pages([1, 2], "kept")
+    for made in [some | {3}, some & {1}, some - {1}, some ^ {1}, some.copy(), some[:1], some[::2], some.union([7]), {9} - some]:
+        assert type(made) is BitSet
+    some |= {3}
+    some -= {3}
+    for made in [copy.copy(some), copy.deepcopy(some), pickle.loads(pickle.dumps(some)), pickle.loads(pickle.dumps(some, 5))]:
+        assert type(made) is Pages and made == some and made.note == "kept"
+    assert type(some) is type(Pages.deserialize(some.serialize())) is type(Pages.with_capacity(5)) is Pages
+    assert some == BitSet([1, 2]) and repr(some) == "Pages([1, 2])"
+
+
+def test_repr():
+    assert repr(BitSet(range(32))) == f"BitSet({list(range(32))})"
+    assert repr(BitSet(range(100))) == "<BitSet of 100: 0, 1, 2, 3, 4, 5, 6, 7, 8, 9, 10, 11, 12, 13, 14, 15, ..., 99>"
+
+
+@pytest.mark.parametrize("way", [iter, reversed])
+def test_a_set_that_changes_during_an_iteration(way):
+    changes = [
+        lambda some: some.add(7), lambda some: some.discard(4000), BitSet.pop, BitSet.pop_last, BitSet.clear, lambda some: some.update([9]),
+        lambda some: some.add_range(0, 9), lambda some: some.__ior__({7}), lambda some: some.remove_range(0, 9), lambda some: some.remove(8),
+    ]  # fmt: skip
+    for change in changes:
+        some = BitSet(range(0, 5000, 2))
+        found = way(some)
+        next(found)
+        change(some)
+        for _ in range(2):
+            with pytest.raises(RuntimeError, match="changed"):
+                next(found)
+    some = BitSet(range(0, 5000, 2))
+    for same in [lambda i: some.add(i), lambda i: some.discard(i + 1), lambda i: some.rank(i), lambda i: some.add_new(i)]:
+        for member in way(some):
+            same(member)
+
+
+@pytest.mark.parametrize("count", [0, 1, 255, 256, 257, 1000])
+def test_iterators(count):
+    some = BitSet(range(0, 3 * count, 3))
+    for way in [iter, reversed]:
+        found, expected = way(some), list(way(range(0, 3 * count, 3)))
+        assert iter(found) is found
+        for left in range(count, 0, -1):
+            assert operator.length_hint(found) == left
+            assert next(found) == expected[count - left]
+            if left % 100 == 0:
+                assert list(pickle.loads(pickle.dumps(found))) == expected[count - left + 1 :]
+        assert operator.length_hint(found) == 0 and list(pickle.loads(pickle.dumps(found))) == []
+        for _ in range(2):
+            with pytest.raises(StopIteration):
+                next(found)
+
+
+class Machine(RuleBasedStateMachine):
+    """Random calls on a BitSet and on a set."""
+
+    def __init__(self):
+        super().__init__()
+        self.ours, self.model = BitSet(), set()
+
+    @rule(i=index)
+    def add(self, i):
+        assert self.ours.add_new(i) == (i not in self.model)
+        self.model.add(i)
+
+    @rule(i=index)
+    def discard(self, i):
+        self.ours.discard(i)
+        self.model.discard(i)
+
+    @rule(i=index)
+    def remove(self, i):
+        if i in self.model:
+            self.ours.remove(i)
+            self.model.remove(i)
+        else:
+            with pytest.raises(KeyError):
+                self.ours.remove(i)
+
+    @rule(start=index, length=st.integers(0, 5000))
+    def add_range(self, start, length):
+        self.ours.add_range(start, start + length)
+        self.model.update(range(start, start + length))
+
+    @rule(start=index, length=st.integers(0, 5000))
+    def remove_range(self, start, length):
+        self.ours.remove_range(start, start + length)
+        self.model.difference_update(range(start, start + length))
+
+    @rule(start=index, length=st.integers(0, 5000))
+    def flip_range(self, start, length):
+        self.ours.flip_range(start, start + length)
+        self.model.symmetric_difference_update(range(start, start + length))
+
+    @rule(items=indices, name=st.sampled_from(["update", "intersection_update", "difference_update", "symmetric_difference_update"]))
+    def assign(self, items, name):
+        getattr(self.ours, name)(items)
+        getattr(self.model, name)(items)
+
+    @precondition(lambda self: self.model)
+    @rule()
+    def pop(self):
+        assert self.ours.pop() == min(self.model)
+        self.model.remove(min(self.model))
+
+    @precondition(lambda self: self.model)
+    @rule()
+    def pop_last(self):
+        assert self.ours.pop_last() == max(self.model)
+        self.model.remove(max(self.model))
+
+    @rule()
+    def stream(self):
+        self.ours = BitSet.deserialize(self.ours.serialize())
+
+    @rule(i=index)
+    def contains(self, i):
+        assert (i in self.ours) == (i in self.model)
+
+    @invariant()
+    def same(self):
+        assert list(self.ours) == sorted(self.model)
+
+
+TestMachine = Machine.TestCase

@@ -1,0 +1,29 @@
+-- What a contract sees of a sparse set that C keeps.
+use Rattle.std.specs.Prelude.{◌≡◌, ℕ, ◌/◌, Bool, true, false, Option, None, Some}
+use Rattle.hibitset_sparse.specs.SparseBitSet.{has as sparse_has}
+use Rattle.hibitset_c.specs.declared.kept.Kept.{Kept}
+use Rattle.hibitset_c.specs.declared.kept.Kept.TheVariants.{Alone, Seated, Sparse, Nothing}
+use Rattle.hibitset_c.specs.declared.sparse_set.SparseSet.{SparseSet}
+
+abbrev pub has_in : Option Kept → ℕ → Bool
+has_in None i = false
+has_in (Some (Alone set)) i = false
+has_in (Some (Seated m)) i = false
+has_in (Some (Sparse set)) i = sparse_has set i
+has_in (Some Nothing) i = false
+
+-- the set has the number
+abbrev pub has : SparseSet → ℕ → Bool
+has set = has_in set.handle.kept
+
+-- some member lies in the same 64 indices
+abbrev pub SharesWordWithMember : SparseSet → ℕ → Type 0
+SharesWordWithMember set i = (j : ℕ) × (j / 64 ≡ i / 64) × (has set j ≡ true)
+
+-- there is no set, and so no block of memory
+abbrev pub OwnsNoMemory : SparseSet → Type 0
+OwnsNoMemory set = set.handle.kept ≡ None
+
+-- The set is as it was.
+abbrev pub IsSame : SparseSet → SparseSet → Type 0
+IsSame old new = new.handle.kept ≡ old.handle.kept

@@ -1,0 +1,7 @@
+use Rattle.hibitset_sparse.proofs.KeptLemmas.{kept-nonzero}
+use Rattle.hibitset_sparse.proofs.kept.retain_words.Goals as goal
+
+pub invariant_of-chunk : goal.invariant_of-chunk
+invariant_of-chunk g c = record {
+  nonzero = kept-nonzero (g.G.GroupChange.leaves c.args.by.now) c.replace-words.result c.retain.result c.requires.nonzero c.retain.ensures;
+}

@@ -1,0 +1,10 @@
+use Rattle.std.proofs.Common.{not}
+use Rattle.hibitset_sparse.specs.SparseBitSet.{has}
+use Rattle.hibitset_sparse.proofs.KeptLemmas.{set-kept}
+use Rattle.hibitset_sparse.proofs.set.SparseBitSet.difference_with.Goals as goal
+
+pub retain_chunks-requires : goal.retain_chunks-requires
+retain_chunks-requires c = record { full = λ k chunk left is. is.full }
+
+pub returns : goal.returns
+returns c = set-kept (λ j. not (has c.args.other.now j)) c.args.self.now c.retain_chunks.new.self c.retain_chunks.ensures

@@ -1,0 +1,68 @@
+// Derived from crates/hibitset_sparse/src/words.rt by rust/derive.py, and never edited by hand.
+
+//! Whole words of layer 0 added to a set.
+
+use crate::support::rattle_std::prelude::*;
+
+use crate::derived::hibitset_sparse::chunk::{Chunk, INDICES_PER_CHUNK};
+use crate::derived::hibitset_sparse::set::SparseBitSet;
+use crate::support::rattle_std::alloc::AllocError;
+
+impl Chunk {
+    // Adds those of the 64 indices that share the word of one whose bits are set, one at least. If an allocation fails,
+    // the words stay.
+    fn add_bits(&mut self, i: usize, bits: usize) -> Result<(), AllocError> {
+        let Some(at) = self.words.position(i / 64) else {
+            self.words.insert(i / 64, bits)?;
+            return Ok(());
+        };
+        let word = self.words.items[at];
+        self.words.write(i / 64, at, word | bits);
+        Ok(())
+    }
+}
+
+impl SparseBitSet {
+    // Adds those of the 64 indices that share the word of one whose bits are set, one at least. If an allocation fails,
+    // the members stay.
+    fn add_bits(&mut self, id: usize, bits: usize) -> Result<(), AllocError> {
+        if let Some(at) = self.chunks.position(id / INDICES_PER_CHUNK) {
+            return self.chunks.items[at].add_bits(id % INDICES_PER_CHUNK, bits);
+        }
+        let mut chunk = Chunk::new(*self.chunks.items.allocator());
+        chunk.add_bits(id % INDICES_PER_CHUNK, bits)?;
+        self.chunks.insert(id / INDICES_PER_CHUNK, chunk)?;
+        Ok(())
+    }
+
+    // Adds the members of a word at a position of layer 0. If an allocation fails, the members stay.
+    fn add_word(&mut self, position: usize, word: usize) -> Result<(), AllocError> {
+        if word == 0 {
+            return Ok(());
+        }
+        self.add_bits(64 * position, word)
+    }
+
+    /// Adds the members of words that lie side by side from position `first` of layer 0 on: bit b of the word at place j
+    /// stands for the index 64 · (`first` + j) + b. They end by `MAX_EID`.
+    ///
+    /// If an allocation fails, the words before one of them are added, and none from it on.
+    ///
+    /// It looks up the place of each nonzero word, and moves what lies behind it in its chunk where no member shared its
+    /// word. So words behind all members move nothing. A word that is 0 takes no look-up.
+    ///
+    /// # Contract
+    ///
+    /// ```text
+    /// requires { 64 * (first + length words.now) ≤ MAX_EID }
+    /// ensures added { OnOk result (AddsWords first words.now (has self.old) (has self.new)) }
+    /// ensures added_before { OnErr result ((n : ℕ) × (n < length words.now)
+    ///     × AddsWords first (take n words.now) (has self.old) (has self.new)) }
+    /// ```
+    pub fn add_words(&mut self, first: usize, words: &[usize]) -> Result<(), AllocError> {
+        'words: for j in 0..words.len() {
+            self.add_word(first + j, words[j])?;
+        }
+        Ok(())
+    }
+}
