@@ -1,7 +1,7 @@
 //! Each call that asks for memory is made between two requests of the test's own. Where a request of the call is
 //! refused it is seen what stands, and the call is made again. A test prints whether the first request, the call and
-//! the last request were refused; `allocation_failures.py` refuses the requests one after the other. The tests of
-//! `room` make calls that do not allocate as things stand, and print nothing between the two requests.
+//! the last request were refused; `allocation_failures.py` refuses the requests one after the other. A test whose call
+//! does not allocate as things stand, as all of `room`, prints nothing between the two requests.
 ghost use Rattle.std.specs.Prelude.{◌≡◌, [], IfOk};
 ghost use Rattle.hibitset_atomic.specs.Seats.{BelongsTo, weight_of, reports_of};
 ghost use Rattle.hibitset_atomic.specs.declared.shared.layout.TheConstants.{SHARES};
