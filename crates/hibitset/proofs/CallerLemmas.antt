@@ -1,7 +1,9 @@
 -- For callers:
--- where the members of a set lie and how many they are, a step of a walk, the answer of a fold in parts, exclusive or;
+-- the list of the members, first members and gaps, where the members of a set lie and how many they are, a step of a
+-- walk, the answer of a fold in parts, exclusive or;
 -- and that a walk's state made by hand is well formed where a test says so, which computes on literals, so that `refl`
 -- proves it.
+pub use Rattle.hibitset_base.proofs.CallerLemmas.{members_ascend, members_contain, all_members, all_after, members_in_range, nth_is, list_from_nth, list_at_member, member_at, first_from, first_step_from, none_from, after_first, none_at_all}
 pub use Rattle.hibitset.proofs.WithinLemmas.{has_within, none_past, none_past_slice}
 pub use Rattle.hibitset.proofs.MemberCountLemmas.{members-with, members-there, members-without, members-within, members-fewer, members-apart}
 pub use Rattle.hibitset.proofs.WalkStepLemmas.{StepsTo, step_from, ended_from, some_member, first_or_rest}

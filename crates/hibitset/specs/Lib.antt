@@ -7,3 +7,4 @@ pub mod WordBits
 pub mod Comparison
 pub mod Laws
 pub mod Extension
+pub mod Prelude

@@ -4,8 +4,7 @@ use Rattle.std.specs.Prelude.{nat_le}
 use Rattle.std.specs.Option.{unwrap_or}
 use Rattle.std.proofs.lemmas.Bool.{cases_lt}
 use Rattle.std.proofs.lemmas.Bool.Decides.{nat_tests}
-use Rattle.hibitset_base.specs.First.{IsFirst, HasNone, is_gap_from}
-use Rattle.hibitset_base.specs.declared.util.TheConstants.{MAX_EID}
+use Rattle.hibitset.specs.Prelude.{IsFirst, HasNone, is_gap_from, MAX_EID}
 use Rattle.uses.specs.Ids.{IsFreeRun, IsFirstRun, HasNoRun}
 
 -- A run that begins at `start` ends there.

@@ -7,10 +7,7 @@ use Rattle.std.proofs.iter.Yields.{nat_range_steps}
 use Rattle.std.proofs.lemmas.Bool.{cases_eq, eqb-true}
 use Rattle.std.proofs.lemmas.List.Folds.{list_any_at, Any-from_list_any}
 use Rattle.std.proofs.lemmas.List.Elements.{All-get_or}
-use Rattle.hibitset_base.specs.Extension.{IsRefusalBelow, TakesAllBelow, RefusesBelow}
-use Rattle.hibitset_base.specs.declared.build.BuildError.{BuildError}
-use Rattle.hibitset_base.specs.declared.build.BuildError.TheVariants.{OutOfRange, Memory}
-use Rattle.hibitset_base.specs.Slices.{place_of}
+use Rattle.hibitset.specs.Prelude.{IsRefusalBelow, TakesAllBelow, RefusesBelow, BuildError, OutOfRange, Memory, place_of}
 use Rattle.hibitset_base.proofs.SliceLemmas.{place_counts}
 use Rattle.uses.specs.Lists.{IsRefusalFrom, BeginsWord}
 

@@ -2,10 +2,8 @@
 use Rattle.std.proofs.Common.{◌≡◌, ℕ, ◌+◌, ◌-◌, ◌%◌, ◌^◌, ◌<◌, Bool, ◌&&◌, List, [], ◌∷◌, ◌++◌, Result, IfOk, slice_index, Fits, w32, subst, rules, get_or, sum_by, arith, mul-le-mul_right}
 use Rattle.std.proofs.lemmas.List.Sums.{sum_by-le, sum_by-append, sum_by_push}
 use Rattle.std.proofs.lemmas.Result.{IfOk-weaker}
-use Rattle.hibitset_base.specs.Folds.{FoldsInParts}
+use Rattle.hibitset.specs.Prelude.{FoldsInParts, members_below, MAX_EID}
 use Rattle.hibitset.proofs.CallerLemmas.{answer_of_parts}
-use Rattle.hibitset_base.specs.Members.{members_below}
-use Rattle.hibitset_base.specs.declared.util.TheConstants.{MAX_EID}
 use Rattle.hibitset_base.proofs.MemberLemmas.{members-length, members-same}
 use Rattle.uses.specs.Weights.{weight_of_both}
 

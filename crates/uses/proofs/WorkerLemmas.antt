@@ -6,9 +6,7 @@ use Rattle.std.proofs.lemmas.List.Concat.{flat_map-cons}
 use Rattle.std.proofs.lemmas.List.{get_or_append_left}
 use Rattle.std.proofs.Math.Seq.{get_or-append_seam}
 use Rattle.std.proofs.lemmas.List.Elements.{All-cons, Contains-append_left, Contains-append_right, Contains-append_cases}
-use Rattle.hibitset_atomic.specs.declared.atomic.TheConstants.{ATOMIC_MAX_EID}
-use Rattle.hibitset_atomic.specs.declared.shared.types.SharedBitSet.{SharedBitSet}
-use Rattle.hibitset_atomic.specs.Seats.{IsKnown, weight_of}
+use Rattle.hibitset.specs.Prelude.{ATOMIC_MAX_EID, SharedBitSet, IsKnown, weight_of}
 use Rattle.uses.specs.declared.workers.Job.{Job}
 use Rattle.uses.specs.declared.workers.Work.{Work}
 use Rattle.uses.specs.Workers.{IsWork, IsWorkOf, list_of, seat_weight, new_reports}

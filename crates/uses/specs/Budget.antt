@@ -1,15 +1,7 @@
 -- How many words walks read in all, and where they lie.
 use Rattle.std.specs.Prelude.{◌≡◌, ℕ, ◌+◌, ◌*◌, ◌^◌, ◌<◌, min, Bool, true, List, length, filter, nat_lt, ◌&&◌, Option, Some, None}
 use Rattle.std.specs.Borrow.{Bor}
-use Rattle.hibitset_base.specs.Places.{Place}
-use Rattle.hibitset_base.specs.Splits.{part_words, part_reads}
-use Rattle.hibitset_base.specs.Walk.{words_read, words_ahead}
-use Rattle.hibitset_base.specs.declared.iter.BitIter.{BitIter}
-use Rattle.hibitset_base.specs.declared.parallel.BitProducer.{BitProducer}
-use Rattle.hibitset_base.specs.declared.virt.BitSetAnd.{BitSetAnd}
-use Rattle.hibitset.specs.BitSet.{has, members_of}
-use Rattle.hibitset.specs.Laws.{intersection_word}
-use Rattle.hibitset.specs.declared.set.BitSet.{BitSet}
+use Rattle.hibitset.specs.Prelude.{Place, part_words, part_reads, words_read, words_ahead, BitIter, BitProducer, BitSetAnd, has, members_of, intersection_word, BitSet}
 
 -- what two sets have in common, by reference
 abbrev pub Both : Type 0

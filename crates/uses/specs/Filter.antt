@@ -1,7 +1,7 @@
 -- What a contract sees of tagged records.
 use Rattle.std.specs.Prelude.{ℕ, Bool, false, ◌&&◌, not, slice_get, vec_len}
 use Rattle.std.specs.Option.{option_map_or}
-use Rattle.hibitset.specs.BitSet.{has}
+use Rattle.hibitset.specs.Prelude.{has}
 use Rattle.uses.specs.declared.filter.Tagged.{Tagged}
 
 -- how many tags there are

@@ -1,7 +1,6 @@
 -- What a contract sees of identifiers.
 use Rattle.std.specs.Prelude.{◌≡◌, ℕ, ◌+◌, ◌<◌, ◌≤◌, Bool, false, not}
-use Rattle.hibitset_base.specs.declared.util.TheConstants.{MAX_EID}
-use Rattle.hibitset.specs.BitSet.{has}
+use Rattle.hibitset.specs.Prelude.{MAX_EID, has}
 use Rattle.uses.specs.declared.ids.Ids.{Ids}
 
 -- the identifier is in use

@@ -1,7 +1,6 @@
 -- Why a range was not taken into a set.
 use Rattle.std.specs.Prelude.{◌≡◌, ◌⊎◌, ℕ, ◌+◌, ◌%◌, ◌<◌, ◌≤◌}
-use Rattle.hibitset_base.specs.declared.build.BuildError.{BuildError}
-use Rattle.hibitset_base.specs.declared.build.BuildError.TheVariants.{OutOfRange, Memory}
+use Rattle.hibitset.specs.Prelude.{BuildError, OutOfRange, Memory}
 
 -- Of the indices from a start on, the one at the place is out of range, or it lies in range and there was no memory for
 -- it.

@@ -1,11 +1,7 @@
 -- Rows of a table, and marks that few of them have.
 use Rattle.std.specs.Prelude.{ℕ, ◌+◌, ◌&&◌, Bool, bit_and, length}
 use Rattle.std.specs.Borrow.{Bor}
-use Rattle.hibitset_base.specs.Walk.{words_read, words_ahead}
-use Rattle.hibitset_base.specs.declared.iter.BitIter.{BitIter}
-use Rattle.hibitset_base.specs.declared.virt.BitSetAnd.{BitSetAnd}
-use Rattle.hibitset.specs.BitSet.{has, word_of}
-use Rattle.hibitset.specs.declared.set.BitSet.{BitSet}
+use Rattle.hibitset.specs.Prelude.{words_read, words_ahead, BitIter, BitSetAnd, has, word_of, BitSet}
 use Rattle.hibitset_sparse.specs.SparseBitSet.{has as is_marked, word_of as marked_word}
 use Rattle.hibitset_sparse.specs.declared.set.SparseBitSet.{SparseBitSet}
 

@@ -1,14 +1,7 @@
 -- What three sets have in common and a fourth has not, and how many words a walk over it reads.
 use Rattle.std.specs.Prelude.{ℕ, ◌+◌, ◌*◌, min, Bool, length, ◌&&◌, not, bit_and}
 use Rattle.std.specs.Borrow.{Bor}
-use Rattle.hibitset_base.specs.Virtual.{not_word}
-use Rattle.hibitset_base.specs.Walk.{words_read, words_ahead}
-use Rattle.hibitset_base.specs.declared.iter.BitIter.{BitIter}
-use Rattle.hibitset_base.specs.declared.virt.BitSetAnd.{BitSetAnd}
-use Rattle.hibitset_base.specs.declared.virt.BitSetNot.{BitSetNot}
-use Rattle.hibitset.specs.BitSet.{has, word_of, members_of}
-use Rattle.hibitset.specs.Laws.{intersection_word}
-use Rattle.hibitset.specs.declared.set.BitSet.{BitSet}
+use Rattle.hibitset.specs.Prelude.{not_word, words_read, words_ahead, BitIter, BitSetAnd, BitSetNot, has, word_of, members_of, intersection_word, BitSet}
 
 -- the virtual set, over references
 abbrev pub Chosen : Type 0

@@ -1,6 +1,6 @@
 -- What a contract sees of ready tasks.
 use Rattle.std.specs.Prelude.{ℕ, Bool, ◌&&◌, nat_le}
-use Rattle.hibitset.specs.BitSet.{has, slice_len}
+use Rattle.hibitset.specs.Prelude.{has, slice_len}
 use Rattle.uses.specs.declared.ready.Ready.{Ready}
 
 -- the task is ready to run

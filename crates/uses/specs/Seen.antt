@@ -1,6 +1,6 @@
 -- Keys that were seen.
 use Rattle.std.specs.Prelude.{ℕ, ◌%◌, Bool}
-use Rattle.hibitset_base.specs.declared.util.TheConstants.{MAX_EID}
+use Rattle.hibitset.specs.Prelude.{MAX_EID}
 use Rattle.hibitset_sparse.specs.SparseBitSet.{has}
 use Rattle.uses.specs.declared.seen.Seen.{Seen}
 

@@ -1,12 +1,7 @@
 -- Lists that workers put into a set.
 use Rattle.std.specs.Prelude.{◌≡◌, ◌↔◌, ℕ, ◌<◌, Bool, true, List, [], length, nat_eq, Contains, Vec}
 use Rattle.std.specs.List.{flat_map, IsDistinct}
-use Rattle.hibitset_atomic.specs.declared.atomic.TheConstants.{ATOMIC_MAX_EID}
-use Rattle.hibitset_atomic.specs.declared.shared.layout.TheConstants.{SHARES}
-use Rattle.hibitset_atomic.specs.declared.atomic.AtomicBitSet.{AtomicBitSet}
-use Rattle.hibitset_atomic.specs.declared.shared.types.Seat.{Seat}
-use Rattle.hibitset_atomic.specs.declared.shared.types.SharedBitSet.{SharedBitSet}
-use Rattle.hibitset_atomic.specs.Seats.{IsOld, BelongsTo, IsKnown, weight_of, reports_of}
+use Rattle.hibitset.specs.Prelude.{ATOMIC_MAX_EID, SHARES, AtomicBitSet, Seat, SharedBitSet, IsOld, BelongsTo, IsKnown, weight_of, reports_of}
 use Rattle.std.specs.declared.alloc.Global.{Global}
 use Rattle.uses.specs.declared.workers.Job.{Job}
 use Rattle.uses.specs.declared.workers.Work.{Work}

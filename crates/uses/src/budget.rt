@@ -1,10 +1,6 @@
 //! Walks over what two sets have in common, and how many words they read.
 ghost use Rattle.std.specs.Prelude.{◌≡◌, ◌⊎◌, ℕ, ◌+◌, ◌-◌, ◌≤◌, ◌&&◌, ◌++◌, All};
-ghost use Rattle.hibitset_base.specs.Members.{members, members_below};
-ghost use Rattle.hibitset_base.specs.Splits.{part_reads, part_items, items_of_second};
-ghost use Rattle.hibitset_base.specs.Walk.{words_ahead, items_left};
-ghost use Rattle.hibitset_base.specs.declared.util.TheConstants.{MAX_EID};
-ghost use Rattle.hibitset.specs.BitSet.{has};
+ghost use Rattle.hibitset.specs.Prelude.{members, members_below, part_reads, part_items, items_of_second, words_ahead, items_left, MAX_EID, has};
 ghost use Rattle.uses.specs.Budget.{is_in_both, budget, reads_in_all, part_reads_in_all, other_reads_in_all, ahead_after, words_in_both, EndsBy, BeginsBefore};
 
 use hibitset::laws::laws;

@@ -1,8 +1,7 @@
 //! Records found by their tags.
 ghost use Rattle.std.specs.Prelude.{◌≡◌, ℕ, ◌+◌, ◌<◌, ◌==◌, ◌||◌, ◌&&◌, not, false, true, length, vec_len, IfOk, OnOk, OnErr, ◌↔◌, Contains};
 ghost use Rattle.std.specs.List.Sorted.{IsStrictlyIncreasing};
-ghost use Rattle.hibitset_base.specs.Members.{members_below};
-ghost use Rattle.hibitset_base.specs.declared.util.TheConstants.{MAX_EID};
+ghost use Rattle.hibitset.specs.Prelude.{members_below, MAX_EID};
 
 use hibitset::laws::laws;
 use hibitset::{BitSet, BitSetAnd, BitSetLike, BitSetNot, Index, MAX_EID};
@@ -19,7 +18,7 @@ type Wanted<'a> = BitSetAnd<BitSetAnd<&'a BitSet, &'a BitSet>, BitSetNot<&'a Bit
 
 impl Tagged {
     ghost use Rattle.uses.specs.Filter.{is_tagged, is_wanted, tags_of};
-    ghost use Rattle.hibitset.specs.BitSet.{has};
+    ghost use Rattle.hibitset.specs.Prelude.{has};
 
     /// There is no tag.
     pub fn new(alloc: Global) -> Tagged

@@ -1,8 +1,6 @@
 //! Identifiers that are given out and taken back, one by one or in runs, the lowest free ones first.
 ghost use Rattle.std.specs.Prelude.{◌≡◌, ◌⊎◌, ℕ, ◌+◌, ◌<◌, ◌≤◌, ◌==◌, ◌||◌, ◌&&◌, not, true, false, IfOk, OnErr, MatchOption};
-ghost use Rattle.hibitset_base.specs.First.{IsFirst, HasNone};
-ghost use Rattle.hibitset_base.specs.declared.util.TheConstants.{MAX_EID};
-ghost use Rattle.hibitset.specs.WordBits.{in_range};
+ghost use Rattle.hibitset.specs.Prelude.{IsFirst, HasNone, MAX_EID, in_range};
 
 use hibitset::{BitSet, BitSetLike, Index, MAX_EID};
 use std::alloc::{AllocError, Global};

@@ -1,9 +1,7 @@
 //! Sets made of lists and of ranges, and extended by lists.
 ghost use Rattle.std.specs.Prelude.{◌≡◌, ℕ, ◌+◌, ◌-◌, ◌*◌, ◌/◌, ◌^◌, ◌<◌, ◌≤◌, ◌↔◌, ◌⊎◌, true, length, take, IfOk, IfErr, OnOk, Contains};
-ghost use Rattle.hibitset_base.specs.Slices.{place_of, InRangeBefore, IsRefusalIn, LacksRoom, LiesApartIn};
+ghost use Rattle.hibitset.specs.Prelude.{place_of, InRangeBefore, IsRefusalIn, LacksRoom, LiesApartIn, LAYERS, MAX_EID, has, slice_len};
 ghost use Rattle.uses.specs.Lists.{IsRefusalFrom, BeginsWord};
-ghost use Rattle.hibitset_base.specs.declared.util.TheConstants.{LAYERS, MAX_EID};
-ghost use Rattle.hibitset.specs.BitSet.{has, slice_len};
 
 use hibitset::{BitSet, BuildError, Index};
 use std::alloc::Global;

@@ -1,9 +1,6 @@
 //! Marks that few rows of a table have: a sparse set beside a dense one.
 ghost use Rattle.std.specs.Prelude.{◌≡◌, ℕ, ◌+◌, ◌*◌, ◌≤◌, ◌&&◌, not, length, IfOk};
-ghost use Rattle.hibitset_base.specs.Members.{members_below};
-ghost use Rattle.hibitset_base.specs.Walk.{items_left};
-ghost use Rattle.hibitset_base.specs.declared.util.TheConstants.{MAX_EID};
-ghost use Rattle.hibitset.specs.BitSet.{has};
+ghost use Rattle.hibitset.specs.Prelude.{members_below, items_left, MAX_EID, has};
 ghost use Rattle.hibitset_sparse.specs.SparseBitSet.{has as is_marked};
 ghost use Rattle.uses.specs.Marks.{is_marked_row, reads_of_both};
 

@@ -1,9 +1,6 @@
 //! A walk over a set that is nested in others, and how many words it reads.
 ghost use Rattle.std.specs.Prelude.{◌≡◌, ◌≤◌, ◌&&◌, not};
-ghost use Rattle.hibitset_base.specs.Members.{members_below};
-ghost use Rattle.hibitset_base.specs.Walk.{items_left};
-ghost use Rattle.hibitset_base.specs.declared.util.TheConstants.{MAX_EID};
-ghost use Rattle.hibitset.specs.BitSet.{has};
+ghost use Rattle.hibitset.specs.Prelude.{members_below, items_left, MAX_EID, has};
 ghost use Rattle.uses.specs.Nested.{is_chosen, budget_of_three, chosen_reads};
 
 use crate::budget::Both;

@@ -1,7 +1,6 @@
 //! Pages that were changed and are to be written.
 ghost use Rattle.std.specs.Prelude.{◌≡◌, ℕ, ◌<◌, ◌==◌, ◌||◌, false, ◌++◌, OnOk, OnErr, IfOk};
-ghost use Rattle.hibitset_base.specs.Members.{members_below};
-ghost use Rattle.hibitset_base.specs.declared.util.TheConstants.{MAX_EID};
+ghost use Rattle.hibitset.specs.Prelude.{members_below, MAX_EID};
 
 use hibitset::laws::laws;
 use hibitset::{BitSet, BitSetLike, DrainableBitSet, Index, MAX_EID};

@@ -1,8 +1,6 @@
 //! Tasks that are ready to run, the lowest first.
 ghost use Rattle.std.specs.Prelude.{◌≡◌, ℕ, ◌+◌, ◌/◌, ◌<◌, ◌≤◌, ◌==◌, ◌||◌, ◌&&◌, not, true, false, OnErr, IfOk, IsOk, OnOk, MatchOption};
-ghost use Rattle.hibitset_base.specs.First.{IsFirst, HasNone};
-ghost use Rattle.hibitset_base.specs.declared.util.TheConstants.{MAX_EID};
-ghost use Rattle.hibitset.specs.BitSet.{slice_len};
+ghost use Rattle.hibitset.specs.Prelude.{IsFirst, HasNone, MAX_EID, slice_len};
 
 use hibitset::{BitSet, BitSetLike, Index, MAX_EID};
 use std::alloc::{AllocError, Global};

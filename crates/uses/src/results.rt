@@ -1,8 +1,6 @@
 //! Rows that a search found: the middle one, pages of the list forth and back, and how many lie in each window.
 ghost use Rattle.std.specs.Prelude.{◌≡◌, ℕ, ◌-◌, ◌<◌, ◌≤◌, ◌&&◌, [], nat_le, take, drop, length, min, reverse, false, slice_index, IfOk, MatchOption, Some, slice_get};
-ghost use Rattle.hibitset_base.specs.Members.{members, members_below};
-ghost use Rattle.hibitset_base.specs.declared.util.TheConstants.{MAX_EID};
-ghost use Rattle.hibitset.specs.BitSet.{has, members_of};
+ghost use Rattle.hibitset.specs.Prelude.{members, members_below, MAX_EID, has, members_of};
 ghost use Rattle.uses.specs.Results.{IsMedian, IsHistogram};
 
 use hibitset::laws::{laws, list_laws};

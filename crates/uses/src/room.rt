@@ -1,7 +1,6 @@
 //! Additions that do not allocate.
 ghost use Rattle.std.specs.Prelude.{◌≡◌, ℕ, ◌/◌, ◌<◌, ◌==◌, ◌||◌, true, length, slice_index, IfOk};
-ghost use Rattle.hibitset_base.specs.declared.util.TheConstants.{MAX_EID};
-ghost use Rattle.hibitset.specs.BitSet.{has, word_of, slice_len};
+ghost use Rattle.hibitset.specs.Prelude.{MAX_EID, has, word_of, slice_len};
 ghost use Rattle.hibitset_atomic.specs.AtomicBitSet.{has as has_atomic};
 
 use hibitset::laws::atomic_laws;

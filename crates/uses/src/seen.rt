@@ -1,6 +1,6 @@
 //! Keys that were seen, by a hash of each.
 ghost use Rattle.std.specs.Prelude.{◌≡◌, ℕ, ◌%◌, ◌||◌, ◌==◌, false, IfOk, OnOk, OnErr};
-ghost use Rattle.hibitset_base.specs.declared.util.TheConstants.{MAX_EID};
+ghost use Rattle.hibitset.specs.Prelude.{MAX_EID};
 
 use hibitset::Index;
 use hibitset_base::util::MAX_EID;

@@ -1,7 +1,6 @@
 //! Identifiers that many threads take from one set, none of them twice.
 ghost use Rattle.std.specs.Prelude.{◌≡◌, ◌⊎◌, ℕ, ◌+◌, ◌-◌, ◌*◌, ◌<◌, ◌≤◌, ◌∷◌, [], true, Contains, IfSome, IfNone, MatchOption, length, min, reverse};
-ghost use Rattle.hibitset_atomic.specs.declared.atomic.TheConstants.{ATOMIC_MAX_EID};
-ghost use Rattle.hibitset_atomic.specs.Seats.{IsOld, BelongsTo, IsKnown, weight_of, reports_of, loads_by};
+ghost use Rattle.hibitset.specs.Prelude.{ATOMIC_MAX_EID, IsOld, BelongsTo, IsKnown, weight_of, reports_of, loads_by};
 
 use hibitset::{ATOMIC_MAX_EID, Index, Seat, SharedBitSet};
 use std::alloc::Global;

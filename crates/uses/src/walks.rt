@@ -2,7 +2,7 @@
 
 ghost use Rattle.std.specs.Prelude.{◌≡◌, ◌⊎◌, ℕ, ◌+◌, ◌*◌, ◌<◌, ◌≤◌, IfOk, IfSome, Option, None, Contains, length};
 ghost use Rattle.std.specs.List.Sorted.{IsStrictlyIncreasing};
-ghost use Rattle.hibitset_atomic.specs.Seats.{IsOld, BelongsTo, IsKnown, weight_of, reports_of, loads_by, exchanges_by};
+ghost use Rattle.hibitset.specs.Prelude.{IsOld, BelongsTo, IsKnown, weight_of, reports_of, loads_by, exchanges_by};
 
 use hibitset::{Index, Seat, SharedBitSet};
 use std::alloc::{AllocError, Global};

@@ -1,6 +1,6 @@
 //! The weights of what two sets have in common, added up in several threads.
 ghost use Rattle.std.specs.Prelude.{◌≡◌, ◌+◌, ◌%◌, ◌^◌, slice_index, IfOk};
-ghost use Rattle.hibitset.specs.BitSet.{has};
+ghost use Rattle.hibitset.specs.Prelude.{has};
 ghost use Rattle.uses.specs.Weights.{weight_of_both};
 
 use hibitset::{BitSet, BitSetLike, Index};

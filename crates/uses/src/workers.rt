@@ -1,10 +1,8 @@
 //! Lists of indices that workers put into one set, each list on a thread of its own.
 ghost use Rattle.std.specs.Prelude.{◌≡◌, ◌⊎◌, ◌↔◌, ℕ, ◌+◌, ◌<◌, [], true, All, Any, Contains, length, IfOk, IfErr};
 ghost use Rattle.std.specs.List.{sum_by, flat_map, AllZip};
-ghost use Rattle.hibitset_atomic.specs.declared.atomic.TheConstants.{ATOMIC_MAX_EID};
-ghost use Rattle.hibitset_atomic.specs.declared.shared.layout.TheConstants.{SHARES};
+ghost use Rattle.hibitset.specs.Prelude.{ATOMIC_MAX_EID, SHARES, IsOld, BelongsTo, IsKnown, weight_of, reports_of};
 ghost use Rattle.hibitset_atomic.specs.AtomicBitSet.{has};
-ghost use Rattle.hibitset_atomic.specs.Seats.{IsOld, BelongsTo, IsKnown, weight_of, reports_of};
 ghost use Rattle.uses.specs.Workers.{IsJob, IsWork, IsWorkOf, IsListed, IsNumberOfNew, IsLeft, list_of, seat_weight, new_reports};
 
 use hibitset::{ATOMIC_MAX_EID, AtomicBitSet, Index, Seat, SharedBitSet};

@@ -1,6 +1,5 @@
 use Rattle.std.proofs.Common.{arith}
-use Rattle.hibitset.specs.BitSet.{has, word_of}
-use Rattle.hibitset_base.specs.Walk.{words_ahead}
+use Rattle.hibitset.specs.Prelude.{has, word_of, words_ahead}
 use Rattle.uses.specs.Budget.{words_in_both}
 use Rattle.uses.proofs.BudgetLemmas.{within_budget, parts_read}
 use Rattle.uses.proofs.budget.halves.Goals as goal

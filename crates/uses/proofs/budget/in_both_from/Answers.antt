@@ -1,7 +1,6 @@
 use Rattle.std.proofs.Common.{◌≡◌, sym, ap₂, ◌∙◌, arith}
 use Rattle.std.proofs.lemmas.Bool.{le-ltb}
-use Rattle.hibitset.specs.BitSet.{has, word_of}
-use Rattle.hibitset_base.specs.Walk.{words_ahead, words_read}
+use Rattle.hibitset.specs.Prelude.{has, word_of, words_ahead, words_read}
 use Rattle.uses.specs.Budget.{words_in_both}
 use Rattle.uses.proofs.BudgetLemmas.{all_words, within_budget, fewer_reads, later_ahead}
 use Rattle.uses.proofs.budget.in_both_from.Goals as goal

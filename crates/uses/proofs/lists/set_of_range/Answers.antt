@@ -1,7 +1,6 @@
 use Rattle.std.proofs.Common.{◌≡◌, ◌+◌, ◌*◌, ◌^◌, suc, pow-suc, mul_assoc, mul_comm, arith}
 use Rattle.std.proofs.lemmas.Result.{IfOk-weaker, IfErr-weaker}
-use Rattle.hibitset_base.specs.declared.util.TheConstants.{MAX_EID}
-use Rattle.hibitset.specs.BitSet.{has}
+use Rattle.hibitset.specs.Prelude.{MAX_EID, has}
 use Rattle.uses.proofs.RangeLemmas.{takes_range, refused_range}
 use Rattle.uses.proofs.WorkerLemmas.{both_ok}
 use Rattle.uses.proofs.lists.set_of_range.Goals as goal

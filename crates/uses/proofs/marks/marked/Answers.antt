@@ -1,5 +1,5 @@
 use Rattle.std.proofs.Common.{◌≤◌, arith}
-use Rattle.hibitset.specs.BitSet.{word_of}
+use Rattle.hibitset.specs.Prelude.{word_of}
 use Rattle.hibitset_sparse.specs.SparseBitSet.{has as is_marked, word_of as marked_word}
 use Rattle.uses.proofs.marks.marked.Goals as goal
 

@@ -1,9 +1,5 @@
 use Rattle.std.proofs.Common.{◌+◌, ◌*◌, ◌≤◌, length, arith}
-use Rattle.hibitset_base.specs.Members.{members_below}
-use Rattle.hibitset_base.specs.Virtual.{not_word}
-use Rattle.hibitset_base.specs.Walk.{words_ahead}
-use Rattle.hibitset_base.specs.declared.util.TheConstants.{LAYERS, MAX_EID}
-use Rattle.hibitset.specs.BitSet.{has, word_of}
+use Rattle.hibitset.specs.Prelude.{members_below, not_word, words_ahead, LAYERS, MAX_EID, has, word_of}
 use Rattle.uses.specs.Nested.{words_chosen, budget_of_three}
 use Rattle.uses.proofs.nested.chosen.Goals as goal
 

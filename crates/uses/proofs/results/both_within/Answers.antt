@@ -1,10 +1,8 @@
 use Rattle.std.proofs.Common.{ℕ, Bool, ◌&&◌, ◌∙◌, ap}
 use Rattle.std.proofs.lemmas.Result.{IfOk-weaker}
-use Rattle.hibitset_base.specs.Ranges.{in_range}
-use Rattle.hibitset_base.specs.declared.util.TheConstants.{MAX_EID}
-use Rattle.hibitset_base.proofs.CallerLemmas.{members_in_range}
+use Rattle.hibitset.specs.Prelude.{in_range, MAX_EID, has}
+use Rattle.hibitset.proofs.CallerLemmas.{members_in_range}
 use Rattle.hibitset_base.proofs.MemberLemmas.{members-same}
-use Rattle.hibitset.specs.BitSet.{has}
 use Rattle.uses.proofs.results.both_within.Goals as goal
 
 pub returns : goal.returns

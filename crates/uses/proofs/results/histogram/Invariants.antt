@@ -1,6 +1,5 @@
 use Rattle.std.proofs.Common.{◌≡◌, ℕ, ◌+◌, ◌-◌, ◌*◌, ◌<◌, length, get_or, min}
-use Rattle.hibitset_base.specs.Members.{members}
-use Rattle.hibitset.specs.BitSet.{has}
+use Rattle.hibitset.specs.Prelude.{members, has}
 use Rattle.uses.proofs.results.histogram.Given as goal
 
 -- the windows that are counted end where the next one begins

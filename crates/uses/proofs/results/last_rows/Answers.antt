@@ -3,9 +3,7 @@ use Rattle.std.specs.Borrow.{Bor}
 use Rattle.std.proofs.lemmas.Iterator.{YieldsList-from_take, items_from_collect}
 use Rattle.std.proofs.lemmas.Iterator.Consumers.{YieldsList-from_shown, YieldsList-at}
 use Rattle.std.proofs.lemmas.Result.{IfOk-weaker}
-use Rattle.hibitset_base.specs.RevWalk.{RevWalkSteps, rev_items_left}
-use Rattle.hibitset.specs.BitSet.{has, word_of}
-use Rattle.hibitset.specs.declared.set.BitSet.{BitSet}
+use Rattle.hibitset.specs.Prelude.{RevWalkSteps, rev_items_left, has, word_of, BitSet}
 use Rattle.uses.proofs.results.last_rows.Goals as goal
 
 pub returns : goal.returns

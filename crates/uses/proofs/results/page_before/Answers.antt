@@ -1,9 +1,7 @@
 use Rattle.std.proofs.Common.{◌≡◌, ℕ, ◌-◌, ◌++◌, List, length, take, drop, min, reverse, sym, ◌∙◌, ap, arith, inl, inr, length-drop}
 use Rattle.std.proofs.lemmas.Bool.{cases_lt}
 use Rattle.std.proofs.lemmas.List.{length-reverse, reverse-append, reverse-reverse, take-append-drop, take-append-le, take_all}
-use Rattle.hibitset_base.specs.Members.{members_below}
-use Rattle.hibitset_base.specs.declared.util.TheConstants.{MAX_EID}
-use Rattle.hibitset.specs.BitSet.{has}
+use Rattle.hibitset.specs.Prelude.{members_below, MAX_EID, has}
 use Rattle.uses.proofs.results.page_before.Goals as goal
 
 -- the first of a list reversed, turned again, are the last of the list

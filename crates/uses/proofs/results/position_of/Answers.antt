@@ -1,10 +1,7 @@
 use Rattle.std.proofs.Common.{◌≡◌, ◌<◌, true, min, length, sym, ◌∙◌, ap, arith}
 use Rattle.std.specs.Prelude.{slice_get}
-use Rattle.hibitset_base.specs.Members.{members_below}
-use Rattle.hibitset_base.specs.declared.util.TheConstants.{MAX_EID}
-use Rattle.hibitset_base.proofs.CallerLemmas.{member_at}
-use Rattle.hibitset.specs.BitSet.{has, members_of}
-use Rattle.hibitset.proofs.CallerLemmas.{has_within}
+use Rattle.hibitset.specs.Prelude.{members_below, MAX_EID, has, members_of}
+use Rattle.hibitset.proofs.CallerLemmas.{member_at, has_within}
 use Rattle.uses.proofs.results.position_of.Goals as goal
 
 pub returns : goal.returns

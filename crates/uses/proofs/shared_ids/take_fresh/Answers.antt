@@ -1,7 +1,7 @@
 use Rattle.std.proofs.Common.{◌≡◌, ℕ, ◌+◌, ◌-◌, ◌*◌, ◌≤◌, arith}
 use Rattle.std.specs.Prelude.{min}
 use Rattle.std.proofs.Math.Nat.{le-min, min-le_left, min-le_right}
-use Rattle.hibitset_atomic.specs.declared.atomic.TheConstants.{ATOMIC_MAX_EID}
+use Rattle.hibitset.specs.Prelude.{ATOMIC_MAX_EID}
 use Rattle.uses.proofs.shared_ids.take_fresh.Goals as goal
 
 -- of the indices before an end that were tried, none lies past it

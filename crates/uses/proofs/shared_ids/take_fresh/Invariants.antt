@@ -1,5 +1,5 @@
 use Rattle.std.proofs.Common.{◌≡◌, ℕ, ◌+◌, ◌-◌, ◌*◌, ◌<◌, ◌≤◌}
-use Rattle.hibitset_atomic.specs.Seats.{BelongsTo, IsKnown, weight_of, reports_of, loads_by}
+use Rattle.hibitset.specs.Prelude.{BelongsTo, IsKnown, weight_of, reports_of, loads_by}
 use Rattle.uses.proofs.shared_ids.take_fresh.Given as goal
 
 abbrev pub invariant-loop-id : goal.invariant-loop-id

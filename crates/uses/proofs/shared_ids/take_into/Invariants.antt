@@ -1,6 +1,5 @@
 use Rattle.std.proofs.Common.{◌≡◌, ℕ, ◌+◌, ◌*◌, ◌<◌, ◌≤◌, length, reverse}
-use Rattle.hibitset_atomic.specs.declared.atomic.TheConstants.{ATOMIC_MAX_EID}
-use Rattle.hibitset_atomic.specs.Seats.{BelongsTo, IsKnown, weight_of, reports_of, loads_by}
+use Rattle.hibitset.specs.Prelude.{ATOMIC_MAX_EID, BelongsTo, IsKnown, weight_of, reports_of, loads_by}
 use Rattle.uses.proofs.shared_ids.take_into.Given as goal
 
 abbrev pub invariant-loop : goal.invariant-loop

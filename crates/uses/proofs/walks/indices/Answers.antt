@@ -3,8 +3,7 @@ use Rattle.std.specs.List.Sorted.{IsStrictlyIncreasing}
 use Rattle.std.proofs.Math.Nat.{eq-or-lt_of_le}
 use Rattle.std.proofs.lemmas.List.{get_or_append_left, get_or-append_right}
 use Rattle.std.proofs.lemmas.List.Elements.{Contains-append_left, Contains-push, Contains-push_cases, Contains-get_or}
-use Rattle.hibitset_atomic.specs.Seats.{IsKnown}
-use Rattle.hibitset_atomic.specs.SharedWalk.{seat_of, loads_of, next_from}
+use Rattle.hibitset.specs.Prelude.{IsKnown, seat_of, loads_of, next_from}
 use Rattle.uses.proofs.walks.indices.Goals as goal
 
 -- a greater number at the end

@@ -1,7 +1,7 @@
 use Rattle.std.proofs.Common.{◌≡◌, ◌⊎◌, ℕ, ◌+◌, ◌*◌, ◌<◌, ◌≤◌, Contains, length}
 use Rattle.std.specs.List.Sorted.{IsStrictlyIncreasing}
-use Rattle.hibitset_atomic.specs.Seats.{IsOld, IsKnown, weight_of, reports_of, loads_by, exchanges_by}
-use Rattle.hibitset_atomic.specs.SharedWalk.{set_of, seat_of, lender, loads_of, next_from, IsDue}
+use Rattle.hibitset.specs.Prelude.{IsOld, IsKnown, weight_of, reports_of, loads_by, exchanges_by, seat_of, loads_of, next_from, IsDue}
+use Rattle.hibitset_atomic.specs.SharedWalk.{set_of, lender}
 use Rattle.uses.proofs.walks.indices.Given as goal
 
 abbrev pub invariant-loop-index : goal.invariant-loop-index

@@ -1,7 +1,6 @@
 use Rattle.std.proofs.Common.{◌≡◌, ◌+◌, ◌∷◌, slice_index, sum_by, arith}
 use Rattle.std.proofs.lemmas.List.Sums.{sum_by-cons}
-use Rattle.hibitset_base.specs.Walk.{items_left}
-use Rattle.hibitset.specs.BitSet.{has}
+use Rattle.hibitset.specs.Prelude.{items_left, has}
 use Rattle.uses.specs.Weights.{weight_of_both, both}
 use Rattle.uses.proofs.WeightLemmas.{weight_fits, items_fit}
 use Rattle.uses.proofs.weights.weight_here.Goals as goal

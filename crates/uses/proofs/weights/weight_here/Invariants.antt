@@ -1,6 +1,5 @@
 use Rattle.std.proofs.Common.{◌≡◌, ◌+◌, slice_index, sum_by}
-use Rattle.hibitset_base.specs.Walk.{items_left}
-use Rattle.hibitset.specs.BitSet.{has}
+use Rattle.hibitset.specs.Prelude.{items_left, has}
 use Rattle.uses.specs.Weights.{weight_of_both, both}
 use Rattle.uses.proofs.weights.weight_here.Given as goal
 

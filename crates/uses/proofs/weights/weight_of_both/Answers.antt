@@ -1,5 +1,5 @@
 use Rattle.std.proofs.Common.{rules, ◌∙◌}
-use Rattle.hibitset.specs.BitSet.{has}
+use Rattle.hibitset.specs.Prelude.{has}
 use Rattle.uses.specs.Weights.{both}
 use Rattle.uses.proofs.WeightLemmas.{total_of_parts, items_fit}
 use Rattle.uses.proofs.weights.weight_of_both.Goals as goal

@@ -1,5 +1,5 @@
 use Rattle.hibitset_atomic.proofs.ListLemmas.{has-from_contains}
-use Rattle.hibitset_atomic.specs.Seats.{reports_of}
+use Rattle.hibitset.specs.Prelude.{reports_of}
 use Rattle.uses.proofs.workers.add_list.Goals as goal
 
 pub returns-clause-reported : goal.returns-clause-reported

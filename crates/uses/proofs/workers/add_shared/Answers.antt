@@ -1,6 +1,5 @@
 use Rattle.std.proofs.Common.{◌≡◌, inl, inr, Contains, refl, sym, subst, arith}
-use Rattle.hibitset_atomic.specs.declared.shared.layout.TheConstants.{SHARES}
-use Rattle.hibitset_atomic.specs.Seats.{weight_of, reports_of}
+use Rattle.hibitset.specs.Prelude.{SHARES, weight_of, reports_of}
 use Rattle.uses.proofs.WorkerLemmas.{all_sound, same_weights, listed_known, reported_listed}
 use Rattle.uses.proofs.workers.add_shared.Goals as goal
 

@@ -4,8 +4,7 @@ use Rattle.std.specs.Vec.Iter.{into_iter_items}
 use Rattle.std.proofs.lemmas.List.Elements.{All-push, All-same}
 use Rattle.std.proofs.lemmas.List.Sums.{sum_by_push}
 use Rattle.std.proofs.lemmas.List.Concat.{flat_map-cons, flat_map-append}
-use Rattle.hibitset_atomic.specs.declared.shared.types.Seat.{Seat}
-use Rattle.hibitset_atomic.specs.Seats.{BelongsTo, weight_of, reports_of}
+use Rattle.hibitset.specs.Prelude.{Seat, BelongsTo, weight_of, reports_of}
 use Rattle.uses.specs.declared.workers.Job.{Job}
 use Rattle.uses.specs.Workers.{IsJob, list_of}
 use Rattle.uses.proofs.WorkerLemmas.{all_but_last, the_last, no_reports}

@@ -1,7 +1,7 @@
 use Rattle.std.proofs.Common.{◌≡◌, ◌+◌, ◌≤◌, ◌++◌, [], All, length, flat_map, vec_capacity}
 use Rattle.std.specs.List.{sum_by}
 use Rattle.std.specs.Vec.Iter.{into_iter_items}
-use Rattle.hibitset_atomic.specs.Seats.{BelongsTo, weight_of, reports_of}
+use Rattle.hibitset.specs.Prelude.{BelongsTo, weight_of, reports_of}
 use Rattle.uses.specs.Workers.{IsJob, list_of}
 use Rattle.uses.proofs.workers.jobs_of.Given as goal
 

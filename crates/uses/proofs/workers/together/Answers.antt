@@ -4,8 +4,7 @@ use Rattle.std.specs.Vec.Iter.{into_iter_items}
 use Rattle.std.proofs.lemmas.List.Elements.{All-rest, All-head, All-same}
 use Rattle.std.proofs.lemmas.List.Sums.{sum_by-cons}
 use Rattle.std.proofs.lemmas.List.Concat.{flat_map-cons}
-use Rattle.hibitset_atomic.specs.declared.atomic.TheConstants.{ATOMIC_MAX_EID}
-use Rattle.hibitset_atomic.specs.Seats.{IsKnown, weight_of, reports_of}
+use Rattle.hibitset.specs.Prelude.{ATOMIC_MAX_EID, IsKnown, weight_of, reports_of}
 use Rattle.hibitset_atomic.proofs.ListLemmas.{few_below}
 use Rattle.uses.specs.declared.workers.Work.{Work}
 use Rattle.uses.specs.Workers.{IsWork, seat_weight, new_reports}

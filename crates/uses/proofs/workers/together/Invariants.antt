@@ -1,8 +1,7 @@
 use Rattle.std.proofs.Common.{◌≡◌, ◌⊎◌, ℕ, ◌+◌, ◌<◌, ◌++◌, All, Any, Contains, length, flat_map}
 use Rattle.std.specs.List.{sum_by}
 use Rattle.std.specs.Vec.Iter.{into_iter_items}
-use Rattle.hibitset_atomic.specs.declared.atomic.TheConstants.{ATOMIC_MAX_EID}
-use Rattle.hibitset_atomic.specs.Seats.{BelongsTo, IsKnown, weight_of, reports_of}
+use Rattle.hibitset.specs.Prelude.{ATOMIC_MAX_EID, BelongsTo, IsKnown, weight_of, reports_of}
 use Rattle.uses.specs.Workers.{IsWork, seat_weight, new_reports}
 use Rattle.uses.proofs.workers.together.Given as goal
 

@@ -1,6 +1,6 @@
 use Rattle.std.proofs.lemmas.Result.{IfOk-weaker}
-use Rattle.hibitset_base.specs.declared.util.TheConstants.{MAX_EID}
-use Rattle.hibitset_base.proofs.CallerLemmas.{members_ascend, members_contain}
+use Rattle.hibitset.specs.Prelude.{MAX_EID}
+use Rattle.hibitset.proofs.CallerLemmas.{members_ascend, members_contain}
 use Rattle.uses.proofs.filter.Tagged.find.Goals as goal
 
 pub returns-clause-ascending : goal.returns-clause-ascending

@@ -1,6 +1,5 @@
-use Rattle.hibitset_base.specs.declared.util.TheConstants.{MAX_EID}
-use Rattle.hibitset_base.proofs.CallerLemmas.{first_step_from}
-use Rattle.hibitset.specs.BitSet.{has}
+use Rattle.hibitset.specs.Prelude.{MAX_EID, has}
+use Rattle.hibitset.proofs.CallerLemmas.{first_step_from}
 use Rattle.uses.proofs.FreeRunLemmas.{EndsRun, run_end}
 use Rattle.uses.proofs.ids.Ids.end_of_run.Goals as goal
 

@@ -1,5 +1,5 @@
 use Rattle.std.proofs.Common.{arith}
-use Rattle.hibitset.specs.BitSet.{has}
+use Rattle.hibitset.specs.Prelude.{has}
 use Rattle.uses.proofs.FreeRunLemmas.{first_here, past_run, no_run}
 use Rattle.uses.proofs.ids.Ids.first_run.Goals as goal
 

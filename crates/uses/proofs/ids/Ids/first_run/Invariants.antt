@@ -1,6 +1,5 @@
 use Rattle.std.proofs.Common.{ℕ, ◌-◌, ◌≤◌}
-use Rattle.hibitset_base.specs.declared.util.TheConstants.{MAX_EID}
-use Rattle.hibitset.specs.BitSet.{has}
+use Rattle.hibitset.specs.Prelude.{MAX_EID, has}
 use Rattle.uses.specs.Ids.{IsFreeRun}
 use Rattle.uses.proofs.ids.Ids.first_run.Given as goal
 

@@ -1,9 +1,7 @@
 use Rattle.std.proofs.Common.{sym, ◌∙◌, append_assoc, length-append, rules, arith}
 use Rattle.std.proofs.lemmas.Grind.{common_steps}
-use Rattle.hibitset.specs.BitSet.{has}
-use Rattle.hibitset_base.specs.Drain.{drained_set}
-use Rattle.hibitset_base.specs.declared.util.TheConstants.{MAX_EID}
-use Rattle.hibitset_base.proofs.CallerLemmas.{after_first, none_at_all}
+use Rattle.hibitset.specs.Prelude.{has, drained_set, MAX_EID}
+use Rattle.hibitset.proofs.CallerLemmas.{after_first, none_at_all}
 use Rattle.uses.proofs.pages.Pages.flush.Goals as goal
 
 pub loop-page-preserved : goal.loop-page-preserved

@@ -1,8 +1,5 @@
 use Rattle.std.proofs.Common.{◌≡◌, ◌≤◌, ◌++◌, length, vec_capacity}
-use Rattle.hibitset_base.specs.Members.{members_below}
-use Rattle.hibitset_base.specs.Drain.{items_to_drain, drained_set, lender}
-use Rattle.hibitset_base.specs.declared.util.TheConstants.{MAX_EID}
-use Rattle.hibitset.specs.BitSet.{has}
+use Rattle.hibitset.specs.Prelude.{members_below, items_to_drain, drained_set, lender, MAX_EID, has}
 use Rattle.uses.specs.Pages.{is_dirty}
 use Rattle.uses.proofs.pages.Pages.flush.Given as goal
 

@@ -1,6 +1,6 @@
 use Rattle.std.proofs.Common.{sym, ◌∙◌}
-use Rattle.hibitset_base.specs.declared.util.TheConstants.{MAX_EID}
-use Rattle.hibitset_base.proofs.CallerLemmas.{first_from, none_from}
+use Rattle.hibitset.specs.Prelude.{MAX_EID}
+use Rattle.hibitset.proofs.CallerLemmas.{first_from, none_from}
 use Rattle.uses.specs.Ready.{is_ready}
 use Rattle.uses.proofs.ready.Ready.next_from.Goals as goal
 
