@@ -5,9 +5,10 @@ ghost use Rattle.hibitset_atomic.specs.Seats.{BelongsTo};
 ghost use Rattle.uses.specs.Filter.{tags_of};
 
 use crate::tests::{ask, assert_has, atomic_of, has_exactly, has_values, shared_of, three_tags};
+use hibitset::steps::{Event, StepError, World, path};
 use hibitset::{
-    AtomicBitSet, BitParIter, BitProducer, BitSet, BitSetAll, BitSetLike, DrainableBitSet, Event,
-    Index, Seat, SharedBitSet, StepError, World, path,
+    AtomicBitSet, BitParIter, BitProducer, BitSet, BitSetAll, BitSetLike, DrainableBitSet, Index,
+    Seat, SharedBitSet,
 };
 use hibitset_store::{Column, join, join_masked};
 use hibitset_testing::columns::column_of;

@@ -1,6 +1,6 @@
 //! Worlds of calls and walks that take turns.
 use crate::tests::{ask, atomic_of, has_exactly, say};
-use hibitset::{Event, Reply, StepError, World};
+use hibitset::steps::{Event, Reply, StepError, World};
 use std::alloc::AllocError;
 use std::process::Abort;
 use std::test::Fail;

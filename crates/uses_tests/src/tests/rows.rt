@@ -2,7 +2,8 @@
 use crate::tests::turns::{
     add, add_all as add_in_turn, contains, ranges, read_all, read_next, times_reported,
 };
-use hibitset::{AtomicBitSet, BitSet, BitSetLike, BuildError, Event, Reply, World};
+use hibitset::steps::{Event, Reply, World};
+use hibitset::{AtomicBitSet, BitSet, BitSetLike, BuildError};
 use std::test::Fail;
 use uses::budget::{halves, in_both, in_both_from};
 use uses::lists::{add_all, set_of, set_of_range};

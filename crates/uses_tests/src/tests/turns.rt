@@ -8,7 +8,8 @@ ghost use Rattle.hibitset_atomic.specs.WorldLaws.{reports_in};
 ghost use Rattle.uses_tests.specs.Turns.{is_in, is_done, given, reads_of, HasLeafAhead, HasIn};
 
 use hibitset::laws::world_laws;
-use hibitset::{ATOMIC_MAX_EID, AtomicBitSet, Event, Index, Reply, StepError, World};
+use hibitset::steps::{Event, Reply, StepError, World};
+use hibitset::{ATOMIC_MAX_EID, AtomicBitSet, Index};
 use std::alloc::Global;
 
 /// Adds an index by a call of its own, which passes all its layers, and returns whether the index was there. A world at

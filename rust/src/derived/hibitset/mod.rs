@@ -31,8 +31,8 @@
 //! - `BitSet` is a set that one thread changes: `add`, `remove`, ranges, assignments, comparisons.
 //! - `BitSetLike` has what every set offers: `contains`, `iter`, `par_iter`, `len`, `rank`, `first`, `to_vec`.
 //! - `DrainableBitSet` takes members out while it walks: `drain`, `retain`, `pop_first`.
-//! - `AtomicBitSet` and `SharedBitSet` are for threads that add side by side, each with a `Seat`; `World` says what
-//!   every interleaving of theirs can do.
+//! - `AtomicBitSet` and `SharedBitSet` are for threads that add side by side, each with a `Seat`; `steps::World` says
+//!   what every interleaving of theirs can do.
 //! - `laws` has what holds of all sets, for proofs of callers. CALLING.md beside this crate has proved callers.
 
 use crate::support::rattle_std::prelude::*;
@@ -52,8 +52,8 @@ mod word_op;
 
 pub use build::BuildError;
 pub use crate::derived::hibitset_atomic::{
-    ATOMIC_MAX_EID, AtomicBitSet, Event, Reply, SHARES, Seat, SharedBitSet, SharedWalk, StepError,
-    World, atomic, ops as atomic_ops, path, shared, steps,
+    ATOMIC_MAX_EID, AtomicBitSet, SHARES, Seat, SharedBitSet, SharedWalk, atomic,
+    ops as atomic_ops, shared, steps,
 };
 pub use crate::derived::hibitset_base::{
     BitIter, BitParIter, BitProducer, BitRevIter, BitSetAll, BitSetAnd, BitSetLike, BitSetNot,
