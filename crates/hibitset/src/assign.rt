@@ -302,12 +302,18 @@ impl BitSet {
         self.ensure_word::<Assignment>((64 * (end - 1)) as Index)
     }
 
-    /// Adds the members of any other set. If an allocation fails, the members stay.
+    /// Adds the members of any other set: `|=` of the original.
     ///
-    /// All room is made first, in each layer up to the word over the last one of the other that is not 0 and no
-    /// further: it does not allocate where `layer0_as_slice` is that long, and refused, it leaves its length. Words
-    /// that the other has not are neither read nor changed; where it has summary bits over zero words, past the room of
-    /// this set, those may be read twice, and take no room.
+    /// # Errors
+    ///
+    /// An allocation fails: the members and the length of layer 0 stay.
+    ///
+    /// # Cost
+    ///
+    /// - It does not allocate if `layer0_as_slice` reaches to the other's last nonzero word. Else it reserves first, in
+    ///   each layer up to the word over that one.
+    /// - Words that the other has not are neither read nor changed. Its summary bits over zero words, past the capacity
+    ///   of this set, may be read twice.
     pub fn bitor_assign<B: BitSetLike>(&mut self, other: &B) -> Result<(), AllocError>
         ensures members { OnOk result (IsUnion (has self.old) (is_member (B.holds other.now))
             (has self.new)) }
@@ -326,13 +332,15 @@ impl BitSet {
         Ok(())
     }
 
-    /// Adds the members of any other set that were not there, and takes out those that were. If an allocation fails,
-    /// the members stay.
+    /// Adds the members of any other set that were not there, and takes out those that were: `^=` of the original.
     ///
-    /// All room is made first, in each layer up to the word over the last one of the other that is not 0 and no
-    /// further: it does not allocate where `layer0_as_slice` is that long, and refused, it leaves its length. Words
-    /// that the other has not are neither read nor changed; where it has summary bits over zero words, past the room of
-    /// this set, those may be read twice, and take no room.
+    /// # Errors
+    ///
+    /// An allocation fails: the members and the length of layer 0 stay.
+    ///
+    /// # Cost
+    ///
+    /// That of `bitor_assign`.
     pub fn bitxor_assign<B: BitSetLike>(&mut self, other: &B) -> Result<(), AllocError>
         ensures members { OnOk result (IsSymmetricDifference (has self.old)
             (is_member (B.holds other.now)) (has self.new)) }

@@ -36,10 +36,12 @@ impl FallibleInsert for BitSet {
 }
 
 impl BitSet {
-    /// Adds the items of an iterator, each of which is to be below `MAX_EID`.
+    /// Adds the items of an iterator, each of which is to be below `MAX_EID`: `Extend` of the original.
     ///
-    /// It stops at the first item that is not, and if an allocation fails: then the set has its old members and the
-    /// items before that one, and no later item is drawn. An allocation can fail only for an item whose word lies past
+    /// # Errors
+    ///
+    /// An item is out of range, or an allocation fails. The set then has its old members and the items before that one,
+    /// and no later item is taken from the iterator. An allocation can fail only for an item whose word lies past
     /// `layer0_as_slice`, and no slice grows longer than the members need.
     pub fn extend_indices<U: IntoIterator<Item = Index>>(
         &mut self,
@@ -80,10 +82,12 @@ impl BitSet {
         build::extend_index_refs(self, iter)
     }
 
-    /// A set of the items of an iterator, each of which is to be below `MAX_EID`.
+    /// A set of the items of an iterator, each of which is to be below `MAX_EID`: `FromIterator` of the original.
     ///
-    /// It stops at the first item that is not, and if an allocation fails: then no later item is drawn. An allocation
-    /// can fail only for an item whose word lies past those of all items before it.
+    /// # Errors
+    ///
+    /// An item is out of range, or an allocation fails; no later item is taken. An allocation can fail only for an item
+    /// whose word lies past those of all items before it.
     pub fn from_indices<U: IntoIterator<Item = Index>>(
         alloc: Global,
         iter: U,
@@ -123,9 +127,11 @@ impl BitSet {
 
     /// Adds the indices of a slice, each of which is to be below `MAX_EID`.
     ///
-    /// It stops at the first that is not, and if an allocation fails: then the set has its old members and the indices
-    /// before that one. The error has its place. An allocation can fail only for an index whose word lies past
-    /// `layer0_as_slice`, and no slice grows longer than the members need.
+    /// # Errors
+    ///
+    /// An index is out of range, or an allocation fails. The set then has its old members and the indices before that
+    /// one, whose place the error has. An allocation can fail only for an index whose word lies past `layer0_as_slice`,
+    /// and no slice grows longer than the members need.
     pub fn extend_from_slice(&mut self, indices: &[Index]) -> Result<(), BuildError>
         ensures added { OnOk result (AddsList (has self.old) (has self.new) indices.now) }
         ensures in_range { OnOk result (InRangeBefore MAX_EID indices.now (length indices.now)) }
@@ -148,8 +154,10 @@ impl BitSet {
 
     /// A set of the indices of a slice, each of which is to be below `MAX_EID`.
     ///
-    /// It stops at the first that is not, and if an allocation fails; the error has its place. An allocation can fail
-    /// only for an index whose word lies past those of all indices before it.
+    /// # Errors
+    ///
+    /// An index is out of range, or an allocation fails; the error has its place. An allocation can fail only for an
+    /// index whose word lies past those of all indices before it.
     pub fn from_slice(alloc: Global, indices: &[Index]) -> Result<BitSet, BuildError>
         ensures members { IfOk result (λ set. (i : ℕ)
             → (has set i ≡ true) ↔ Contains indices.now i) }
@@ -169,8 +177,16 @@ impl BitSet {
     }
 
     /// The set whose words of layer 0 are these, at most as many as that layer may have: index `64 * p + b` is a member
-    /// where bit `b` of word `p` stands. With `layer0_as_slice` it is how a set is saved and read again. It makes one
-    /// request for memory, for these words and those over them; the error is want of it. The original has no such call.
+    /// if bit `b` of word `p` is set. With `layer0_as_slice` it is how a set is saved and read again.
+    ///
+    /// ```text
+    /// let set = BitSet::from_words(alloc, &[0b1000, 0b10])?;
+    /// // {3, 65}
+    /// ```
+    ///
+    /// # Errors
+    ///
+    /// The one allocation fails, for these words and those over them.
     pub fn from_words(alloc: Global, words: &[usize]) -> Result<BitSet, AllocError>
         requires { length words.now ≤ 64 ^ (LAYERS - 1) }
         ensures members { IfOk result (λ set. (i : ℕ) → has set i ≡ stands_in words.now i) }
@@ -184,9 +200,12 @@ impl BitSet {
         Ok(BitSet { layers })
     }
 
-    /// An empty vector with room for `len` words, at most as many as layer 0 may have, and for those that lie over
-    /// them: what `from_vec` makes a set of without another request for memory. The error is want of memory. The
-    /// original has no such call.
+    /// An empty vector with capacity for `len` words, at most as many as layer 0 may have, and for those over them:
+    /// `from_vec` makes a set of it without another allocation.
+    ///
+    /// # Errors
+    ///
+    /// The allocation fails.
     pub fn vec_with_room(alloc: Global, len: usize) -> Result<Vec<usize>, AllocError>
         requires { len ≤ 64 ^ (LAYERS - 1) }
         ensures empty { IfOk result (λ words. words.items ≡ []) }
@@ -196,9 +215,12 @@ impl BitSet {
     }
 
     /// The set whose words of layer 0 are those of a vector, at most as many as that layer may have, as `from_words`
-    /// makes it of a slice. The set keeps the vector, and puts the words over them behind them: that takes one request
-    /// for memory at most, and none if `vec_with_room` made the vector for so many words or more. The error is want of
-    /// memory; the vector is gone then. The original has no such call.
+    /// makes it of a slice. The set keeps the vector, and appends the words over them.
+    ///
+    /// # Errors
+    ///
+    /// The allocation fails: the vector is gone then. There is none if `vec_with_room` made the vector for this many
+    /// words or more, and else at most one.
     pub fn from_vec(words: Vec<usize>) -> Result<BitSet, AllocError>
         requires { length words.items ≤ 64 ^ (LAYERS - 1) }
         ensures members { IfOk result (λ set. (i : ℕ) → has set i ≡ stands_in words.items i) }
@@ -213,12 +235,13 @@ impl BitSet {
         Ok(BitSet { layers })
     }
 
-    /// The set whose layers have these words, and whose top layer has the word `top`: a copy of a set of which the
-    /// slices are at hand. It makes one request for memory, for these words; the error is want of it. The original has
-    /// no such call.
+    /// The set whose layers have these words, and whose top layer has the word `top`: a copy of a set whose slices are
+    /// at hand. Layer 0 has at most as many words as it may have, each layer above it as many as the words below need,
+    /// and the summaries are exact.
     ///
-    /// Layer 0 has at most as many words as it may have, each layer above it as many as the words below need, and the
-    /// summaries are exact.
+    /// # Errors
+    ///
+    /// The one allocation fails, for these words.
     pub fn from_layers(
         alloc: Global,
         layer0: &[usize],

@@ -185,9 +185,8 @@ pub(crate) fn compare<C: Comparison>(ours: &BitSet, theirs: &BitSet) -> bool
 }
 
 impl BitSet {
-    /// Returns whether each member of the other set is one of this set. It does not allocate.
-    ///
-    /// Regions where the other set has no member are skipped.
+    /// Returns whether each member of the other set is one of this set: `contains_set` of the original. It does not
+    /// allocate, and skips regions in which the other set has no member.
     pub fn contains_set(&self, other: &BitSet) -> bool
         ensures { IsTrue result ↔ ((i : ℕ) → i < MAX_EID → has other.now i ≡ true
             → has self.now i ≡ true) }

@@ -16,13 +16,12 @@ use hibitset_base::like::BitSetLike;
 use hibitset_base::util::LAYERS;
 use std::alloc::{AllocError, Global};
 
-/// The words of a set, by layer and place. It says nothing of summaries: a `BitSet` has these words with exact
-/// summaries.
+/// The words of a set, by layer and position, without a promise of their summaries: a `BitSet` has these words with
+/// exact summaries.
 ///
-/// The vector has room for the words over so many words of layer 0: those of layer 0 first, then those of layer 1, and
-/// so on up to the top, which is one word and lies apart. `starts` are the places where the layers begin, and `lens`
-/// tells how many words of each count, those over the words of layer 0 that count. Past them all words are 0, so that
-/// they are counted in without being written.
+/// The vector holds layer 0, then layer 1, and so on up to the top, whose one word lies apart. `starts[l]` is where
+/// layer l begins, and `lens[l]` how many of its words are in use. All behind them are 0, so growing within the
+/// capacity writes nothing.
 #[derive(Drop)]
 pub(crate) struct Layers {
     words: Vec<usize>,
@@ -49,7 +48,7 @@ impl Layers {
         }
     }
 
-    /// Words that are all 0, `len` of them in layer 0, and no more room than they need.
+    /// Words that are all 0, `len` of them in layer 0, and no more capacity than they need.
     pub(crate) fn zeros(alloc: Global, len: usize) -> Result<Layers, AllocError>
         requires { len ≤ 64 ^ (LAYERS - 1) }
         ensures none { IfOk result (λ layers. (l p : ℕ) → word_in layers l p ≡ 0) }
@@ -61,8 +60,7 @@ impl Layers {
         Ok(layers)
     }
 
-    /// These words in layer 0 with exact summaries over them, and no more room than they need. It makes one request for
-    /// memory.
+    /// These words in layer 0 with exact summaries over them, and no more capacity than they need. It allocates once.
     pub(crate) fn of_words(alloc: Global, words: &[usize]) -> Result<Layers, AllocError>
         requires { length words.now ≤ 64 ^ (LAYERS - 1) }
         ensures words { IfOk result (λ layers. (p : ℕ)
@@ -73,8 +71,8 @@ impl Layers {
         Layers::of_vec(Layers::vec_of(alloc, words)?)
     }
 
-    /// The words of a vector in layer 0 with exact summaries over them, which are put behind them. It makes one request
-    /// for memory at most, and none if the vector has room for the summaries.
+    /// The words of a vector in layer 0 with exact summaries over them, which are appended. It allocates at most once,
+    /// and not at all if the vector has capacity for the summaries.
     pub(crate) fn of_vec(words: Vec<usize>) -> Result<Layers, AllocError>
         requires { length words.items ≤ 64 ^ (LAYERS - 1) }
         ensures words { IfOk result (λ layers. (p : ℕ)
@@ -89,8 +87,7 @@ impl Layers {
         Ok(layers)
     }
 
-    /// The words of these layers with a word of the top layer, and no more room than they need. It makes one request
-    /// for memory.
+    /// The words of these layers with a word of the top layer, and no more capacity than they need. It allocates once.
     pub(crate) fn of_layers(
         alloc: Global,
         layer0: &[usize],
@@ -136,7 +133,7 @@ impl Layers {
         Ok(list)
     }
 
-    /// An empty vector with room for so many words of layer 0, and for those over them.
+    /// An empty vector with capacity for `len` words of layer 0, and for those over them.
     pub(crate) fn vec_with_room(alloc: Global, len: usize) -> Result<Vec<usize>, AllocError>
         requires { len ≤ 64 ^ (LAYERS - 1) }
         ensures empty { IfOk result (λ words. words.items ≡ []) }
@@ -241,7 +238,7 @@ impl Layers {
         self.lens[0]
     }
 
-    /// How many words of layer 0 there is room for.
+    /// The capacity of layer 0, in words.
     #[inline]
     pub(crate) fn room(&self) -> usize
         ensures here { result ≡ room_in self.now }
@@ -258,9 +255,9 @@ impl Layers {
         self.top
     }
 
-    /// The word of a layer below the top at a place, which is 0 past the layer's end. One of layer 1, which a sparse
-    /// walk reads as often as one of layer 0, is taken from the layer's slice, whose beginning a loop knows: so the
-    /// place needs no addition.
+    /// The word of a layer below the top at a position, which is 0 past the layer's end. One of layer 1, which a sparse
+    /// walk reads as often as one of layer 0, is taken from the layer's slice: so the position needs no addition in a
+    /// loop.
     #[inline]
     pub(crate) fn word(&self, layer: usize, place: usize) -> usize
         requires { layer < LAYERS - 1 }
@@ -275,7 +272,7 @@ impl Layers {
         self.words[self.layer_start(layer) + place]
     }
 
-    /// Puts a word in the place of another, below the top.
+    /// Stores a word at a position of a layer below the top.
     #[inline]
     pub(crate) fn store_word(&mut self, layer: usize, place: usize, word: usize)
         requires layer { layer < LAYERS - 1 }
@@ -289,7 +286,7 @@ impl Layers {
         self.words[start + place] = word;
     }
 
-    /// Puts a word in the place of that of the top layer.
+    /// Stores the word of the top layer.
     #[inline]
     pub(crate) fn store_top(&mut self, word: usize)
         ensures here { word_in self.new (LAYERS - 1) 0 ≡ word }
@@ -398,9 +395,8 @@ impl Layers {
         self.lens = lens_over(len);
     }
 
-    /// Makes layer 0 `len` words long, and the layers above it as long as they are over it, by zero words. It allocates
-    /// at most once, and then makes room for `room` words of layer 0, where that is more and not too
-    /// much; refused, nothing changes.
+    /// Sets the length of layer 0 to `len`, and of the layers above to match, by zero words. It allocates at most once,
+    /// for a capacity of `room` words of layer 0 if that is more and not too much. If that fails, nothing changes.
     pub(crate) fn set_len(&mut self, len: usize, room: usize) -> Result<(), AllocError>
         requires more { len_in self.old 0 ≤ len }
         requires within { len ≤ 64 ^ (LAYERS - 1) }
@@ -415,8 +411,7 @@ impl Layers {
         Ok(())
     }
 
-    /// The same words in slices of the same lengths, and no more room than they need. It makes one request for memory
-    /// at most.
+    /// The same words in slices of the same lengths, and no more capacity than they need. It allocates at most once.
     pub(crate) fn copy(&self) -> Result<Layers, AllocError>
         ensures same { IfOk result (λ copy. (l p : ℕ) → word_in copy l p ≡ word_in self.now l p) }
         ensures length { IfOk result (λ copy. len_in copy 0 ≡ len_in self.now 0) }

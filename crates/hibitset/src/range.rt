@@ -198,11 +198,22 @@ impl Layers {
 }
 
 impl BitSet {
-    /// Adds the indices from `start` on before `end`, which is at most `MAX_EID`, by whole words. Where `end` is not
-    /// above `start` there is nothing to add. If an allocation fails, the members stay. The original has no such call.
+    /// Adds the indices from `start` up to, but without, `end`, which is at most `MAX_EID`. If `end` is not above
+    /// `start`, nothing changes.
     ///
-    /// It allocates at most once, and not at all if the word of `end - 1` lies in `layer0_as_slice`. Else it
-    /// makes the slices as long as `add` of `end - 1` does; refused, it leaves the length of layer 0.
+    /// ```text
+    /// set.add_range(10, 1_000)?;
+    /// // 10, 11, .., 999 are members
+    /// ```
+    ///
+    /// # Errors
+    ///
+    /// The allocation fails: the members and the length of layer 0 stay. It allocates at most once, and not at all if
+    /// the word of `end - 1` lies in `layer0_as_slice`; else the slices become as long as by `add` of `end - 1`.
+    ///
+    /// # Cost
+    ///
+    /// It writes whole words: one for each 64 indices.
     pub fn add_range(&mut self, start: Index, end: Index) -> Result<(), AllocError>
         requires { end ≤ MAX_EID }
         ensures added { OnOk result ((i : ℕ)
@@ -225,8 +236,8 @@ impl BitSet {
         Ok(())
     }
 
-    /// Takes the indices from `start` on before `end` out, by whole words, for any two numbers. It does not allocate,
-    /// and keeps the slice of layer 0 as long as it is. The original has no such call.
+    /// Takes out the indices from `start` up to, but without, `end`, for any two numbers. It writes whole words, does
+    /// not allocate, and keeps the length of layer 0.
     pub fn remove_range(&mut self, start: Index, end: Index)
         ensures removed { (i : ℕ) → has self.new i
             ≡ (has self.old i && not (in_range start end i)) }
@@ -238,11 +249,19 @@ impl BitSet {
         }
     }
 
-    /// Flips the indices from `start` on before `end`, which is at most `MAX_EID`: those in the set are taken out, and
-    /// the others are added. If `end` is not above `start` nothing changes. If an allocation fails, the members stay.
+    /// Flips the indices from `start` up to, but without, `end`, which is at most `MAX_EID`: members are taken out, and
+    /// the others are added. If `end` is not above `start`, nothing changes.
     ///
-    /// It allocates at most once, and not at all if the word of `end - 1` lies in `layer0_as_slice`. Else it
-    /// makes the slices as long as `add` of `end - 1` does; refused, it leaves the length of layer 0.
+    /// ```text
+    /// // set: {1, 2}
+    /// set.flip_range(0, 4)?;
+    /// // set: {0, 3}
+    /// ```
+    ///
+    /// # Errors
+    ///
+    /// The allocation fails: the members and the length of layer 0 stay. It allocates at most once, as `add_range`
+    /// does.
     pub fn flip_range(&mut self, start: Index, end: Index) -> Result<(), AllocError>
         requires { end ≤ MAX_EID }
         ensures flipped { OnOk result ((i : ℕ)

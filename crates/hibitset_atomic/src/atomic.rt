@@ -17,10 +17,11 @@ use std::fmt::{self, Debug, Formatter};
 /// Members of an atomic set lie below this bound. It keeps four layers, whatever the number of layers of a `BitSet` is.
 pub const ATOMIC_MAX_EID: usize = 1 << (BITS * ATOMIC_LAYERS);
 
-/// A set of indices below `ATOMIC_MAX_EID`, kept as words in four layers, that can be shared between threads.
+/// A set of indices below `ATOMIC_MAX_EID`, kept as words in four layers, that can be shared between threads:
+/// `AtomicBitSet` of the original.
 ///
 /// A bit of a layer above the lowest is set exactly over a nonzero word, at all times. The fifth layer, which every set
-/// has, is not kept: its one word is 1 where there is a member, and else 0.
+/// has, is not kept: its one word is 1 if there is a member, and else 0.
 #[derive(Drop)]
 pub struct AtomicBitSet {
     pub(crate) layers: Layers,
@@ -32,6 +33,10 @@ impl AtomicBitSet {
     ghost use Rattle.hibitset_atomic.specs.AtomicBitSet.{has, word_of, SharesBlockWithMember, NeedsAllocation, AllBlocksReserved};
 
     /// The empty set.
+    ///
+    /// # Errors
+    ///
+    /// An allocation fails.
     pub fn new(alloc: Global) -> Result<AtomicBitSet, AllocError>
         ensures empty { IfOk result (λ set. (i : ℕ) → has set i ≡ false) }
         ensures bare { IfOk result (λ set. (i : ℕ) → NeedsAllocation set i) }
@@ -56,13 +61,13 @@ impl AtomicBitSet {
         AtomicBitSet { layers }
     }
 
-    /// What the set takes memory from.
+    /// The set's allocator.
     #[inline]
     pub(crate) fn allocator(&self) -> Global {
         *self.layers.layer1.allocator()
     }
 
-    /// The empty set, with the room for all blocks.
+    /// The empty set, with capacity for all blocks.
     pub(crate) fn with_room(alloc: Global) -> Result<AtomicBitSet, AllocError>
         ensures zero { IfOk result (λ set. (l p : ℕ) → word_of set l p ≡ 0) }
         ensures room { IfOk result (λ set. HasRoom set.layers.layer0) }
@@ -72,7 +77,7 @@ impl AtomicBitSet {
         Ok(AtomicBitSet { layers })
     }
 
-    /// Puts a word into layer 0, where there is room for all blocks, and sets the summaries over it right.
+    /// Stores a word in layer 0, if there is capacity for all blocks, and sets the summaries over it right.
     #[inline]
     pub(crate) fn store_word(&mut self, place: usize, word: usize)
         requires place { place < 64 ^ (ATOMIC_LAYERS - 1) }
@@ -106,12 +111,18 @@ impl AtomicBitSet {
         !stands
     }
 
-    /// Adds an index below `ATOMIC_MAX_EID`, and returns whether it was there. If an allocation fails, the members
-    /// stay.
+    /// Adds an index below `ATOMIC_MAX_EID`, and returns whether it was there.
     ///
-    /// It does not allocate where some member `j` has the same `j / 4096`, nor where the block of those 4,096 indices
-    /// was made before: once made it stays. It makes no other block. A set that `settle` made has room for all blocks,
-    /// and needs memory for none.
+    /// # Errors
+    ///
+    /// An allocation fails: the members stay.
+    ///
+    /// # Cost
+    ///
+    /// - It does not allocate if some member `j` has the same `j / 4096`, or if the block of those 4,096 indices was
+    ///   made before: once made it stays.
+    /// - Else it makes that block and no other.
+    /// - A set that `settle` made has capacity for all blocks, and allocates for none.
     #[inline]
     pub fn add(&mut self, id: Index) -> Result<bool, AllocError>
         requires { id < ATOMIC_MAX_EID }

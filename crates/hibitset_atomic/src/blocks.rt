@@ -11,8 +11,8 @@ const BLOCK_COUNT: usize = 4_096;
 /// 262,144 words in blocks of 64, each of which is made when it is first needed. The words of blocks that are not made
 /// are 0.
 ///
-/// One vector has all blocks, so a block is a request for memory only where the vector has to grow. Its first block has
-/// no bits: there the places of blocks that are not made lie, and reading needs no test.
+/// One vector has all blocks, so a new block allocates only if the vector has to grow. Its first block has no bits:
+/// blocks that are not made point there, and reading needs no test.
 #[derive(Drop)]
 pub(crate) struct Blocks {
     pub(crate) places: Vec<u16>,
@@ -64,7 +64,7 @@ impl Blocks {
         Ok(Blocks { places, words })
     }
 
-    /// Makes the room for all blocks, and none of them.
+    /// Reserves capacity for all blocks, and makes none of them.
     pub(crate) fn make_room(&mut self) -> Result<(), AllocError>
         ensures same { (p : ℕ) → block_word self.new p ≡ block_word self.old p }
         ensures room { OnOk result (HasRoom self.new) }
@@ -134,7 +134,7 @@ impl Blocks {
         self.words[place as usize * 64 + position % 64] = word;
     }
 
-    /// Sets a bit of a word, and tells the word as it was. If an allocation fails, no word changes.
+    /// Sets a bit of a word, and returns the word as it was. If an allocation fails, no word changes.
     pub(crate) fn fetch_or(&mut self, position: usize, bit: u32) -> Result<usize, AllocError>
         requires position { position < 64 ^ (ATOMIC_LAYERS - 1) }
         requires bit { bit < 64 }

@@ -32,11 +32,13 @@ impl FallibleInsert for AtomicBitSet {
 }
 
 impl AtomicBitSet {
-    /// Adds the items of an iterator, each of which is to be below `ATOMIC_MAX_EID`.
+    /// Adds the items of an iterator, each of which is to be below `ATOMIC_MAX_EID`: `Extend` of the original.
     ///
-    /// It stops at the first item that is not, and if an allocation fails: then the set has its old members and the
-    /// items before that one, and no later item is drawn. An allocation can fail only for an item whose block of 4,096
-    /// indices is not made, and no block is made but those of members. It is `Extend` of the original.
+    /// # Errors
+    ///
+    /// An item is out of range, or an allocation fails. The set then has its old members and the items before that one,
+    /// and no later item is taken from the iterator. An allocation can fail only for an item whose block of 4,096
+    /// indices is not made, and no block is made but those of members.
     pub fn extend_indices<U: IntoIterator<Item = Index>>(
         &mut self,
         iter: U,
@@ -72,12 +74,14 @@ impl AtomicBitSet {
         build::extend_index_refs(self, iter)
     }
 
-    /// A set of the items of an iterator, each of which is to be below `ATOMIC_MAX_EID`.
+    /// A set of the items of an iterator, each of which is to be below `ATOMIC_MAX_EID`: `FromIterator` of the
+    /// original.
     ///
-    /// It stops at the first item that is not, and if an allocation fails: then no later item is drawn. An allocation
-    /// can fail only for an item with none before it in the same 4,096 indices. Where there is no memory for the empty
-    /// set itself, the error is `Memory` at place 0, whatever the items are, and none is drawn. It is `FromIterator` of
-    /// the original.
+    /// # Errors
+    ///
+    /// An item is out of range, or an allocation fails; no later item is taken. An allocation can fail only for an item
+    /// with none before it in the same 4,096 indices. If that of the empty set itself fails, the error is `Memory` at
+    /// place 0, whatever the items are, and none is taken.
     pub fn from_indices<U: IntoIterator<Item = Index>>(
         alloc: Global,
         iter: U,
@@ -125,9 +129,11 @@ impl AtomicBitSet {
 
     /// Adds the indices of a slice, each of which is to be below `ATOMIC_MAX_EID`.
     ///
-    /// It stops at the first that is not, and if an allocation fails: then the set has its old members and the indices
-    /// before that one. The error has its place. An allocation can fail only for an index whose block of 4,096 indices
-    /// is not made, and no block is made but those of members.
+    /// # Errors
+    ///
+    /// An index is out of range, or an allocation fails. The set then has its old members and the indices before that
+    /// one, whose place the error has. An allocation can fail only for an index whose block of 4,096 indices is not
+    /// made, and no block is made but those of members.
     pub fn extend_from_slice(&mut self, indices: &[Index]) -> Result<(), BuildError>
         ensures added { OnOk result (AddsList (has self.old) (has self.new) indices.now) }
         ensures in_range { OnOk result (InRangeBefore ATOMIC_MAX_EID indices.now
@@ -148,9 +154,11 @@ impl AtomicBitSet {
 
     /// A set of the indices of a slice, each of which is to be below `ATOMIC_MAX_EID`.
     ///
-    /// It stops at the first that is not, and if an allocation fails; the error has its place. An allocation can fail
-    /// only for an index with none before it in the same 4,096 indices. Where there is no memory for the empty set
-    /// itself, the error is `Memory` at place 0, whatever the indices are.
+    /// # Errors
+    ///
+    /// An index is out of range, or an allocation fails; the error has its place. An allocation can fail only for an
+    /// index with none before it in the same 4,096 indices. If that of the empty set itself fails, the error is
+    /// `Memory` at place 0, whatever the indices are.
     pub fn from_slice(alloc: Global, indices: &[Index]) -> Result<AtomicBitSet, BuildError>
         ensures members { IfOk result (λ set. (i : ℕ)
             → (has set i ≡ true) ↔ Contains indices.now i) }

@@ -72,7 +72,7 @@ impl Layers {
         })
     }
 
-    /// Makes the room for all blocks, and changes no word.
+    /// Reserves capacity for all blocks, and changes no word.
     pub(crate) fn make_room(&mut self) -> Result<(), AllocError>
         ensures same { (l p : ℕ) → layer_word self.new l p ≡ layer_word self.old l p }
         ensures room { OnOk result (HasRoom self.new.layer0) }
@@ -99,7 +99,7 @@ impl Layers {
         }
     }
 
-    /// Makes all words 0, and does not allocate. It goes only to nonzero words.
+    /// Makes all words 0. It visits only nonzero words, and does not allocate.
     pub(crate) fn clear(&mut self)
         requires { SummariesExactEverywhere ATOMIC_LAYERS (layer_word self.old) }
         ensures zero { (l p : ℕ) → layer_word self.new l p ≡ 0 }
@@ -162,8 +162,8 @@ impl Layers {
         self.layer0.make(place)
     }
 
-    /// Puts a word into a block of layer 0 in the place of the word `before`, and sets the summaries over it right, as
-    /// far up as one becomes zero or nonzero.
+    /// Stores a word in a block of layer 0, where `before` was, and updates the summaries over it, as far up as a word
+    /// becomes zero or nonzero.
     #[inline]
     pub(crate) fn store_word(&mut self, place: usize, before: usize, word: usize)
         requires made { IsMade self.old.layer0 place }
@@ -206,7 +206,7 @@ impl Layers {
         }
     }
 
-    /// Sets a bit of a word, and tells the word as it was. Nothing else changes, no summary either; if an allocation
+    /// Sets a bit of a word, and returns the word as it was. Nothing else changes, no summary either; if an allocation
     /// fails, nothing does.
     pub(crate) fn fetch_or(
         &mut self,

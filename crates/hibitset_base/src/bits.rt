@@ -60,7 +60,7 @@ pub fn with_bit(word: usize, bit: usize, stands: bool) -> usize
     }
 }
 
-/// Puts a word in the place of the word `before`, and returns whether one of them is 0 and the other not.
+/// Stores `word` at `place`, where `before` was, and returns whether exactly one of the two is 0.
 #[inline]
 pub fn replace(words: &mut Vec<usize>, place: usize, before: usize, word: usize) -> bool
     requires place { place < length words.old.items }

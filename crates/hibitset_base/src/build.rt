@@ -15,9 +15,9 @@ use std::fmt;
 /// Places count the items from 0, and stay at `usize::MAX` once there.
 #[derive(Clone, Copy, Debug, PartialEq, Eq)]
 pub enum BuildError {
-    /// The item at `place` is `index`, which the range of the set does not have.
+    /// The item at `place` is `index`, which lies past the range of the set.
     OutOfRange { place: usize, index: Index },
-    /// There was no memory for the item at `place`.
+    /// The allocation for the item at `place` failed.
     Memory { place: usize },
 }
 
@@ -91,7 +91,7 @@ fn add_item<T: FallibleInsert>(set: &mut T, place: usize, index: Index) -> Resul
     }
 }
 
-/// Adds the items of an iterator, up to the first that is refused.
+/// Adds the items of an iterator, up to the first that is not added.
 #[doc(hidden)]
 pub fn extend_indices<T: FallibleInsert, U: IntoIterator<Item = Index>>(
     set: &mut T,
@@ -181,7 +181,7 @@ pub fn from_index_refs<'a, T: FallibleInsert, U: IntoIterator<Item = &'a Index>>
     Ok(set)
 }
 
-/// Adds the indices of a slice, up to the first that is refused.
+/// Adds the indices of a slice, up to the first that is not added.
 #[doc(hidden)]
 pub fn extend_from_slice<T: FallibleInsert>(
     set: &mut T,

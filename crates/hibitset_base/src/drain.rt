@@ -16,9 +16,8 @@ use crate::like::DrainableBitSet;
 use crate::read_count::Reads;
 use crate::util::{Index, LAYERS, MAX_EID};
 
-/// A walk over the members of a set, in ascending order, that takes each one out of the set as it gives it.
-///
-/// Where it is dropped early, the set has all members that were not given.
+/// A walk over the members of a set, in ascending order, that takes each one out of the set as it gives it:
+/// `DrainBitIter` of the original. Dropped early, it leaves all members that were not given.
 #[derive(Drop)]
 pub struct DrainBitIter<'a, T> {
     pub(crate) set: &'a mut T,

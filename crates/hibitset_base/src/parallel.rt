@@ -90,10 +90,10 @@ fn divide<'a, T: BitSetLike>(walk: &mut BitIter<&'a T>, looks: usize) -> Option<
 impl<'a, T: BitSetLike + Send + Sync> BitProducer<'a, T> {
     /// Splits the work in two, the lower items and the higher ones. The number of layers to look at is at most 4.
     ///
-    /// Where more than one mask has bits, it answers none and the producer unchanged. Else it looks at the layers from
-    /// the top one on: under one bit it goes down, and the first layer that has two bits or more is cut at its halving
-    /// bit. Both parts then have as many bits left to visit, or the first one more. So it may answer none and still
-    /// have gone down. How many items lie under each half is not said.
+    /// - If more than one mask has bits, it returns the producer unchanged, and `None`.
+    /// - Else it goes down from the top layer under single bits, and cuts the first layer with two bits or more at its
+    ///   halving bit. Both parts then have as many bits left to visit, or the first one more.
+    /// - So it may return `None` and still have gone down. How many items lie under each half is in no clause.
     pub fn split(self) -> (Self, Option<Self>)
         requires { self.1 < LAYERS }
         ensures items { part_items T.holds self.entry

@@ -1,4 +1,4 @@
-//! Where a walk from the last member down stands in the layers of a set, apart from the set.
+//! The places that a walk from the last member down has still to visit, without the set.
 ghost use Rattle.std.specs.Prelude.{◌≡◌, ◌≢◌, ℕ, ◌+◌, ◌-◌, ◌*◌, ◌^◌, ◌<◌, ◌≤◌, ◌++◌, ◌∷◌, [], true, false};
 ghost use Rattle.hibitset_base.specs.Places.{places_in, bits_from};
 ghost use Rattle.hibitset_base.specs.RevPlaces.{AreAligned};

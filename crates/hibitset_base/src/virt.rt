@@ -83,7 +83,7 @@ impl<A: DrainableBitSet, B: DrainableBitSet> DrainableBitSet for BitSetAnd<A, B>
     ghost keeps_both = { λ a b c first second.
         (A.keeps_both a.0 b.0 c.0 first.0 second.0, B.keeps_both a.1 b.1 c.1 first.1 second.1) };
 
-    /// Takes an index out of both operands, if both have it. They keep their room.
+    /// Takes an index out of both operands, if both have it. They keep their capacity.
     #[inline]
     fn remove(&mut self, i: Index) -> bool
         ensures was { result ≡ (A.holds self.old.0 i && B.holds self.old.1 i) }
@@ -176,7 +176,7 @@ impl<A: DrainableBitSet, B: DrainableBitSet> DrainableBitSet for BitSetOr<A, B> 
     ghost keeps_both = { λ a b c first second.
         (A.keeps_both a.0 b.0 c.0 first.0 second.0, B.keeps_both a.1 b.1 c.1 first.1 second.1) };
 
-    /// Takes an index out of each operand that has it. They keep their room.
+    /// Takes an index out of each operand that has it. They keep their capacity.
     #[inline]
     fn remove(&mut self, i: Index) -> bool
         ensures was { result ≡ (A.holds self.old.0 i || B.holds self.old.1 i) }
@@ -256,11 +256,11 @@ impl<A: BitSetLike, B: BitSetLike> BitSetLike for BitSetXor<A, B> {
     }
 }
 
-/// The complement of a set: the indices that are not in it. It has every index from `MAX_EID` on that its operand
-/// lacks, but a walk stops below.
+/// The complement of a set: the indices that are not in it, `BitSetNot` of the original. `contains` is also true from
+/// `MAX_EID` on; walks, counts and lists stop there.
 ///
-/// Above layer 0 it has every bit, so a walk over it reads all 2^24 words of layer 0. `&` with a set or a
-/// `BitSetRange` bounds the walk.
+/// Above layer 0 it has every bit, so a walk over it reads all 2^24 words of layer 0. `&` with a set or a `BitSetRange`
+/// bounds the walk.
 #[derive(Debug, Drop)]
 pub struct BitSetNot<A: BitSetLike>(pub A);
 

@@ -121,7 +121,7 @@ fn add_list(set: &mut BitSet, list: &[Index]) -> (usize, u32)
     (count, OK)
 }
 
-/// Adds the indices of a list in order, until one is refused. Leaves in `added` how many were added.
+/// Adds the indices of a list in order, up to the first that is not added. Leaves in `added` how many were added.
 #[unsafe(no_mangle)]
 pub extern "C" fn hibitset_add_many(
     alloc: Global,

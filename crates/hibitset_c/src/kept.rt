@@ -1,4 +1,4 @@
-//! What lies behind the handle of an atomic set, of a seat or of a sparse set.
+//! What the pointer of an atomic set, of a seat or of a sparse set in C owns.
 #![tactic(auto)]
 
 use crate::member::{Divided, Member, Settled};

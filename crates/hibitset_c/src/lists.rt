@@ -27,8 +27,8 @@ fn rank_by(counted: &Option<Ranked<Seen<'_>>>, set: &Seen<'_>, end: u32) -> usiz
 /// Writes for each end of a list how many members lie before it, until the buffer is full or there are no more ends.
 /// Returns how many were written.
 ///
-/// It counts the members of the set once, and then reads at most 65 words for an end. If the memory for the counts, 4
-/// bytes for each 4,096 indices up to the last member, is refused, it counts anew for each end.
+/// It counts the members of the set once, and then reads at most 65 words for an end. If the allocation of the counts
+/// fails, 4 bytes for each 4,096 indices up to the last member, it counts anew for each end.
 #[unsafe(no_mangle)]
 pub extern "C" fn hibitset_rank_many(
     alloc: Global,

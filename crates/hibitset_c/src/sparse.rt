@@ -99,7 +99,7 @@ fn add_list(members: &mut SparseBitSet, list: &[Index]) -> (usize, u32)
     }
 }
 
-/// Adds the indices of a list in order, until one is refused. Leaves in `added` how many were added.
+/// Adds the indices of a list in order, up to the first that is not added. Leaves in `added` how many were added.
 #[tactic(auto, using(crate::proofs::SparseLemmas::not_near))]
 #[unsafe(no_mangle)]
 pub extern "C" fn hibitset_sparse_add_many(

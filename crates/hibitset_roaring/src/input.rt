@@ -27,15 +27,21 @@ const LONGEST_START: usize = 8;
 const CHUNK: usize = 8192;
 
 /// The set whose members a stream has, as `read_below` reads it, with keys below `end`. The stream is all bytes that
-/// the reader gives up to its end.
+/// the reader gives up to its end. An interrupted read is made again.
 ///
-/// It asks for at most 8,192 bytes at once, and keeps them in a `Vec`. The error is `TooLong`, and it reads no further,
-/// once there are more than any stream of keys below `end` has: 131,083 for each key, and 8. So a small `end` bounds
-/// what a stranger's reader can make it take, also one that never ends.
+/// # Errors
 ///
-/// An interrupted read is made again. Any other error of the reader is handed on as `Io`. `Memory` is a failed
-/// allocation, and `Malformed` names a fault of the bytes and its position. After an error the bytes that were read are
-/// lost.
+/// The bytes that were read are lost then.
+///
+/// - `TooLong`: the reader gave more bytes than any stream of keys below `end` has, 131,083 for each key, and 8. It
+///   reads no further, so a small `end` bounds what an untrusted reader can make it take, also one that never ends.
+/// - `Io`: any other error of the reader.
+/// - `Malformed`: a fault of the bytes and its position.
+/// - `Memory`: an allocation failed.
+///
+/// # Cost
+///
+/// It asks for at most 8,192 bytes at once, and keeps all in a `Vec`.
 pub fn read_from<R: Read>(
     alloc: Global,
     reader: &mut R,

@@ -127,9 +127,15 @@ impl<T: BitSetLike> ContainerSource for LikeSource<'_, T> {
 /// Any set in the portable Roaring format, as `write` writes a `BitSet` of the same members: the one stream without
 /// runs of the members below `MAX_EID`.
 ///
-/// It makes no copy of the set: it gathers the words of one container at a time, twice, once to count its members and
-/// once to write them. It allocates 16 bytes for each 65,536 numbers with members, and the stream's bytes. The error is
-/// a failed allocation.
+/// # Errors
+///
+/// An allocation fails.
+///
+/// # Cost
+///
+/// - It makes no copy of the set: it gathers the words of one container at a time, twice, once to count its members and
+///   once to write them.
+/// - It allocates 16 bytes for each 65,536 numbers with members, and the stream's bytes.
 pub fn write_like<T: BitSetLike>(alloc: Global, set: &T) -> Result<Vec<u8>, AllocError>
     ensures stream { IfOk result (λ out. IsCanonicalStream (is_member (T.holds set.now))
         out.items) }

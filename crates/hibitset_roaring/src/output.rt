@@ -14,11 +14,13 @@ use std::alloc::Global;
 use std::io::{self, ErrorKind, Write};
 
 /// Writes a set in the portable Roaring format behind what the writer holds, as `write` writes it. The writer is not
-/// flushed.
+/// flushed. An interrupted write is made again.
 ///
-/// All bytes are made first, in memory. Nothing is written if an allocation fails: the error's kind is `OutOfMemory`
-/// then. An interrupted write is made again. Any other error of the writer is handed on, and it is `WriteZero` if the
-/// writer takes no more. A front of the stream may be written then.
+/// # Errors
+///
+/// - `OutOfMemory`: an allocation fails. All bytes are made first, so nothing is written then.
+/// - `WriteZero`: the writer takes no more. A prefix of the stream may be written.
+/// - Any other error of the writer. A prefix of the stream may be written.
 pub fn write_into<W: Write>(alloc: Global, set: &BitSet, writer: &mut W) -> io::Result<()>
     ensures stream { OnOk result
         (Writes (IsCanonicalStream (has set.now)) (W.contents writer.old) (W.contents writer.new)) }

@@ -73,10 +73,20 @@ pub(crate) fn check_stream(bytes: &[u8], end: usize) -> Result<(Header, usize), 
 /// The set whose members a stream in the portable Roaring format has, if each key is below `end`: a key is the high 16
 /// bits of members. The stream is all of the bytes; it may have runs, and leave offsets out where the format does.
 ///
-/// An error names a fault of the bytes and its position, or says that an allocation failed.
+/// ```text
+/// let set = read_below(alloc, bytes, 16)?;
+/// // members below 16 * 65,536
+/// ```
 ///
-/// The set takes at most 8,192 bytes for each key below `end`, and a sixty-third more, in one request for memory: if
-/// `end` is `KEYS`, 18 bytes can ask for 136 MB. A stranger's bytes are better read by `read_sparse`.
+/// # Errors
+///
+/// - `Malformed`: a fault of the bytes and its position. Trailing bytes are a fault too (`TooLong`).
+/// - `Memory`: the allocation failed.
+///
+/// # Cost
+///
+/// It allocates once, at most 8,192 bytes for each key below `end`, and a sixty-third more: if `end` is `KEYS`, 18
+/// bytes can ask for 136 MB. Untrusted bytes are better read by `read_sparse`.
 pub fn read_below(alloc: Global, bytes: &[u8], end: usize) -> Result<BitSet, ReadError>
     requires { end ≤ KEYS }
     ensures stream { OnOk result (IsStream bytes.now) }
@@ -95,7 +105,7 @@ pub fn read_below(alloc: Global, bytes: &[u8], end: usize) -> Result<BitSet, Rea
     Ok(BitSet::from_vec(words)?)
 }
 
-/// The set whose members a stream has, as `read_below` reads it, if they are below `MAX_EID`. Bytes of a stranger are
+/// The set whose members a stream has, as `read_below` reads it, if they are below `MAX_EID`. Untrusted bytes are
 /// better read with a bound.
 pub fn read(alloc: Global, bytes: &[u8]) -> Result<BitSet, ReadError>
     ensures stream { OnOk result (IsStream bytes.now) }

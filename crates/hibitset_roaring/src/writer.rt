@@ -259,8 +259,13 @@ pub fn len_of_words(words: &[usize], above: &[usize]) -> usize
 /// Writes the set with these words of layer 0, over which those of layer 1 lie, into the first bytes of a buffer, as
 /// `write` makes them. Returns how many bytes that takes. A buffer that has fewer is left as it was.
 ///
-/// It allocates 16 bytes for each 65,536 numbers with members. The error is a failed allocation; the buffer is as it
-/// was then.
+/// # Errors
+///
+/// An allocation fails; the buffer is as it was then.
+///
+/// # Cost
+///
+/// It allocates 16 bytes for each 65,536 numbers with members.
 pub fn write_words(
     alloc: Global,
     words: &[usize],
@@ -298,8 +303,13 @@ pub fn serialized_len(set: &BitSet) -> usize
 /// Writes a set in the portable Roaring format behind the bytes of `out`: the one stream without runs of its members.
 /// At most 4,096 members with the same high 16 bits are an array, more are bits.
 ///
-/// It allocates 16 bytes for each 65,536 numbers with members, and the stream's bytes. The error is a failed
-/// allocation; `out` is as it was then.
+/// # Errors
+///
+/// An allocation fails; `out` is as it was then.
+///
+/// # Cost
+///
+/// It allocates 16 bytes for each 65,536 numbers with members, and the stream's bytes.
 pub fn write_to(alloc: Global, set: &BitSet, out: &mut Vec<u8>) -> Result<(), AllocError>
     ensures stream { OnOk result (Appends (IsCanonicalStream (has set.now)) out.old.items
         out.new.items) }

@@ -11,8 +11,12 @@ use hibitset_base::util::{Index, MAX_EID};
 use std::alloc::AllocError;
 
 impl SparseBitSet {
-    /// Adds the indices from `start` on before `end`, which is at most `MAX_EID`. Where `end` is not above `start` there
-    /// is nothing to add. If an allocation fails, the members stay. A range of n indices takes n / 7 bytes at most.
+    /// Adds the indices from `start` up to, but without, `end`, which is at most `MAX_EID`. If `end` is not above
+    /// `start`, nothing changes.
+    ///
+    /// # Errors
+    ///
+    /// An allocation fails: the members stay. A range of n indices takes n / 7 bytes at most.
     pub fn add_range(&mut self, start: Index, end: Index) -> Result<(), AllocError>
         requires { end ≤ MAX_EID }
         ensures added { OnOk result ((i : ℕ)
@@ -26,15 +30,19 @@ impl SparseBitSet {
         self.bitor_assign(&BitSetRange { start, end })
     }
 
-    /// Takes the indices from `start` on before `end` out, for any two numbers. It can't fail, and does not allocate.
+    /// Takes out the indices from `start` up to, but without, `end`, for any two numbers. It does not allocate.
     pub fn remove_range(&mut self, start: Index, end: Index)
         ensures { (i : ℕ) → has self.new i ≡ (has self.old i && not (in_range start end i)) }
     {
         self.subtract_assign(&BitSetRange { start, end });
     }
 
-    /// Flips the indices from `start` on before `end`, which is at most `MAX_EID`: those in the set are taken out, and
-    /// the others are added. If an allocation fails, the members stay.
+    /// Flips the indices from `start` up to, but without, `end`, which is at most `MAX_EID`: members are taken out, and
+    /// the others are added.
+    ///
+    /// # Errors
+    ///
+    /// An allocation fails: the members stay.
     pub fn flip_range(&mut self, start: Index, end: Index) -> Result<(), AllocError>
         requires { end ≤ MAX_EID }
         ensures flipped { OnOk result ((i : ℕ)

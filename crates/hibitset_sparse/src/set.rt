@@ -42,8 +42,12 @@ impl SparseBitSet {
         }
     }
 
-    /// Adds an index below `MAX_EID`, and returns whether it was there. If an allocation fails, the members stay. It
-    /// does not allocate where one of the 64 indices that share its word is a member.
+    /// Adds an index below `MAX_EID`, and returns whether it was there.
+    ///
+    /// # Errors
+    ///
+    /// An allocation fails: the members stay. It does not allocate if one of the 64 indices that share its word is a
+    /// member.
     pub fn add(&mut self, id: Index) -> Result<bool, AllocError>
         requires { id < MAX_EID }
         ensures was { IfOk result (λ was. was ≡ has self.old id) }
@@ -107,8 +111,16 @@ impl SparseBitSet {
         SparseIter::new(&self.chunks)
     }
 
-    /// The members, in ascending order. It reads each stored word twice, once to count its members and once to list
-    /// them, and allocates once, for all of them.
+    /// The members, in ascending order.
+    ///
+    /// # Errors
+    ///
+    /// The allocation fails.
+    ///
+    /// # Cost
+    ///
+    /// It reads each stored word twice, once to count its members and once to list them, and allocates once, for all of
+    /// them.
     pub fn to_vec(&self, alloc: Global) -> Result<Vec<Index>, AllocError>
         ensures { IfOk result (λ v. v.items ≡ members_below MAX_EID (has self.now)) }
     {
@@ -223,7 +235,7 @@ impl BitSetLike for SparseBitSet {
     }
 }
 
-/// A removal gives the memory of an emptied part back, so no room is kept.
+/// A removal gives the memory of an emptied part back, so no capacity is kept.
 impl DrainableBitSet for SparseBitSet {
     ghost keeps_room = { λ old new. Unit {0} };
 

@@ -66,13 +66,23 @@ impl SparseBitSet {
         self.add_bits(64 * position, word)
     }
 
-    /// Adds the members of words that lie side by side from position `first` of layer 0 on: bit b of the word at place j
-    /// stands for the index 64 · (`first` + j) + b. They end by `MAX_EID`.
+    /// Adds the members of words that lie side by side from position `first` of layer 0 on: bit b of the word at place
+    /// j stands for the index 64 · (`first` + j) + b. They end by `MAX_EID`.
     ///
-    /// If an allocation fails, the words before one of them are added, and none from it on.
+    /// ```text
+    /// set.add_words(2, &[0b1, 0, 0b10])?;
+    /// // adds 128 and 257
+    /// ```
     ///
-    /// It looks up the place of each nonzero word, and moves what lies behind it in its chunk where no member shared its
-    /// word. So words behind all members move nothing. A word that is 0 takes no look-up.
+    /// # Errors
+    ///
+    /// An allocation fails: the words before one of them are added, and none from it on.
+    ///
+    /// # Cost
+    ///
+    /// - A nonzero word takes a look-up of its position. If no member shared it, what lies behind it in its chunk is
+    ///   moved, so words behind all members move nothing.
+    /// - A word that is 0 takes no look-up.
     pub fn add_words(&mut self, first: usize, words: &[usize]) -> Result<(), AllocError>
         requires { 64 * (first + length words.now) ≤ MAX_EID }
         ensures added { OnOk result (AddsWords first words.now (has self.old) (has self.new)) }

@@ -14,20 +14,15 @@ use std::alloc::Global;
 
 /// A finite map from indices below `MAX_EID` to values, with the set of its keys.
 ///
-/// Values lie in pages of 64 slots, and the page of an index is made whole when one of its indices first gets a value.
-/// Each call on one index looks at one word of the keys, at one entry of the table of pages and at one slot, at most.
+/// Values lie in pages of 64 slots, and a page is made when one of its indices first gets a value. Each call on one
+/// index looks at most at one word of the keys, one entry of the table of pages and one slot. Of values of four bytes
 ///
-/// A page takes 512 bytes for values of four bytes, and the table four bytes for each 64 indices up to the highest key,
-/// 67 MB at 2^30, beside the words of the set of keys, 136 MB there. All pages lie in one list, which doubles when it
-/// is full, so up to twice as much may be taken, as of the table. A column costs little where keys lie near each other,
-/// and most where they lie far apart: 100,000 values at random indices below 2^30 take some 250 MB, those of the
-/// indices 0 to 99,999 about 1 MB.
+/// - a page takes 512 bytes, and the table four bytes for each 64 indices up to the highest key, beside the words of
+///   the set of keys;
+/// - keys that lie near each other cost little: those of the indices 0 to 99,999 take about 1 MB;
+/// - keys that lie far apart cost most: 100,000 at random below 2^30 take some 250 MB.
 ///
-/// Pages that are made one after the other from index 0 on lie in the list as a flat one would have them, and a call on
-/// an index there looks at its slot at once. Others lie behind, in the order in which they were made; but where the
-/// list is full, a quarter of the table's pages lie behind and it goes over no more than 2^21 indices, it is laid out
-/// anew, with slots for all pages of the table. There are at most four times as many slots as those of the pages
-/// made, and room for up to twice as many.
+/// There are at most four times as many slots as those of the pages made, and capacity for up to twice as many.
 #[derive(Drop)]
 pub struct Column<V: Drop> {
     mask: BitSet,
@@ -103,8 +98,8 @@ impl<V: Drop> Column<V> {
         self.pages.value(id)
     }
 
-    /// The value of an index, to be changed. Once the loan ends, the index has what was left there, and no other index
-    /// has changed.
+    /// The value of an index, to be changed. Once the loan ends, the index has the value that was left there, and no
+    /// other has changed.
     #[inline]
     pub fn get_mut(&mut self, id: Index) -> Option<&mut V>
         ensures* writes_back { sem 𝓛 (LendsValue V.row self.entry id result) }
@@ -113,12 +108,17 @@ impl<V: Drop> Column<V> {
         self.pages.get_mut(id)
     }
 
-    /// Gives an index below `MAX_EID` a value, and gives back the value that it had. Refused memory, it hands the value
-    /// back, and no value has changed.
+    /// Gives an index below `MAX_EID` a value, and returns the value that it had.
     ///
-    /// It does not allocate where the index has room: where the page of the index is made and the mask has its word, as
-    /// where it has a value or had one before `remove`. Else it makes that page, and the table of pages and the mask as
-    /// long as the index needs and no longer.
+    /// # Errors
+    ///
+    /// An allocation fails: it returns the new value, and no value has changed.
+    ///
+    /// # Cost
+    ///
+    /// - It does not allocate if the page of the index is made and the mask has its word, as it is for an index that
+    ///   has a value, or had one before `remove`.
+    /// - Else it makes that page, and the table of pages and the mask as long as the index needs and no longer.
     #[inline]
     pub fn insert(&mut self, id: Index, value: V) -> Result<Option<V>, V>
         requires { id < MAX_EID }
@@ -182,7 +182,7 @@ impl<V: Drop> Column<V> {
         Ok(())
     }
 
-    /// Takes the value of an index out. The column keeps its room.
+    /// Takes the value of an index out. The column keeps its capacity.
     #[inline]
     pub fn remove(&mut self, id: Index) -> Option<V>
         ensures was { result ≡ value_of self.old id }
@@ -198,8 +198,8 @@ impl<V: Drop> Column<V> {
         self.pages.swap_value(slot, None)
     }
 
-    /// Takes all values out. It does not allocate, and keeps that of the pages, the table and the mask for what is to
-    /// come, but no contract says that it is enough.
+    /// Takes all values out. It does not allocate. The memory of the pages, the table and the mask is kept, but no
+    /// contract says that it is enough for values to come.
     pub fn clear(&mut self)
         ensures empty { (i : ℕ) → value_of self.new i ≡ None }
         ensures pages { (p : ℕ) → slots self.new p ≡ 0 }

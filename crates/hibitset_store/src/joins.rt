@@ -11,7 +11,7 @@ use crate::walks::{Iter, Join, JoinMasked};
 use hibitset::BitSetLike;
 use hibitset::laws::laws;
 
-/// Goes over the indices that both columns have, ascending, with both values. It does not allocate, and reads at most
+/// A walk over the indices that both columns have, ascending, with both values. It does not allocate, and reads at most
 /// four words of each mask for every key of the smaller column, and the top.
 pub fn join<'a, V: Drop, W: Drop>(a: &'a Column<V>, b: &'a Column<W>) -> Join<'a, V, W>
     ensures pairs { pairs_left result ≡ join_of (value_of a.now) (value_of b.now) }
@@ -31,8 +31,14 @@ pub fn join<'a, V: Drop, W: Drop>(a: &'a Column<V>, b: &'a Column<W>) -> Join<'a
     }
 }
 
-/// Goes over the indices that both columns have and the set holds too, as `join` does. The bound is that of `join`, on
-/// the words of each column's mask.
+/// A walk over the indices that both columns have and the set holds too, ascending, with both values. Its bound on the
+/// words of each column's mask is that of `join`.
+///
+/// ```text
+/// for (index, position, speed) in positions.join_masked(&speeds, &awake) {
+///     // awake indices that have both values
+/// }
+/// ```
 pub fn join_masked<'a, V: Drop, W: Drop, M: BitSetLike>(
     a: &'a Column<V>,
     b: &'a Column<W>,
@@ -57,7 +63,7 @@ pub fn join_masked<'a, V: Drop, W: Drop, M: BitSetLike>(
 }
 
 impl<V: Drop> Column<V> {
-    /// Goes over the keys, ascending, each with its value. It does not allocate, and reads at most four words of the
+    /// A walk over the keys, ascending, each with its value. It does not allocate, and reads at most four words of the
     /// mask for every key, and the top.
     pub fn iter(&self) -> Iter<'_, V>
         ensures entries { entries_left result ≡ entries_of (value_of self.now) }

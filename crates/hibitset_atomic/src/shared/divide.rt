@@ -83,11 +83,21 @@ impl SharedBitSet {
     /// Makes n seats of one, for as many threads: each has the weight of the one by their number, rounded down or up,
     /// and together they have all of it.
     ///
-    /// The first has the reports, and the others have none; all know what the seat knew. Joined again they are a seat
-    /// of the same weight, whole where that was. Of the loads, each has those of the seat and 30 more at most; the
-    /// exchanges stay with the first. It waits for nobody.
+    /// The first has the reports and the exchanges, and the others have none; all know what the seat knew. Joined again
+    /// they are a seat of the same weight, whole if that was.
     ///
-    /// It is refused for memory alone, for the vector, which it takes first: then the seat comes back unchanged.
+    /// ```text
+    /// let seats = shared.divide_among(alloc, seat, 4).ok()?;
+    /// // four seats, one for each thread
+    /// ```
+    ///
+    /// # Errors
+    ///
+    /// The allocation of the vector fails: the seat comes back unchanged.
+    ///
+    /// # Cost
+    ///
+    /// Each seat has the loads of the one and at most 30 more. It waits for no other thread.
     pub fn divide_among(&self, alloc: Global, seat: Seat, n: usize) -> Result<Vec<Seat>, Seat>
         requires came { BelongsTo self.now seat }
         requires some { 0 < n }

@@ -1,6 +1,6 @@
 //! The numbers of a shared set: its shares, and where its layers lie in the row of all its words.
 
-/// The shares of a set. A seat that has them all is whole.
+/// How many shares a set has. A seat that has them all is whole.
 pub const SHARES: u32 = 65_536;
 
 /// The place in the row where layer 1 begins, after the words of layer 0.

@@ -20,11 +20,13 @@ pub struct SharedBitSet {
     ghost counts: { (table.shared.table_id.words ≡ ROW_WORDS) × (table.shared.table_id.slots ≡ 0) },
 }
 
-/// What one thread adds and asks with, at the set that it came from.
+/// What one thread adds and asks with, at the set that it came from. It has
 ///
-/// It has a weight, how many of the `SHARES` of its set it has; reports, the indices that its own adds put in, the
-/// newest first; and it knows indices, of which it has seen all four bits. No call takes a report or a known index from
-/// it. A seat that is dropped takes its shares with it.
+/// - a weight: how many of the `SHARES` of its set it has;
+/// - reports: the indices that its own adds put in, the newest first;
+/// - known indices, of which it has seen all four bits.
+///
+/// No call takes a report or a known index from it. A seat that is dropped takes its shares with it.
 #[derive(Drop)]
 pub struct Seat {
     pub(crate) pass: TableSeat,

@@ -24,12 +24,13 @@ pub(crate) const LEVELS: usize = ATOMIC_LAYERS + 1;
 /// A walk over a shared set, in ascending order, while others add to it. It has one seat of that set on loan, and what
 /// it gives becomes known to that seat.
 ///
-/// Once it has ended, it has given each index from before `share`, and each that the seat knew when the walk was made;
-/// an index that comes in meanwhile may be given or not. Where it is dropped early, the seat knows what was given, and
-/// nothing that was old or known lies before the last item without having been given.
+/// - Once it has ended, it has given each index from before `share`, and each that the seat knew when the walk was
+///   made. An index that comes in meanwhile may be given or not.
+/// - Dropped early, it leaves a seat that knows what was given, and it has given all old and known indices before its
+///   last item.
 ///
-/// A step makes a few loads, each a sequentially consistent read of one word, and nothing else: at most four at the
-/// first `next`, at most three at each later one. It does not allocate, writes nothing to the set and waits for nobody.
+/// A step makes at most four loads at the first `next` and at most three at each later one, each a sequentially
+/// consistent read of one word. It does not allocate, writes nothing to the set, and waits for no other thread.
 pub struct SharedWalk<'a> {
     pub(crate) seat: &'a mut Seat,
     pub(crate) set: &'a SharedBitSet,
@@ -131,11 +132,10 @@ fn next_index(
 }
 
 impl SharedBitSet {
-    /// A walk over the set, in ascending order, while others add to it: for one of the set's seats, which comes back
-    /// when the walk is dropped.
+    /// A walk over the set, in ascending order, while others add to it, for one of the set's seats. The seat comes back
+    /// when the walk is dropped, with the same weight and reports; it knows what the walk gave.
     ///
-    /// Nothing is read here, the first word at the first `next`. The walk takes nothing from the seat, whose weight and
-    /// reports stay, and gives it what it finds.
+    /// Nothing is read here; the first `next` reads the first word.
     #[inline]
     #[tactic(auto, unfolding(crate::specs::SharedWalk::set_of, crate::specs::SharedWalk::seat_of, crate::specs::SharedWalk::loads_of))]
     pub fn walk<'a>(&'a self, seat: &'a mut Seat) -> SharedWalk<'a>

@@ -41,7 +41,7 @@ impl Calls {
         self.map.get(&number).copied()
     }
 
-    /// Puts a call under a number. It can't be refused where a call stands there.
+    /// Puts a call under a number. It can't fail if a call has that number.
     pub(crate) fn put(&mut self, number: u32, call: Call) -> Result<(), AllocError>
         ensures put { OnOk result ((c : ℕ)
             → call_in self.new c ≡ cond (number == c) (Some call) (call_in self.old c)) }
@@ -54,7 +54,7 @@ impl Calls {
         }
     }
 
-    /// Puts a call in the place of one that stands there.
+    /// Replaces the call that has this number.
     pub(crate) fn set(&mut self, number: u32, call: Call)
         requires { IsSome (call_in self.old number) }
         ensures { (c : ℕ) → call_in self.new c

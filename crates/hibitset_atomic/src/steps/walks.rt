@@ -58,7 +58,7 @@ impl Progress {
         !self.is_new && self.cursor.is_done()
     }
 
-    /// Reads the next word. It answers the word, and whether none is left.
+    /// Reads the next word, and returns it, and whether none is left.
     pub(crate) fn read(&mut self, layers: &Layers) -> Result<(usize, bool), AllocError>
         ensures items { OnOk result (self.new.items.items
             ≡ (read_first (layer_bit (layer_word layers.now)) self.old.items.items 0
@@ -112,7 +112,7 @@ impl Walks {
         }
     }
 
-    /// Returns whether a walk has ended; none where the number is unknown.
+    /// Returns whether a walk has ended, or `None` if the number is unknown.
     pub(crate) fn is_done(&self, number: u32) -> Option<bool>
         ensures { MatchOption result (shown_in self.now number ≡ None)
             (λ done. (shown : Shown) × (shown_in self.now number ≡ Some shown)

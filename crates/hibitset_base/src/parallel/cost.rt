@@ -1,10 +1,10 @@
 //! Which sets are large enough for threads.
 //!
-//! Nothing is promised of the choice, which is between two ways to the same answer. Threads are started anew at each
-//! call, and until they run a walk in one thread has gone over some hundred thousand members. What a closure does at a
-//! member nobody can know, so for `for_each` and `fold` the members alone decide. What `count` and `collect` do is
-//! known: where words are cheap it is told by the words of layer 0 that are looked at and the members that are listed,
-//! and elsewhere by the members. bench/README.md has the times on either side of these numbers.
+//! Nothing is promised of the choice, which is between two ways to the same result. Threads are started anew at each
+//! call, and until they run, a walk in one thread has gone over some hundred thousand members. What a closure does at a
+//! member is not known, so for `for_each` and `fold` the members alone decide. `count` and `collect` go by the words of
+//! layer 0 that are read and the members that are listed if words are cheap, and else by the members. bench/README.md
+//! has the times on either side of these numbers.
 use crate::bits::take_bit;
 use crate::bulk::word_indices::MAX_BITS_BY_EIGHTS;
 use crate::like::BitSetLike;

@@ -20,8 +20,8 @@ use crate::util::{Index, LAYERS};
 use std::alloc::{AllocError, Global};
 use std::thread::Threads;
 
-/// Where a walk is cut into parts: in so many layers from the top one on, and into so many parts at most. They are cut in
-/// one thread.
+/// Where a walk is cut into parts: in how many layers from the top one on, and into how many parts at most. They are
+/// cut in one thread.
 #[derive(Clone, Copy)]
 pub(crate) struct Cuts {
     pub(crate) layers: u8,

@@ -153,7 +153,7 @@ fn in_order<P, U: Drop, F: Fn(&P) -> U>(
     Ok(answers)
 }
 
-/// What `f` answers at each part, in order, from several threads.
+/// What `f` returns at each part, in order, from several threads.
 pub(super) fn map_parts<R: Threads + Sync, P: Sync, U: Send + Drop, F: Fn(&P) -> U + Sync>(
     rt: &R,
     alloc: Global,

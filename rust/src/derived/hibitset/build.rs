@@ -21,10 +21,12 @@ impl FallibleInsert for BitSet {
 }
 
 impl BitSet {
-    /// Adds the items of an iterator, each of which is to be below `MAX_EID`.
+    /// Adds the items of an iterator, each of which is to be below `MAX_EID`: `Extend` of the original.
     ///
-    /// It stops at the first item that is not, and if an allocation fails: then the set has its old members and the
-    /// items before that one, and no later item is drawn. An allocation can fail only for an item whose word lies past
+    /// # Errors
+    ///
+    /// An item is out of range, or an allocation fails. The set then has its old members and the items before that one,
+    /// and no later item is taken from the iterator. An allocation can fail only for an item whose word lies past
     /// `layer0_as_slice`, and no slice grows longer than the members need.
     ///
     /// # Contract
@@ -73,10 +75,12 @@ impl BitSet {
         build::extend_index_refs(self, iter)
     }
 
-    /// A set of the items of an iterator, each of which is to be below `MAX_EID`.
+    /// A set of the items of an iterator, each of which is to be below `MAX_EID`: `FromIterator` of the original.
     ///
-    /// It stops at the first item that is not, and if an allocation fails: then no later item is drawn. An allocation
-    /// can fail only for an item whose word lies past those of all items before it.
+    /// # Errors
+    ///
+    /// An item is out of range, or an allocation fails; no later item is taken. An allocation can fail only for an item
+    /// whose word lies past those of all items before it.
     ///
     /// # Contract
     ///
@@ -124,9 +128,11 @@ impl BitSet {
 
     /// Adds the indices of a slice, each of which is to be below `MAX_EID`.
     ///
-    /// It stops at the first that is not, and if an allocation fails: then the set has its old members and the indices
-    /// before that one. The error has its place. An allocation can fail only for an index whose word lies past
-    /// `layer0_as_slice`, and no slice grows longer than the members need.
+    /// # Errors
+    ///
+    /// An index is out of range, or an allocation fails. The set then has its old members and the indices before that
+    /// one, whose place the error has. An allocation can fail only for an index whose word lies past `layer0_as_slice`,
+    /// and no slice grows longer than the members need.
     ///
     /// # Contract
     ///
@@ -153,8 +159,10 @@ impl BitSet {
 
     /// A set of the indices of a slice, each of which is to be below `MAX_EID`.
     ///
-    /// It stops at the first that is not, and if an allocation fails; the error has its place. An allocation can fail
-    /// only for an index whose word lies past those of all indices before it.
+    /// # Errors
+    ///
+    /// An index is out of range, or an allocation fails; the error has its place. An allocation can fail only for an
+    /// index whose word lies past those of all indices before it.
     ///
     /// # Contract
     ///
@@ -178,8 +186,16 @@ impl BitSet {
     }
 
     /// The set whose words of layer 0 are these, at most as many as that layer may have: index `64 * p + b` is a member
-    /// where bit `b` of word `p` stands. With `layer0_as_slice` it is how a set is saved and read again. It makes one
-    /// request for memory, for these words and those over them; the error is want of it. The original has no such call.
+    /// if bit `b` of word `p` is set. With `layer0_as_slice` it is how a set is saved and read again.
+    ///
+    /// ```text
+    /// let set = BitSet::from_words(alloc, &[0b1000, 0b10])?;
+    /// // {3, 65}
+    /// ```
+    ///
+    /// # Errors
+    ///
+    /// The one allocation fails, for these words and those over them.
     ///
     /// # Contract
     ///
@@ -197,9 +213,12 @@ impl BitSet {
         Ok(BitSet { layers })
     }
 
-    /// An empty vector with room for `len` words, at most as many as layer 0 may have, and for those that lie over
-    /// them: what `from_vec` makes a set of without another request for memory. The error is want of memory. The
-    /// original has no such call.
+    /// An empty vector with capacity for `len` words, at most as many as layer 0 may have, and for those over them:
+    /// `from_vec` makes a set of it without another allocation.
+    ///
+    /// # Errors
+    ///
+    /// The allocation fails.
     ///
     /// # Contract
     ///
@@ -213,9 +232,12 @@ impl BitSet {
     }
 
     /// The set whose words of layer 0 are those of a vector, at most as many as that layer may have, as `from_words`
-    /// makes it of a slice. The set keeps the vector, and puts the words over them behind them: that takes one request
-    /// for memory at most, and none if `vec_with_room` made the vector for so many words or more. The error is want of
-    /// memory; the vector is gone then. The original has no such call.
+    /// makes it of a slice. The set keeps the vector, and appends the words over them.
+    ///
+    /// # Errors
+    ///
+    /// The allocation fails: the vector is gone then. There is none if `vec_with_room` made the vector for this many
+    /// words or more, and else at most one.
     ///
     /// # Contract
     ///
@@ -234,12 +256,13 @@ impl BitSet {
         Ok(BitSet { layers })
     }
 
-    /// The set whose layers have these words, and whose top layer has the word `top`: a copy of a set of which the
-    /// slices are at hand. It makes one request for memory, for these words; the error is want of it. The original has
-    /// no such call.
+    /// The set whose layers have these words, and whose top layer has the word `top`: a copy of a set whose slices are
+    /// at hand. Layer 0 has at most as many words as it may have, each layer above it as many as the words below need,
+    /// and the summaries are exact.
     ///
-    /// Layer 0 has at most as many words as it may have, each layer above it as many as the words below need, and the
-    /// summaries are exact.
+    /// # Errors
+    ///
+    /// The one allocation fails, for these words.
     ///
     /// # Contract
     ///

@@ -115,9 +115,8 @@ pub(crate) fn compare<C: Comparison>(ours: &BitSet, theirs: &BitSet) -> bool {
 }
 
 impl BitSet {
-    /// Returns whether each member of the other set is one of this set. It does not allocate.
-    ///
-    /// Regions where the other set has no member are skipped.
+    /// Returns whether each member of the other set is one of this set: `contains_set` of the original. It does not
+    /// allocate, and skips regions in which the other set has no member.
     ///
     /// # Contract
     ///

@@ -1,6 +1,6 @@
 // Derived from crates/hibitset/src/growth.rt by rust/derive.py, and never edited by hand.
 
-//! How much room a set makes where it takes memory.
+//! Which capacity a set reserves when it grows.
 
 use crate::support::rattle_std::prelude::*;
 
@@ -10,7 +10,7 @@ const SPARE_FRACTION: usize = 8;
 
 /// How much capacity to allocate. A type parameter, so that `ensure_word` is compiled once for each policy.
 pub(crate) trait Growth {
-    /// How many words of layer 0 to make room for, where there is room for `room` and `len` are to count.
+    /// The capacity to reserve, in words of layer 0, if it is `room` now and `len` words are needed.
     ///
     /// # Contract
     ///
@@ -23,9 +23,9 @@ pub(crate) trait Growth {
     fn room(room: usize, len: usize) -> usize;
 }
 
-/// Adds, which come one by one. They make room for a power of two of words, so that they seldom take memory and random
-/// ones end with the words of their range; but for no more than they need where that is more than twice what there was,
-/// so that one index far up takes the words up to it alone.
+/// Adds, which come one by one. They reserve a power of two of words, so that few allocate and random ones end with the
+/// words of their range; but only what they need if that is more than twice the capacity, so one index far up takes
+/// just the words up to it.
 pub(crate) struct Adds;
 
 impl Growth for Adds {
@@ -38,7 +38,7 @@ impl Growth for Adds {
     }
 }
 
-/// An assignment.
+/// An assignment, which reserves an eighth more than the capacity.
 pub(crate) struct Assignment;
 
 impl Growth for Assignment {

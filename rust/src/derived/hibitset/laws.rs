@@ -11,13 +11,16 @@ use crate::derived::hibitset_base::util::{LAYERS, MAX_EID};
 
 /// The laws of all sets. The call does nothing, and its contract says them.
 ///
-/// No number past the range is in a set, so that all that it has are members. Summaries are exact, so that no part that
-/// a split gives is empty. The words of an intersection lie within those of each operand, so by the clause `bound` of
-/// `iter` a walk over `BitSetAnd` of two sets, or of references to them, reads at most four words of each for every
-/// member of the smaller one, and the top; so it does of one set beside any other type (`beside`). `==` is an
-/// equivalence, and means the same members, so that it holds exactly where each set contains the other. Exclusive or
-/// with the same set, twice, restores the members, and to take a set away twice is to take it away once. Where two sets
-/// are disjoint, their union has as many members as both.
+/// - No number past the range is in a set (`within`).
+/// - Summaries are exact, so no part that a split gives is empty (`exact`).
+/// - The words of an intersection lie within those of each operand (`intersection`), beside a set of any other type too
+///   (`beside`). So by the clause `bound` of `iter`, a walk over it reads at most four words of each `BitSet` for every
+///   member of that set, and the top.
+/// - `==` is an equivalence (`equivalence`) and means the same members (`same_members`): it holds exactly if each set
+///   contains the other (`both_contain`).
+/// - Exclusive or with the same set, twice, restores the members (`twice`).
+/// - To take a set away twice is to take it away once (`away`).
+/// - The union of two disjoint sets has as many members as both (`apart`).
 ///
 /// # Contract
 ///

@@ -15,13 +15,12 @@ use crate::derived::hibitset_base::like::BitSetLike;
 use crate::derived::hibitset_base::util::LAYERS;
 use crate::support::rattle_std::alloc::{AllocError, Global};
 
-/// The words of a set, by layer and place. It says nothing of summaries: a `BitSet` has these words with exact
-/// summaries.
+/// The words of a set, by layer and position, without a promise of their summaries: a `BitSet` has these words with
+/// exact summaries.
 ///
-/// The vector has room for the words over so many words of layer 0: those of layer 0 first, then those of layer 1, and
-/// so on up to the top, which is one word and lies apart. `starts` are the places where the layers begin, and `lens`
-/// tells how many words of each count, those over the words of layer 0 that count. Past them all words are 0, so that
-/// they are counted in without being written.
+/// The vector holds layer 0, then layer 1, and so on up to the top, whose one word lies apart. `starts[l]` is where
+/// layer l begins, and `lens[l]` how many of its words are in use. All behind them are 0, so growing within the
+/// capacity writes nothing.
 pub(crate) struct Layers {
     words: Vec<usize>,
     starts: [usize; LAYERS - 1],
@@ -48,7 +47,7 @@ impl Layers {
         }
     }
 
-    /// Words that are all 0, `len` of them in layer 0, and no more room than they need.
+    /// Words that are all 0, `len` of them in layer 0, and no more capacity than they need.
     ///
     /// # Contract
     ///
@@ -64,8 +63,7 @@ impl Layers {
         Ok(layers)
     }
 
-    /// These words in layer 0 with exact summaries over them, and no more room than they need. It makes one request for
-    /// memory.
+    /// These words in layer 0 with exact summaries over them, and no more capacity than they need. It allocates once.
     ///
     /// # Contract
     ///
@@ -80,8 +78,8 @@ impl Layers {
         Layers::of_vec(Layers::vec_of(alloc, words)?)
     }
 
-    /// The words of a vector in layer 0 with exact summaries over them, which are put behind them. It makes one request
-    /// for memory at most, and none if the vector has room for the summaries.
+    /// The words of a vector in layer 0 with exact summaries over them, which are appended. It allocates at most once,
+    /// and not at all if the vector has capacity for the summaries.
     ///
     /// # Contract
     ///
@@ -100,8 +98,7 @@ impl Layers {
         Ok(layers)
     }
 
-    /// The words of these layers with a word of the top layer, and no more room than they need. It makes one request
-    /// for memory.
+    /// The words of these layers with a word of the top layer, and no more capacity than they need. It allocates once.
     ///
     /// # Contract
     ///
@@ -143,7 +140,7 @@ impl Layers {
         Ok(list)
     }
 
-    /// An empty vector with room for so many words of layer 0, and for those over them.
+    /// An empty vector with capacity for `len` words of layer 0, and for those over them.
     ///
     /// # Contract
     ///
@@ -234,7 +231,7 @@ impl Layers {
         self.lens[0]
     }
 
-    /// How many words of layer 0 there is room for.
+    /// The capacity of layer 0, in words.
     ///
     /// # Contract
     ///
@@ -259,9 +256,9 @@ impl Layers {
         self.top
     }
 
-    /// The word of a layer below the top at a place, which is 0 past the layer's end. One of layer 1, which a sparse
-    /// walk reads as often as one of layer 0, is taken from the layer's slice, whose beginning a loop knows: so the
-    /// place needs no addition.
+    /// The word of a layer below the top at a position, which is 0 past the layer's end. One of layer 1, which a sparse
+    /// walk reads as often as one of layer 0, is taken from the layer's slice: so the position needs no addition in a
+    /// loop.
     ///
     /// # Contract
     ///
@@ -280,7 +277,7 @@ impl Layers {
         self.words[self.layer_start(layer) + place]
     }
 
-    /// Puts a word in the place of another, below the top.
+    /// Stores a word at a position of a layer below the top.
     ///
     /// # Contract
     ///
@@ -298,7 +295,7 @@ impl Layers {
         self.words[start + place] = word;
     }
 
-    /// Puts a word in the place of that of the top layer.
+    /// Stores the word of the top layer.
     ///
     /// # Contract
     ///
@@ -412,9 +409,8 @@ impl Layers {
         self.lens = lens_over(len);
     }
 
-    /// Makes layer 0 `len` words long, and the layers above it as long as they are over it, by zero words. It allocates
-    /// at most once, and then makes room for `room` words of layer 0, where that is more and not too
-    /// much; refused, nothing changes.
+    /// Sets the length of layer 0 to `len`, and of the layers above to match, by zero words. It allocates at most once,
+    /// for a capacity of `room` words of layer 0 if that is more and not too much. If that fails, nothing changes.
     ///
     /// # Contract
     ///
@@ -433,8 +429,7 @@ impl Layers {
         Ok(())
     }
 
-    /// The same words in slices of the same lengths, and no more room than they need. It makes one request for memory
-    /// at most.
+    /// The same words in slices of the same lengths, and no more capacity than they need. It allocates at most once.
     ///
     /// # Contract
     ///

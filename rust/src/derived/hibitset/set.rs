@@ -13,20 +13,15 @@ use crate::derived::hibitset_base::util::{Index, LAYERS, MAX_EID};
 use crate::support::rattle_std::alloc::{AllocError, Global};
 use crate::support::rattle_std::fmt::{self, Debug, Formatter};
 
-/// A set of indices below `MAX_EID`, kept as words in five layers.
+/// A set of indices below `MAX_EID`, kept as words in five layers: `BitSet` of the original.
 ///
-/// A bit of a layer above the lowest is set exactly over a nonzero word, at all times.
+/// A bit of a layer above the lowest is set exactly over a nonzero word, at all times. It is 96 bytes and one block of
+/// memory:
 ///
-/// A set is 96 bytes, and its words lie in one block of memory beside it: none for an empty set, 56 bytes for {5} or
-/// the first 20 indices, 152 for the first 1,000, added one by one. With a vector for each layer it was 104 bytes, and
-/// 128, 128 and 224 in four blocks. `fixedbitset` takes 32 bytes, and 16, 16 and 128 beside them; CRoaring 80, 142 and
-/// 2,264 in all, and 69, 71 and 71 once it has been optimized and shrunk. These are measurements; no contract says
-/// them.
-///
-/// Layer 0 has a word for each 64 indices up to the highest member that there has been since `clear`, however few there
-/// are, and the layers above it have a sixty-third of that: 8 bytes for each 64 indices, so 2,130,440 bytes where a
-/// member lies just below 2^24, and 136,348,160 where one lies just below 2^30. Room that adds made may be up to twice
-/// as much.
+/// - none for an empty set, 56 bytes for the first 20 indices, 152 for the first 1,000 (measured; no clause says it);
+/// - 8 bytes for each 64 indices up to the greatest member since `clear`, and a sixty-third more: 2,130,440 if one lies
+///   just below 2^24, 136,348,160 just below 2^30;
+/// - up to twice as much if the members were added one by one.
 pub struct BitSet {
     pub(crate) layers: Layers,
 }
@@ -58,9 +53,13 @@ impl BitSet {
         }
     }
 
-    /// An empty set with room for every index below `max`, which is at most `MAX_EID`, and no more words in any layer
-    /// than these have: no `add` of one needs memory until `clear`. It takes 8 bytes for each 64 indices and a
-    /// sixty-third more: 2,130,440 for 2^24, and 136,348,160 for 2^30.
+    /// An empty set with capacity for every index below `max`, which is at most `MAX_EID`: no `add` of one allocates
+    /// until `clear`.
+    ///
+    /// # Errors
+    ///
+    /// The allocation fails: 8 bytes for each 64 indices and a sixty-third more, so 2,130,440 for 2^24, and 136,348,160
+    /// for 2^30.
     ///
     /// # Contract
     ///
@@ -121,12 +120,18 @@ impl BitSet {
         !stands
     }
 
-    /// Adds an index below `MAX_EID`, and returns whether it was there. If an allocation fails, the members stay.
+    /// Adds an index below `MAX_EID`, and returns whether it was there.
     ///
-    /// It does not allocate where the word at position `id / 64` lies in `layer0_as_slice`, so for no index that is
-    /// there. Else it makes that slice as long as this word needs and no longer, and those of the layers above no
-    /// longer than the words over it need; refused, it leaves the length of layer 0. So one index far up takes the
-    /// words below it too: 136,348,160 bytes for the last one, 1,073,741,823.
+    /// # Errors
+    ///
+    /// An allocation fails: the members and the length of layer 0 stay.
+    ///
+    /// # Cost
+    ///
+    /// - It does not allocate if the word at position `id / 64` lies in `layer0_as_slice`, so for no index that is
+    ///   there.
+    /// - Else that slice becomes as long as the word needs, and those above it no longer than the words over it need.
+    ///   One index far up takes the words below it too: 136,348,160 bytes for 1,073,741,823.
     ///
     /// # Contract
     ///
@@ -165,8 +170,10 @@ impl BitSet {
         self.set_bit(id, false)
     }
 
-    /// Takes all members out, and gives up the words: the four slices have length 0 then. The memory is kept for words
-    /// to come, but no contract says that it is enough, so an addition may fail to allocate again.
+    /// Takes all members out. The four slices have length 0 then.
+    ///
+    /// The memory is kept, but no contract says that it is enough for words to come, so an addition may fail to
+    /// allocate again.
     ///
     /// # Contract
     ///
@@ -308,7 +315,7 @@ impl DrainableBitSet for BitSet {
     }
 }
 
-/// A copy with the same members and words, whose slices have the same lengths. It is refused for memory only.
+/// A copy with the same members and words, whose slices have the same lengths. It fails only if an allocation fails.
 impl TryClone for BitSet {
     fn try_clone(&self) -> Result<BitSet, AllocError> {
         let layers = self.layers.copy()?;

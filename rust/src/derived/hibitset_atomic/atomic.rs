@@ -14,16 +14,21 @@ use crate::support::rattle_std::fmt::{self, Debug, Formatter};
 /// Members of an atomic set lie below this bound. It keeps four layers, whatever the number of layers of a `BitSet` is.
 pub const ATOMIC_MAX_EID: usize = 1 << (BITS * ATOMIC_LAYERS);
 
-/// A set of indices below `ATOMIC_MAX_EID`, kept as words in four layers, that can be shared between threads.
+/// A set of indices below `ATOMIC_MAX_EID`, kept as words in four layers, that can be shared between threads:
+/// `AtomicBitSet` of the original.
 ///
 /// A bit of a layer above the lowest is set exactly over a nonzero word, at all times. The fifth layer, which every set
-/// has, is not kept: its one word is 1 where there is a member, and else 0.
+/// has, is not kept: its one word is 1 if there is a member, and else 0.
 pub struct AtomicBitSet {
     pub(crate) layers: Layers,
 }
 
 impl AtomicBitSet {
     /// The empty set.
+    ///
+    /// # Errors
+    ///
+    /// An allocation fails.
     ///
     /// # Contract
     ///
@@ -60,13 +65,13 @@ impl AtomicBitSet {
         AtomicBitSet { layers }
     }
 
-    /// What the set takes memory from.
+    /// The set's allocator.
     #[inline]
     pub(crate) fn allocator(&self) -> Global {
         *self.layers.layer1.allocator()
     }
 
-    /// The empty set, with the room for all blocks.
+    /// The empty set, with capacity for all blocks.
     ///
     /// # Contract
     ///
@@ -80,7 +85,7 @@ impl AtomicBitSet {
         Ok(AtomicBitSet { layers })
     }
 
-    /// Puts a word into layer 0, where there is room for all blocks, and sets the summaries over it right.
+    /// Stores a word in layer 0, if there is capacity for all blocks, and sets the summaries over it right.
     ///
     /// # Contract
     ///
@@ -112,12 +117,18 @@ impl AtomicBitSet {
         !stands
     }
 
-    /// Adds an index below `ATOMIC_MAX_EID`, and returns whether it was there. If an allocation fails, the members
-    /// stay.
+    /// Adds an index below `ATOMIC_MAX_EID`, and returns whether it was there.
     ///
-    /// It does not allocate where some member `j` has the same `j / 4096`, nor where the block of those 4,096 indices
-    /// was made before: once made it stays. It makes no other block. A set that `settle` made has room for all blocks,
-    /// and needs memory for none.
+    /// # Errors
+    ///
+    /// An allocation fails: the members stay.
+    ///
+    /// # Cost
+    ///
+    /// - It does not allocate if some member `j` has the same `j / 4096`, or if the block of those 4,096 indices was
+    ///   made before: once made it stays.
+    /// - Else it makes that block and no other.
+    /// - A set that `settle` made has capacity for all blocks, and allocates for none.
     ///
     /// # Contract
     ///

@@ -12,8 +12,8 @@ const BLOCK_COUNT: usize = 4_096;
 /// 262,144 words in blocks of 64, each of which is made when it is first needed. The words of blocks that are not made
 /// are 0.
 ///
-/// One vector has all blocks, so a block is a request for memory only where the vector has to grow. Its first block has
-/// no bits: there the places of blocks that are not made lie, and reading needs no test.
+/// One vector has all blocks, so a new block allocates only if the vector has to grow. Its first block has no bits:
+/// blocks that are not made point there, and reading needs no test.
 pub(crate) struct Blocks {
     pub(crate) places: Vec<u16>,
     pub(crate) words: Vec<usize>,
@@ -51,7 +51,7 @@ impl Blocks {
         Ok(Blocks { places, words })
     }
 
-    /// Makes the room for all blocks, and none of them.
+    /// Reserves capacity for all blocks, and makes none of them.
     ///
     /// # Contract
     ///
@@ -128,7 +128,7 @@ impl Blocks {
         self.words[place as usize * 64 + position % 64] = word;
     }
 
-    /// Sets a bit of a word, and tells the word as it was. If an allocation fails, no word changes.
+    /// Sets a bit of a word, and returns the word as it was. If an allocation fails, no word changes.
     ///
     /// # Contract
     ///

@@ -9,12 +9,14 @@ use crate::derived::hibitset_base::util::LAYERS;
 
 /// The laws of all atomic sets held alone. The call does nothing, and its contract says them.
 ///
-/// No number past the range is a member. Summaries are exact, so that no part that a split gives is empty. The words of
-/// an intersection lie within those of each operand, so by the clause `bound` of `iter` a walk over `BitSetAnd` of two
-/// atomic sets, or of references to them, reads at most four words of each for every member of the smaller one, and the
-/// top. The same holds beside a set of any other type, on either side of it. The words of the four layers that are kept
-/// are exact alone. Past its positions each layer has zero words: layer 0 has 262,144 positions, and each layer above
-/// it a 64th of those below.
+/// - No number past the range is a member.
+/// - Summaries are exact, so no part that a split gives is empty. The words of the four layers that are kept are exact
+///   alone.
+/// - The words of an intersection lie within those of each operand, beside a set of any other type too. So by the
+///   clause `bound` of `iter`, a walk over it reads at most four words of each atomic set for every member of that set,
+///   and the top.
+/// - Past its positions each layer has zero words: layer 0 has 262,144 positions, and each layer above it a 64th of
+///   those below.
 ///
 /// # Contract
 ///
@@ -39,13 +41,14 @@ pub fn atomic_laws() {}
 
 /// The laws of every world, whatever has happened to it. The call does nothing, and its contract says them.
 ///
-/// Each walk is honest: its items ascend, each was old or written when it was read, and once the walk has ended it has
-/// every index that was old or whose call had ended before the walk began. It reads next the word under the first bit
-/// that it has left, in the lowest layer; each word after its first is not 0; and it has read at most 3k + 1 words
-/// where it has ended, and 3k + 3 where it has not, k the number of its items. No number from `ATOMIC_MAX_EID` on is
-/// old or written. A summary bit is never set over a zero word, and at rest summaries are exact. Each index that is
-/// written and was not old was reported new once, and no other ever, so the old set are the members that no call
-/// reported new.
+/// - The items of each walk ascend, and each was old or written when it was read. A walk that has ended has every index
+///   that was old or whose call had ended before the walk began.
+/// - A walk reads next the word under the first bit that it has left, in the lowest layer. Each word after its first is
+///   not 0. With k items it has read at most 3k + 1 words once it has ended, and 3k + 3 before.
+/// - No number from `ATOMIC_MAX_EID` on is old or written.
+/// - A summary bit is never set over a zero word, and in a quiescent world summaries are exact.
+/// - Each index that is written and was not old was reported new once, and no other ever: so the old members are those
+///   that no call reported new.
 ///
 /// # Contract
 ///

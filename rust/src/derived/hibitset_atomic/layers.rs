@@ -56,7 +56,7 @@ impl Layers {
         })
     }
 
-    /// Makes the room for all blocks, and changes no word.
+    /// Reserves capacity for all blocks, and changes no word.
     ///
     /// # Contract
     ///
@@ -79,7 +79,7 @@ impl Layers {
         }
     }
 
-    /// Makes all words 0, and does not allocate. It goes only to nonzero words.
+    /// Makes all words 0. It visits only nonzero words, and does not allocate.
     ///
     /// # Contract
     ///
@@ -166,8 +166,8 @@ impl Layers {
         self.layer0.make(place)
     }
 
-    /// Puts a word into a block of layer 0 in the place of the word `before`, and sets the summaries over it right, as
-    /// far up as one becomes zero or nonzero.
+    /// Stores a word in a block of layer 0, where `before` was, and updates the summaries over it, as far up as a word
+    /// becomes zero or nonzero.
     ///
     /// # Contract
     ///
@@ -218,7 +218,7 @@ impl Layers {
         }
     }
 
-    /// Sets a bit of a word, and tells the word as it was. Nothing else changes, no summary either; if an allocation
+    /// Sets a bit of a word, and returns the word as it was. Nothing else changes, no summary either; if an allocation
     /// fails, nothing does.
     ///
     /// # Contract

@@ -65,12 +65,23 @@ fn fill(closed: &Closed<(), Global>, set: &mut AtomicBitSet) {
 }
 
 impl AtomicBitSet {
-    /// Hands the set over to many threads: the set that they add to, and its opening seat. The indices that were
-    /// members are old from then on.
+    /// Hands the set over to many threads: returns the set that they add to, and its opening seat. The members are old
+    /// from then on.
     ///
-    /// The opening seat has all shares, weight `SHARES`, no reports, and knows nothing. All words of the four layers
-    /// are made here, 2 MB, so that no call on the shared set needs memory until `settle`. Where that memory is
-    /// refused, the set comes back unchanged.
+    /// The opening seat has all shares, weight `SHARES`, no reports, and knows nothing.
+    ///
+    /// ```text
+    /// let (shared, seat) = set.share().ok()?;
+    /// let (mine, theirs) = shared.divide(seat);
+    /// ```
+    ///
+    /// # Errors
+    ///
+    /// An allocation fails: the set comes back unchanged.
+    ///
+    /// # Cost
+    ///
+    /// It makes all words of the four layers, 2 MB, so that no call on the shared set allocates until `settle`.
     ///
     /// # Contract
     ///
@@ -102,19 +113,22 @@ impl AtomicBitSet {
 }
 
 impl SharedBitSet {
-    /// Adds an index below `ATOMIC_MAX_EID`, and returns whether it was there, as `AtomicBitSet::add_atomic` of the
-    /// original does, which takes no seat.
+    /// Adds an index below `ATOMIC_MAX_EID`, and returns whether it was there: `AtomicBitSet::add_atomic` of the
+    /// original, which takes no seat.
     ///
-    /// It answers false exactly where its own exchange put the index in, which is then the newest of the seat's
-    /// reports. It never does so for an index that was there before `share`; and no two seats that are joined have a
-    /// report in common, as `join` says. When it returns, the seat knows the index: all four bits on the way to it are
-    /// set, and stay.
+    /// It returns false exactly if its own exchange put the index in, which is then the newest of the seat's reports.
+    /// So it never does for an index from before `share`, and two seats that are joined have no report in common
+    /// (`join`). When it returns, the seat knows the index: all four bits on the way to it are set, and stay.
     ///
-    /// It reads those four bits first, and where they stand, as for an index that is old or known to the seat, it
-    /// writes nothing and returns true. Else it exchanges in layer 0, and above it, from the lowest up, in each layer
-    /// whose bit is still clear: seven loads and four exchanges at most. Where an old or known index has the same bit in
-    /// some layer, it makes at most as many exchanges as there are layers below that one. It does not allocate and waits
-    /// for nobody.
+    /// # Cost
+    ///
+    /// - It loads those four bits first. If all are set, as for an index that is old or known to the seat, it writes
+    ///   nothing and returns true.
+    /// - Else it exchanges in layer 0, and above it, from the lowest up, in each layer whose bit is still clear: at
+    ///   most seven loads and four exchanges in all.
+    /// - If an old or known index has the same bit in some layer, it makes at most as many exchanges as there are
+    ///   layers below that one.
+    /// - It does not allocate, and waits for no other thread.
     ///
     /// # Contract
     ///
@@ -153,11 +167,13 @@ impl SharedBitSet {
         there
     }
 
-    /// Returns whether an index is there, as `AtomicBitSet::contains` of the original does, which takes no seat.
+    /// Returns whether an index is there: `AtomicBitSet::contains` of the original, which takes no seat.
     ///
-    /// It is true of each index from before `share`, and of each that the seat knows; of another it is true only where
-    /// all four bits on the way to it were seen set, and the seat knows it from then on. It is false from
-    /// `ATOMIC_MAX_EID` on. It makes at most four loads and writes nothing. It does not allocate and waits for nobody.
+    /// - It is true of each index from before `share`, and of each that the seat knows.
+    /// - Of another it is true only if all four bits on the way to it were seen set; the seat knows it from then on.
+    /// - It is false from `ATOMIC_MAX_EID` on.
+    ///
+    /// It makes at most four loads, writes nothing, does not allocate, and waits for no other thread.
     ///
     /// # Contract
     ///
@@ -183,10 +199,10 @@ impl SharedBitSet {
     }
 
     /// Makes two seats of one: of weight w, the first has weight w - w / 2 and the second w / 2, rounded down. There is
-    /// no second exactly where w is 1.
+    /// no second exactly if w is 1.
     ///
     /// The reports stay with the first, and so does the count of its steps; both know what the seat knew. It makes no
-    /// step, does not allocate and waits for nobody.
+    /// step, does not allocate, and waits for no other thread.
     ///
     /// # Contract
     ///
@@ -227,7 +243,7 @@ impl SharedBitSet {
     /// Makes one seat of two seats of this set: their weights, their reports and what they know, together.
     ///
     /// No index is reported by both, none that was there before `share` is reported, and the weight is at most
-    /// `SHARES`. It makes one load, does not allocate and waits for nobody.
+    /// `SHARES`. It makes one load, does not allocate, and waits for no other thread.
     ///
     /// # Contract
     ///
@@ -263,12 +279,18 @@ impl SharedBitSet {
     /// The set held alone again, with exact summaries. It has each index from before `share`, and each that this seat
     /// knows or reported; with a whole seat, no others.
     ///
-    /// A seat that was dropped took its shares with it, so no seat is whole after that. With a seat that is not whole
-    /// the members are those of some state of all seats that the rule admits beside this one (`all`). That these are
-    /// what the other seats did report is tested, and in no clause.
+    /// With a seat that is not whole, the members are those of some state of all seats that the rule admits beside this
+    /// one (`all`). That these are what the other seats did report is tested, and in no clause. No seat is whole once
+    /// another was dropped.
     ///
-    /// There is room for all its blocks, so no `add` to it allocates. It allocates before it changes anything: if that
-    /// fails, both come back unchanged, and it can be called again.
+    /// # Errors
+    ///
+    /// An allocation fails. It allocates before it changes anything: both come back unchanged, and it can be called
+    /// again.
+    ///
+    /// # Cost
+    ///
+    /// The new set has capacity for all its blocks, so no `add` to it allocates.
     ///
     /// # Contract
     ///
@@ -313,8 +335,8 @@ impl Seat {
         self.weight
     }
 
-    /// Returns whether the seat has all shares of its set, which are `SHARES`. A set that settles with such a seat has
-    /// the old indices and this seat's reports, and no others.
+    /// Returns whether the seat has all `SHARES` shares of its set. A set that settles with such a seat has the old
+    /// indices and this seat's reports, and no others.
     ///
     /// # Contract
     ///

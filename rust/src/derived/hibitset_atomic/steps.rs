@@ -27,8 +27,8 @@ mod walks;
 pub use event::{Event, Reply, StepError};
 pub use state::World;
 
-/// The four bits that an addition of an index sets, from the lowest layer up. Each is told as its layer, the position
-/// of its word in the layer, and the word that has this bit alone.
+/// The four bits that an addition of an index sets, from the lowest layer up, each as its layer, the position of its
+/// word in the layer, and the word that has this bit alone.
 ///
 /// The index is below `ATOMIC_MAX_EID`. It does not allocate.
 ///
@@ -56,10 +56,10 @@ pub(crate) fn bit_over(id: Index, layer: usize) -> (usize, u32) {
 }
 
 impl World {
-    /// A world of this set, in which nothing has happened: the set's members are the old indices, no call has begun,
-    /// and no walk.
+    /// A world of this set, in which nothing has happened: the set's members are the old indices, and no call or walk
+    /// has begun.
     ///
-    /// It does not allocate. From `alloc` comes what the world keeps of its past, its calls and its walks.
+    /// It does not allocate. `alloc` is for what the world keeps of its history, its calls and its walks.
     ///
     /// # Contract
     ///
@@ -78,22 +78,28 @@ impl World {
         }
     }
 
-    /// One event happens and is answered, or it is refused. One that happens comes to the past, and the old set stays.
+    /// Makes one event happen, and returns its reply. The event is appended to the history, and the old set stays.
     ///
-    /// - `Begin` touches no word and returns `Begun`. It is refused as `Used` where a call has the number, then as
-    ///   `Range` where the index is not below `ATOMIC_MAX_EID`.
-    /// - `Step` sets the bit of the call's next layer, from the lowest up. The first answers `First`, which tells
-    ///   whether the index was old or written before, and the next three answer `Path` with the number of layers that
-    ///   the call has still to pass. It is refused as `Unknown` where no call has the number, and as `Ended` where the
-    ///   call has passed all four layers.
-    /// - `Open` reads no word and returns `Opened`. It is refused as `Used` where a walk has the number.
+    /// - `Begin` touches no word and returns `Begun`.
+    /// - `Step` sets the bit of the call's next layer, from the lowest up. The first returns `First`, with whether the
+    ///   index was old or written before, and the next three return `Path` with the number of layers that the call has
+    ///   still to pass.
+    /// - `Open` reads no word and returns `Opened`.
     /// - `Read` reads one word: first that of layer 3, then always the one under the first bit in the lowest layer,
     ///   among the bits above layer 0 that the walk has read and not gone under. The bits of a word of layer 0 become
-    ///   items. It answers `Word` with the word, and whether no bit is left to go under. It is refused as `Unknown`
-    ///   where no walk has the number, and as `Ended` where nothing is left.
+    ///   items. It returns `Word` with the word, and whether no bit is left to go under.
     ///
-    /// Numbers of calls and of walks are apart. Last of all tests, every event that needs memory which is refused
-    /// answers `Memory`. After a refusal all is as it was.
+    /// Numbers of calls and of walks are apart.
+    ///
+    /// # Errors
+    ///
+    /// In this order; after an error all is as it was.
+    ///
+    /// - `Used`: the number of a `Begin` or an `Open` is taken.
+    /// - `Unknown`: no call or walk has the number of a `Step` or a `Read`.
+    /// - `Range`: the index of a `Begin` is not below `ATOMIC_MAX_EID`.
+    /// - `Ended`: the call has passed all four layers, or nothing is left to read.
+    /// - `Memory`: an allocation failed.
     ///
     /// # Contract
     ///
@@ -200,7 +206,7 @@ impl World {
         Ok(Reply::Word { word, ended })
     }
 
-    /// The items of a walk so far, ascending, and none where no walk has the number. It does not allocate.
+    /// The items of a walk so far, ascending, or `None` if no walk has the number. It does not allocate.
     ///
     /// # Contract
     ///
@@ -211,7 +217,8 @@ impl World {
         self.walks.items(walk)
     }
 
-    /// Returns whether every call that began has ended, by its fourth step. It does not allocate.
+    /// Returns whether the world is quiescent: every call that began has ended, by its fourth step. It does not
+    /// allocate.
     ///
     /// # Contract
     ///
@@ -222,10 +229,8 @@ impl World {
         self.calls.all_passed(4)
     }
 
-    /// Takes the set out of a world at rest: its members are the old indices and those that were written, and its
-    /// summaries are exact.
-    ///
-    /// It does not allocate. `is_at_rest` is the test for the condition.
+    /// Takes the set out of a quiescent world (`is_at_rest`): its members are the old indices and those that were
+    /// written, and its summaries are exact. It does not allocate.
     ///
     /// # Contract
     ///
@@ -244,8 +249,8 @@ impl World {
         (self.layers.word(layer, place) >> bit) & 1 == 1
     }
 
-    /// Returns whether the whole path of an index is set: in each of the four layers the bit that `path` tells. So it
-    /// is after each addition of the index has ended, and it may be before that, by other calls.
+    /// Returns whether the whole path of an index is set: in each of the four layers the bit that `path` returns. So it
+    /// is once an addition of the index has ended, and it may be before that, by other calls.
     ///
     /// The index is below `ATOMIC_MAX_EID`. It is no event, and does not allocate.
     ///

@@ -1,6 +1,6 @@
 // Derived from crates/hibitset_base/src/cursor.rt by rust/derive.py, and never edited by hand.
 
-//! Where a walk stands in the layers of a set, apart from the set.
+//! The places that a walk has still to visit, without the set.
 
 use crate::support::rattle_std::prelude::*;
 
@@ -202,8 +202,8 @@ impl<const N: usize> Cursor<N> {
         true
     }
 
-    /// Cuts the bits of the one layer that has any at their halving bit: this cursor keeps those before it, and the
-    /// answer has the others. None, and nothing changes, where there are fewer than two.
+    /// Cuts the bits of the one layer that has any at their halving bit: this cursor keeps those before it, and the one
+    /// returned has the others. It returns `None`, and nothing changes, if there are fewer than two.
     ///
     /// # Contract
     ///

@@ -10,9 +10,8 @@ use crate::derived::hibitset_base::like::DrainableBitSet;
 use crate::derived::hibitset_base::read_count::Reads;
 use crate::derived::hibitset_base::util::{Index, LAYERS, MAX_EID};
 
-/// A walk over the members of a set, in ascending order, that takes each one out of the set as it gives it.
-///
-/// Where it is dropped early, the set has all members that were not given.
+/// A walk over the members of a set, in ascending order, that takes each one out of the set as it gives it:
+/// `DrainBitIter` of the original. Dropped early, it leaves all members that were not given.
 pub struct DrainBitIter<'a, T> {
     pub(crate) set: &'a mut T,
     pub(crate) cursor: Cursor<LAYERS>,

@@ -10,7 +10,7 @@ use crate::derived::hibitset_base::read_count::Reads;
 use crate::derived::hibitset_base::util::{BITS, Index, LAYERS, MAX_EID};
 use crate::support::rattle_std::alloc::AllocError;
 
-/// A walk over the members of a set, in ascending order.
+/// A walk over the members of a set, in ascending order: `BitIter` of the original.
 ///
 /// It gives first the indices of the bits that it has left in layer 0, and then the members under the bits that it has
 /// left above.
@@ -176,10 +176,8 @@ impl<T: BitSetLike> BitIter<T> {
         BitIter { set, cursor, reads }
     }
 
-    /// A walk over a clone of the set, with the same places left to visit, so with the same items left. It can't fail
-    /// where no clone of the set can be.
-    ///
-    /// A clone of the set is the same set.
+    /// A walk over a clone of the set, with the same places left to visit, so with the same items left. It fails only
+    /// if the clone of the set does, which is the same set.
     ///
     /// # Contract
     ///

@@ -36,13 +36,15 @@ use crate::derived::hibitset_base::virt::{BitSetAnd, BitSetNot, BitSetOr};
 /// ```
 pub fn virtual_laws<A: BitSetLike, B: BitSetLike, C: BitSetLike>() {}
 
-/// The laws of the words that a set covers. The call does nothing, and its contract says them.
+/// The laws of the words that a set covers. The call does nothing, and its contract says them. A set with exact
+/// summaries covers words if each of their bits is set in its own.
 ///
-/// A set with exact summaries covers words if each of their bits is set in its own. By the clause `bound` of `iter` a
-/// walk over words that a set covers reads at most four words for each of its members, and the top. A set that covers
-/// words covers its own (`own`). What it covers it covers still where bits are taken out, on either side of an
-/// intersection (`left`, `right`). So the bound holds of intersections and differences nested at will, of each set with
-/// exact summaries that is not subtracted.
+/// - A set that covers words covers its own (`own`).
+/// - What it covers, it covers also if bits are taken out, on either side of an intersection (`left`, `right`).
+///
+/// By the clause `bound` of `iter`, a walk over covered words reads at most four words for each member of the set, and
+/// the top. So that bound holds in intersections and differences nested at will, for each operand with exact summaries
+/// that is not subtracted.
 ///
 /// # Contract
 ///

@@ -21,13 +21,13 @@ use crate::derived::hibitset_base::util::{Index, LAYERS, MAX_EID};
 use crate::derived::hibitset_base::virt::{BitSetAnd, BitSetNot};
 use crate::support::rattle_std::alloc::{AllocError, Global};
 
-/// A set of indices that is kept, or made on demand, as words in five layers.
+/// A set of indices that is kept, or made on demand, as words in five layers: `BitSetLike` of the original.
 ///
 /// Bit `b` of word `w` of layer 0 stands for the index `64 * w + b`. A bit of layer 1, 2, 3 or 4 stands for one word of
-/// the layer below, and layer 4 is one word. Over each nonzero word the bit in the layer above is set; it may also
-/// stand over a zero word. Each implementation proves this, and all that is generic rests on it alone.
+/// the layer below, and layer 4 is one word. Over each nonzero word the bit in the layer above is set; it may also be
+/// set over a zero word. Each implementation proves this, and all that is generic rests on it alone.
 pub trait BitSetLike {
-    /// The word of a layer, at most 4, at a position. In layer 4 the position is not looked at.
+    /// The word of a layer, at most 4, at a position. `idx` is ignored in layer 4.
     ///
     /// # Contract
     ///
@@ -48,8 +48,7 @@ pub trait BitSetLike {
         }
     }
 
-    /// Returns whether there is no member below `MAX_EID`. It looks at the words down to the first member, and at no
-    /// word twice.
+    /// Returns whether there is no member below `MAX_EID`. It reads the words down to the first member, none twice.
     ///
     /// # Contract
     ///
@@ -69,8 +68,8 @@ pub trait BitSetLike {
         true
     }
 
-    /// How many members there are below `MAX_EID`. It reads the words above and over them, each once, and counts the
-    /// ones of those in layer 0.
+    /// How many members there are below `MAX_EID`. It reads each word under a set bit once, and counts those of layer
+    /// 0.
     ///
     /// # Contract
     ///
@@ -85,7 +84,7 @@ pub trait BitSetLike {
         count_members(self)
     }
 
-    /// The least member, or none where there is none below `MAX_EID`. Over a set with exact summaries it reads at most
+    /// The least member, or `None` if there is none below `MAX_EID`. Over a set with exact summaries it reads at most
     /// `LAYERS` words.
     ///
     /// # Contract
@@ -102,9 +101,10 @@ pub trait BitSetLike {
         find_first(self, &mut Reads::none())
     }
 
-    /// The greatest member, or none where there is none below `MAX_EID`. It reads the last word of each layer from the
-    /// top down, `LAYERS` words over a set with exact summaries; where a summary bit is set over a zero word it goes
-    /// back to the bit before. The original has no such call.
+    /// The greatest member, or `None` if there is none below `MAX_EID`.
+    ///
+    /// It reads the last word of each layer from the top down: `LAYERS` words over a set with exact summaries. From a
+    /// summary bit over a zero word it goes back to the bit before.
     ///
     /// # Contract
     ///
@@ -142,6 +142,12 @@ pub trait BitSetLike {
     /// How many members lie before `end` and below `MAX_EID`: the position of `end` in the list of all, if it is a
     /// member.
     ///
+    /// ```text
+    /// // set: {5, 9, 70000}
+    /// set.rank(9)        // 1
+    /// set.rank(1_000)    // 2
+    /// ```
+    ///
     /// It reads no word twice, and none that begins at `end` or after it.
     ///
     /// # Contract
@@ -158,6 +164,12 @@ pub trait BitSetLike {
     }
 
     /// The member at a position of the ascending list of all, the least one at 0, or `None` past its end.
+    ///
+    /// ```text
+    /// // set: {5, 9, 70000}
+    /// set.select(2)      // Some(70000)
+    /// set.select(3)      // None
+    /// ```
     ///
     /// It reads the words above and over the members up to that one, and those under the last word of layer 1 twice.
     ///
@@ -190,9 +202,8 @@ pub trait BitSetLike {
         count_range(self, start, end.min(MAX_EID as Index))
     }
 
-    /// The least index from `start` on that lies below `MAX_EID` and is no member, or none where all are. It looks at
-    /// the words of layer 0 from that of `start` on, and passes a word that is full whole. The original has no such
-    /// call.
+    /// The least index from `start` on below `MAX_EID` that is no member, or `None` if all are. It reads the words of
+    /// layer 0 from that of `start` on, up to the first that is not full.
     ///
     /// # Contract
     ///
@@ -208,8 +219,8 @@ pub trait BitSetLike {
         BitSetNot(self).iter_from(start).next()
     }
 
-    /// Returns whether the two have no member in common. It looks at the words of the intersection down to the first
-    /// common member, and at no word twice. The original has no such call.
+    /// Returns whether the two have no member in common. It reads the words of the intersection down to the first
+    /// common member, none twice.
     ///
     /// # Contract
     ///
@@ -224,9 +235,8 @@ pub trait BitSetLike {
         BitSetAnd(self, other).first().is_none()
     }
 
-    /// Returns whether each member is one of the other too. It looks at the words of this set, and at those of the
-    /// other in the same places of layer 0, down to the first member that the other lacks, and at no word twice. The
-    /// original has no such call.
+    /// Returns whether each member is one of the other too. It reads the words of this set, and those of the other at
+    /// the same positions of layer 0, down to the first member that the other lacks, none twice.
     ///
     /// # Contract
     ///
@@ -241,10 +251,17 @@ pub trait BitSetLike {
         BitSetAnd(self, BitSetNot(other)).first().is_none()
     }
 
-    /// The members below `MAX_EID`, in ascending order. It goes by whole words, once to count them and once to list
-    /// them, and takes room for all of them at once. Where the first words have few members each it does not count to
-    /// the end, and the room grows as it lists; where they have hardly more than one each it goes by members. The error
-    /// is want of memory.
+    /// The members below `MAX_EID`, in ascending order.
+    ///
+    /// # Errors
+    ///
+    /// An allocation fails.
+    ///
+    /// # Cost
+    ///
+    /// - It allocates once, for exactly the members, after it has counted them.
+    /// - If the first words have few members each, it does not count, and the list grows. If they have hardly more than
+    ///   one each, it goes member by member.
     ///
     /// # Contract
     ///
@@ -268,7 +285,7 @@ pub trait BitSetLike {
     /// ```
     fn layer4(&self) -> usize;
 
-    /// The word of layer 3 at a position, which has its meaning below 64.
+    /// The word of layer 3 at a position, which is to be below 64.
     ///
     /// # Contract
     ///
@@ -277,7 +294,7 @@ pub trait BitSetLike {
     /// ```
     fn layer3(&self, i: usize) -> usize;
 
-    /// The word of layer 2 at a position, which has its meaning below 4,096.
+    /// The word of layer 2 at a position, which is to be below 4,096.
     ///
     /// # Contract
     ///
@@ -286,7 +303,7 @@ pub trait BitSetLike {
     /// ```
     fn layer2(&self, i: usize) -> usize;
 
-    /// The word of layer 1 at a position, which has its meaning below 262,144.
+    /// The word of layer 1 at a position, which is to be below 262,144.
     ///
     /// # Contract
     ///
@@ -295,7 +312,7 @@ pub trait BitSetLike {
     /// ```
     fn layer1(&self, i: usize) -> usize;
 
-    /// The word of layer 0 at a position, which has its meaning below 16,777,216.
+    /// The word of layer 0 at a position, which is to be below 16,777,216.
     ///
     /// # Contract
     ///
@@ -314,8 +331,8 @@ pub trait BitSetLike {
     fn contains(&self, i: Index) -> bool;
 
     /// Returns whether a word takes a few loads alone, as a `BitSet`'s does. `count` and `collect` of a walk in parts
-    /// then take threads only where there are many words. By default it does not, as where words are computed, fetched
-    /// or waited for. It is this port's own, and nothing is promised of the answer.
+    /// then take threads only for many words. By default it is false, as for words that are computed or fetched. No
+    /// clause speaks of it.
     #[inline]
     fn has_cheap_words(&self) -> bool {
         false
@@ -338,9 +355,11 @@ pub trait BitSetLike {
         BitParIter::new(self)
     }
 
-    /// A walk over the members below `MAX_EID`, in ascending order. It reads one word of the set now, and the others as
-    /// it goes: over a set with exact summaries at most four for each member, and all in the ranges of members. The
-    /// same holds of a set whose words lie within those of one with exact summaries, as an intersection's do.
+    /// A walk over the members below `MAX_EID`, in ascending order: `iter` of the original.
+    ///
+    /// It reads one word of the set now, and the others as it goes. Over a set with exact summaries these are at most
+    /// four for each member, and all in the ranges of members; so they are if the words lie within those of such a set,
+    /// as an intersection's do.
     ///
     /// # Contract
     ///
@@ -365,10 +384,17 @@ pub trait BitSetLike {
         BitIter::from_top(self)
     }
 
-    /// A walk over the members from an index on that lie below `MAX_EID`, in ascending order. It reads the words over
-    /// that index now, from the top layer down as far as a bit is set over it, at most `LAYERS` in all, and the others
-    /// as it goes: of the words that a walk by `iter` reads, those that begin after the index. From `MAX_EID` on there
-    /// is nothing to read or to give.
+    /// A walk over the members from `start` on below `MAX_EID`, in ascending order.
+    ///
+    /// ```text
+    /// // set: {5, 9, 70000}
+    /// for index in (&set).iter_from(6) {
+    ///     // 9, 70000
+    /// }
+    /// ```
+    ///
+    /// It reads the words over `start` now, at most `LAYERS`, and the others as it goes: of those that a walk by `iter`
+    /// reads, the ones that begin after `start`. From `MAX_EID` on there is nothing to read or to give.
     ///
     /// # Contract
     ///
@@ -446,7 +472,7 @@ pub trait BitSetLike {
 
 /// A set that members can be taken out of.
 pub trait DrainableBitSet: BitSetLike {
-    /// Takes an index out, and returns whether it was there. The set keeps its room.
+    /// Takes an index out, and returns whether it was there. The set keeps its capacity.
     ///
     /// # Contract
     ///
@@ -459,7 +485,14 @@ pub trait DrainableBitSet: BitSetLike {
     fn remove(&mut self, i: Index) -> bool;
 
     /// A walk over the members below `MAX_EID`, in ascending order, that takes out of the set each one that it gives,
-    /// and no other. The set keeps its room.
+    /// and no other: `drain` of the original. The set keeps its capacity.
+    ///
+    /// ```text
+    /// // set: {5, 9, 70000}
+    /// let mut drain = set.drain();
+    /// drain.next();      // Some(5)
+    /// // dropped now, the drain leaves {9, 70000}
+    /// ```
     ///
     /// # Contract
     ///
@@ -480,7 +513,13 @@ pub trait DrainableBitSet: BitSetLike {
         DrainBitIter::from_top(self)
     }
 
-    /// Takes out each member below `MAX_EID` for which `keep` returns false, asked once each. The set keeps its room.
+    /// Takes out each member below `MAX_EID` for which `keep` returns false. It calls `keep` once for each member. The
+    /// set keeps its capacity.
+    ///
+    /// ```text
+    /// set.retain(|index| index % 2 == 0);
+    /// // even members alone
+    /// ```
     ///
     /// # Contract
     ///
@@ -500,7 +539,7 @@ pub trait DrainableBitSet: BitSetLike {
         retain_members(self, &keep)
     }
 
-    /// Takes the least member out and returns it, or `None` if there is none. The set keeps its room.
+    /// Takes the least member out and returns it, or `None` if there is none. The set keeps its capacity.
     ///
     /// # Contract
     ///
@@ -520,7 +559,7 @@ pub trait DrainableBitSet: BitSetLike {
         Some(first)
     }
 
-    /// Takes the greatest member out and returns it, or `None` if there is none. The set keeps its room.
+    /// Takes the greatest member out and returns it, or `None` if there is none. The set keeps its capacity.
     ///
     /// # Contract
     ///

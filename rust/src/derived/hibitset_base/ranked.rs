@@ -14,11 +14,11 @@ use crate::support::rattle_std::alloc::{AllocError, Global};
 // Number of indices under a word of layer 1.
 const INDICES_PER_BLOCK: usize = 64 * 64;
 
-/// A set that stands still, with the number of members before each 4,096th index: for many calls of `rank` and
+/// A set that does not change, with the number of members before each 4,096th index: for many calls of `rank` and
 /// `select`.
 ///
-/// The counts take 4 bytes for each 4,096 indices up to the last member, which is 0.8 % of what the set takes. A set
-/// that changes can't have them: give it as a reference, and the borrow checker sees to it.
+/// The counts take 4 bytes for each 4,096 indices up to the last member, which is 0.8 % of what the set takes. Give a
+/// set that changes later as a reference: the borrow checker keeps it as it is.
 pub struct Ranked<T: BitSetLike> {
     set: T,
     counts: Vec<u32>,
@@ -42,8 +42,16 @@ fn count_blocks<T: BitSetLike>(
 }
 
 impl<T: BitSetLike> Ranked<T> {
-    /// Counts the members of a set. It reads the words on the way to the last member, and then, for each 4,096 indices
-    /// up to it, a word of layer 1 and the words under its bits. It makes one allocation, and fails only if that does.
+    /// Counts the members of a set.
+    ///
+    /// # Errors
+    ///
+    /// The one allocation fails; a set that was given by value is gone then.
+    ///
+    /// # Cost
+    ///
+    /// It reads the words on the way to the last member, and then, for each 4,096 indices up to it, a word of layer 1
+    /// and the words under its bits.
     ///
     /// # Contract
     ///

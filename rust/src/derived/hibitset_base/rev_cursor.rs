@@ -1,6 +1,6 @@
 // Derived from crates/hibitset_base/src/rev_cursor.rt by rust/derive.py, and never edited by hand.
 
-//! Where a walk from the last member down stands in the layers of a set, apart from the set.
+//! The places that a walk from the last member down has still to visit, without the set.
 
 use crate::support::rattle_std::prelude::*;
 

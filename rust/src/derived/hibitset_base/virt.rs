@@ -74,7 +74,7 @@ impl<A: BitSetLike, B: BitSetLike> BitSetLike for BitSetAnd<A, B> {
 }
 
 impl<A: DrainableBitSet, B: DrainableBitSet> DrainableBitSet for BitSetAnd<A, B> {
-    /// Takes an index out of both operands, if both have it. They keep their room.
+    /// Takes an index out of both operands, if both have it. They keep their capacity.
     ///
     /// # Contract
     ///
@@ -162,7 +162,7 @@ impl<A: BitSetLike, B: BitSetLike> BitSetLike for BitSetOr<A, B> {
 }
 
 impl<A: DrainableBitSet, B: DrainableBitSet> DrainableBitSet for BitSetOr<A, B> {
-    /// Takes an index out of each operand that has it. They keep their room.
+    /// Takes an index out of each operand that has it. They keep their capacity.
     ///
     /// # Contract
     ///
@@ -244,11 +244,11 @@ impl<A: BitSetLike, B: BitSetLike> BitSetLike for BitSetXor<A, B> {
     }
 }
 
-/// The complement of a set: the indices that are not in it. It has every index from `MAX_EID` on that its operand
-/// lacks, but a walk stops below.
+/// The complement of a set: the indices that are not in it, `BitSetNot` of the original. `contains` is also true from
+/// `MAX_EID` on; walks, counts and lists stop there.
 ///
-/// Above layer 0 it has every bit, so a walk over it reads all 2^24 words of layer 0. `&` with a set or a
-/// `BitSetRange` bounds the walk.
+/// Above layer 0 it has every bit, so a walk over it reads all 2^24 words of layer 0. `&` with a set or a `BitSetRange`
+/// bounds the walk.
 #[derive(Debug)]
 pub struct BitSetNot<A: BitSetLike>(pub A);
 

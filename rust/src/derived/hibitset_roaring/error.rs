@@ -35,7 +35,7 @@ pub enum Fault {
     RunPastEnd,
 }
 
-/// A fault and the position of its first byte.
+/// What is wrong with a stream, and the position of its first byte.
 #[derive(Clone, Copy, Debug, PartialEq, Eq)]
 pub struct Malformed {
     pub fault: Fault,

@@ -255,8 +255,13 @@ pub fn run_optimized_len(set: &BitSet) -> usize {
 /// Writes a set in the portable Roaring format behind the bytes of `out`: the one stream of its members in which a
 /// container is runs if these take fewer bytes than an array or bits. If none is, it is the stream that `write` makes.
 ///
-/// It allocates 24 bytes for each 65,536 numbers with members, and the stream's bytes. The error is a failed
-/// allocation; `out` is as it was then.
+/// # Errors
+///
+/// An allocation fails; `out` is as it was then.
+///
+/// # Cost
+///
+/// It allocates 24 bytes for each 65,536 numbers with members, and the stream's bytes.
 ///
 /// # Contract
 ///

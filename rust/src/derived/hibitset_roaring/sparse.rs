@@ -15,11 +15,16 @@ use crate::support::rattle_std::io::Read;
 
 /// The sparse set whose members a stream has, as `read_below` reads a `BitSet`, if each key is below `end`.
 ///
-/// An error names a fault of the bytes and its position, or says that an allocation failed.
+/// # Errors
 ///
-/// Memory goes by the stream, wherever its members lie: 8,192 bytes for the words of one container at a time, and in the
-/// set at most 1,024 words of 8 bytes for each container, with their tables. A container takes 10 bytes of the stream at
-/// least.
+/// - `Malformed`: a fault of the bytes and its position.
+/// - `Memory`: an allocation failed.
+///
+/// # Cost
+///
+/// Memory goes by the stream, wherever its members lie: 8,192 bytes for the words of one container at a time, and in
+/// the set at most 1,024 words of 8 bytes for each container, with their tables. A container takes 10 bytes of the
+/// stream at least.
 ///
 /// # Contract
 ///

@@ -13,8 +13,16 @@ use crate::support::rattle_std::alloc::{AllocError, Global};
 use crate::support::rattle_std::ops::{BitAndAssign, SubAssign};
 
 impl SparseBitSet {
-    /// A set of the members of any other below `MAX_EID`. It goes through the words of the other once, and allocates
-    /// for the chunks in which the other has members.
+    /// A set of the members of any other below `MAX_EID`.
+    ///
+    /// # Errors
+    ///
+    /// An allocation fails.
+    ///
+    /// # Cost
+    ///
+    /// It goes through the words of the other once, and allocates for the chunks of 262,144 indices in which the other
+    /// has members.
     ///
     /// # Contract
     ///
@@ -27,10 +35,16 @@ impl SparseBitSet {
         Ok(set)
     }
 
-    /// Adds the members of any other set. If an allocation fails, the members stay.
+    /// Adds the members of any other set.
     ///
-    /// Only chunks in which the other has members are made anew, each beside its old form. Where one of them is new, so
-    /// is the list of all chunks, 56 bytes each. It can't fail if the other has none.
+    /// # Errors
+    ///
+    /// An allocation fails: the members stay. It can't fail if the other has none.
+    ///
+    /// # Cost
+    ///
+    /// Only chunks in which the other has members are made anew, each beside its old form. If one of them is new, so is
+    /// the list of all chunks, 56 bytes each.
     ///
     /// # Contract
     ///
@@ -49,11 +63,15 @@ impl SparseBitSet {
         self.put_chunks(chunks)
     }
 
-    /// Adds the members of any other set that were not there, and takes out those that were. If an allocation fails,
-    /// the members stay.
+    /// Adds the members of any other set that were not there, and takes out those that were.
     ///
-    /// Only chunks in which the other has members are made anew, each beside its old form. Where one of them is new, so
-    /// is the list of all chunks, 56 bytes each. It can't fail if the other has none.
+    /// # Errors
+    ///
+    /// An allocation fails: the members stay. It can't fail if the other has none.
+    ///
+    /// # Cost
+    ///
+    /// That of `bitor_assign`.
     ///
     /// # Contract
     ///
@@ -72,7 +90,7 @@ impl SparseBitSet {
         self.put_chunks(chunks)
     }
 
-    /// Takes out the members that are in the other set. It can't fail, and does not allocate.
+    /// Takes out the members that are in the other set. It does not allocate.
     ///
     /// It goes through the words of this set once, in the chunks in which the other has members, and looks up those of
     /// the other. They are changed where they lie, and those that are left close up.
@@ -87,16 +105,15 @@ impl SparseBitSet {
     }
 }
 
-/// Takes out the members that are not in the other set. It can't fail, and does not allocate.
-///
-/// It goes through the words of this set as `subtract_assign` does.
+/// Takes out the members that are not in the other set. It does not allocate, and goes through the words of this set as
+/// `subtract_assign` does.
 impl<B: BitSetLike> BitAndAssign<&B> for SparseBitSet {
     fn bitand_assign(&mut self, other: &B) {
         self.retain_chunks(&Both(other));
     }
 }
 
-/// Takes out the members that are in the other set, as `subtract_assign` does. It can't fail, and does not allocate.
+/// Takes out the members that are in the other set, as `subtract_assign` does. It does not allocate.
 impl<B: BitSetLike> SubAssign<&B> for SparseBitSet {
     fn sub_assign(&mut self, other: &B) {
         self.subtract_assign(other);

@@ -22,9 +22,11 @@ impl FallibleInsert for SparseBitSet {
 impl SparseBitSet {
     /// Adds the items of an iterator, each of which is to be below `MAX_EID`.
     ///
-    /// It stops at the first item that is not, and if an allocation fails: then the set has its old members and the
-    /// items before that one, and no later item is drawn. An allocation can fail only for an item with no member among
-    /// the 64 indices that share its word.
+    /// # Errors
+    ///
+    /// An item is out of range, or an allocation fails. The set then has its old members and the items before that one,
+    /// and no later item is taken from the iterator. An allocation can fail only for an item with no member among the
+    /// 64 indices that share its word.
     ///
     /// # Contract
     ///
@@ -64,8 +66,10 @@ impl SparseBitSet {
 
     /// A set of the items of an iterator, each of which is to be below `MAX_EID`.
     ///
-    /// It stops at the first item that is not, and if an allocation fails: then no later item is drawn. An allocation
-    /// can fail only for an item with none before it among the 64 indices that share its word.
+    /// # Errors
+    ///
+    /// An item is out of range, or an allocation fails; no later item is taken. An allocation can fail only for an item
+    /// with none before it among the 64 indices that share its word.
     ///
     /// # Contract
     ///
@@ -105,9 +109,11 @@ impl SparseBitSet {
 
     /// Adds the indices of a slice, each of which is to be below `MAX_EID`.
     ///
-    /// It stops at the first that is not, and if an allocation fails: then the set has its old members and the indices
-    /// before that one. The error has its place. An allocation can fail only for an index with no member among the 64
-    /// indices that share its word.
+    /// # Errors
+    ///
+    /// An index is out of range, or an allocation fails. The set then has its old members and the indices before that
+    /// one, whose place the error has. An allocation can fail only for an index with no member among the 64 indices
+    /// that share its word.
     ///
     /// # Contract
     ///
@@ -129,8 +135,10 @@ impl SparseBitSet {
 
     /// A set of the indices of a slice, each of which is to be below `MAX_EID`.
     ///
-    /// It stops at the first that is not, and if an allocation fails; the error has its place. An allocation can fail
-    /// only for an index with none before it among the 64 indices that share its word.
+    /// # Errors
+    ///
+    /// An index is out of range, or an allocation fails; the error has its place. An allocation can fail only for an
+    /// index with none before it among the 64 indices that share its word.
     ///
     /// # Contract
     ///

@@ -42,8 +42,10 @@ fn copy_chunks(chunks: &Table<Chunk>) -> Result<Table<Chunk>, AllocError> {
     Ok(Table { groups, items })
 }
 
-/// The copy has the same members and words. It copies whole lists, into memory without spare capacity: two for each
-/// 262,144 indices among which there is a member, and two more. It fails only if an allocation fails.
+/// The copy has the same members and words. It fails only if an allocation fails.
+///
+/// It copies whole lists, into memory without spare capacity: two for each 262,144 indices among which there is a
+/// member, and two more.
 impl TryClone for SparseBitSet {
     fn try_clone(&self) -> Result<SparseBitSet, AllocError> {
         let chunks = copy_chunks(&self.chunks)?;

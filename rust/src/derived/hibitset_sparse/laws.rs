@@ -9,8 +9,9 @@ use crate::derived::hibitset_base::util::{LAYERS, MAX_EID};
 
 /// The laws of all sparse sets. The call does nothing, and its contract says them.
 ///
-/// No number past the range is in a set. Summaries are exact. The words of an intersection lie within those of the set,
-/// so a walk over one beside any other type reads at most four words of each for every member of the set, and the top.
+/// - No number past the range is in a set, and summaries are exact.
+/// - The words of an intersection lie within those of the set. So a walk over one, beside any other type, reads at most
+///   four words of the set for each of its members, and the top.
 ///
 /// # Contract
 ///

@@ -153,11 +153,18 @@ impl<M: Merge> ChunkSource for Merged<'_, M> {
 }
 
 impl SparseBitSet {
-    /// Adds the members of another sparse set. If an allocation fails, the members stay.
+    /// Adds the members of another sparse set.
     ///
-    /// It goes through the words of both sets in the chunks in which both have members, and copies those of the other.
-    /// These are made anew, each beside its old form. Where one of them is new, so is the list of all chunks, 56 bytes each. It can't fail if the
-    /// other has none.
+    /// # Errors
+    ///
+    /// An allocation fails: the members stay. It can't fail if the other has none.
+    ///
+    /// # Cost
+    ///
+    /// - It goes through the words of both sets in the chunks in which both have members, and copies the other chunks
+    ///   of the other.
+    /// - These are made anew, each beside its old form. If one of them is new, so is the list of all chunks, 56 bytes
+    ///   each.
     ///
     /// # Contract
     ///
@@ -180,10 +187,15 @@ impl SparseBitSet {
         self.put_chunks(chunks)
     }
 
-    /// Adds the members of another sparse set that were not there, and takes out those that were. If an allocation
-    /// fails, the members stay.
+    /// Adds the members of another sparse set that were not there, and takes out those that were.
     ///
-    /// It goes through words and chunks as `union_with` does.
+    /// # Errors
+    ///
+    /// An allocation fails: the members stay. It can't fail if the other has none.
+    ///
+    /// # Cost
+    ///
+    /// That of `union_with`.
     ///
     /// # Contract
     ///
@@ -207,7 +219,7 @@ impl SparseBitSet {
         self.put_chunks(chunks)
     }
 
-    /// Takes out the members that are not in the other sparse set. It can't fail, and does not allocate.
+    /// Takes out the members that are not in the other sparse set. It does not allocate.
     ///
     /// It goes through the words of this set once, in the chunks in which both have members. They are changed where
     /// they lie, and those that are left close up.
@@ -221,9 +233,8 @@ impl SparseBitSet {
         self.retain_chunks(&BothSparse(other));
     }
 
-    /// Takes out the members that are in the other sparse set. It can't fail, and does not allocate.
-    ///
-    /// It goes through the words of this set as `intersect_with` does.
+    /// Takes out the members that are in the other sparse set. It does not allocate, and goes through the words of this
+    /// set as `intersect_with` does.
     ///
     /// # Contract
     ///

@@ -10,8 +10,12 @@ use crate::derived::hibitset_base::util::{Index, MAX_EID};
 use crate::support::rattle_std::alloc::AllocError;
 
 impl SparseBitSet {
-    /// Adds the indices from `start` on before `end`, which is at most `MAX_EID`. Where `end` is not above `start` there
-    /// is nothing to add. If an allocation fails, the members stay. A range of n indices takes n / 7 bytes at most.
+    /// Adds the indices from `start` up to, but without, `end`, which is at most `MAX_EID`. If `end` is not above
+    /// `start`, nothing changes.
+    ///
+    /// # Errors
+    ///
+    /// An allocation fails: the members stay. A range of n indices takes n / 7 bytes at most.
     ///
     /// # Contract
     ///
@@ -29,7 +33,7 @@ impl SparseBitSet {
         self.bitor_assign(&BitSetRange { start, end })
     }
 
-    /// Takes the indices from `start` on before `end` out, for any two numbers. It can't fail, and does not allocate.
+    /// Takes out the indices from `start` up to, but without, `end`, for any two numbers. It does not allocate.
     ///
     /// # Contract
     ///
@@ -40,8 +44,12 @@ impl SparseBitSet {
         self.subtract_assign(&BitSetRange { start, end });
     }
 
-    /// Flips the indices from `start` on before `end`, which is at most `MAX_EID`: those in the set are taken out, and
-    /// the others are added. If an allocation fails, the members stay.
+    /// Flips the indices from `start` up to, but without, `end`, which is at most `MAX_EID`: members are taken out, and
+    /// the others are added.
+    ///
+    /// # Errors
+    ///
+    /// An allocation fails: the members stay.
     ///
     /// # Contract
     ///

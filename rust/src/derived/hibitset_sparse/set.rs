@@ -34,8 +34,12 @@ impl SparseBitSet {
         }
     }
 
-    /// Adds an index below `MAX_EID`, and returns whether it was there. If an allocation fails, the members stay. It
-    /// does not allocate where one of the 64 indices that share its word is a member.
+    /// Adds an index below `MAX_EID`, and returns whether it was there.
+    ///
+    /// # Errors
+    ///
+    /// An allocation fails: the members stay. It does not allocate if one of the 64 indices that share its word is a
+    /// member.
     ///
     /// # Contract
     ///
@@ -115,8 +119,16 @@ impl SparseBitSet {
         SparseIter::new(&self.chunks)
     }
 
-    /// The members, in ascending order. It reads each stored word twice, once to count its members and once to list
-    /// them, and allocates once, for all of them.
+    /// The members, in ascending order.
+    ///
+    /// # Errors
+    ///
+    /// The allocation fails.
+    ///
+    /// # Cost
+    ///
+    /// It reads each stored word twice, once to count its members and once to list them, and allocates once, for all of
+    /// them.
     ///
     /// # Contract
     ///
@@ -243,7 +255,7 @@ impl BitSetLike for SparseBitSet {
     }
 }
 
-/// A removal gives the memory of an emptied part back, so no room is kept.
+/// A removal gives the memory of an emptied part back, so no capacity is kept.
 impl DrainableBitSet for SparseBitSet {
     #[inline]
     fn remove(&mut self, i: Index) -> bool {

@@ -9,7 +9,7 @@ use crate::derived::hibitset_store::walks::{Iter, Join, JoinMasked};
 use crate::derived::hibitset::BitSetLike;
 use crate::derived::hibitset::laws::laws;
 
-/// Goes over the indices that both columns have, ascending, with both values. It does not allocate, and reads at most
+/// A walk over the indices that both columns have, ascending, with both values. It does not allocate, and reads at most
 /// four words of each mask for every key of the smaller column, and the top.
 ///
 /// # Contract
@@ -33,8 +33,14 @@ pub fn join<'a, V, W>(a: &'a Column<V>, b: &'a Column<W>) -> Join<'a, V, W> {
     }
 }
 
-/// Goes over the indices that both columns have and the set holds too, as `join` does. The bound is that of `join`, on
-/// the words of each column's mask.
+/// A walk over the indices that both columns have and the set holds too, ascending, with both values. Its bound on the
+/// words of each column's mask is that of `join`.
+///
+/// ```text
+/// for (index, position, speed) in positions.join_masked(&speeds, &awake) {
+///     // awake indices that have both values
+/// }
+/// ```
 ///
 /// # Contract
 ///
@@ -63,7 +69,7 @@ pub fn join_masked<'a, V, W, M: BitSetLike>(
 }
 
 impl<V> Column<V> {
-    /// Goes over the keys, ascending, each with its value. It does not allocate, and reads at most four words of the
+    /// A walk over the keys, ascending, each with its value. It does not allocate, and reads at most four words of the
     /// mask for every key, and the top.
     ///
     /// # Contract

@@ -1,6 +1,11 @@
 // Derived from crates/hibitset_store/src/pages.rt by rust/derive.py, and never edited by hand.
 
 //! Values in pages, each made whole when one of its indices first gets a value.
+//!
+//! Pages that are made one after the other from index 0 on lie in the list as a flat one would have them, and a call on
+//! an index there looks at its slot at once. Others lie behind, in the order in which they were made. If the list is
+//! full, a quarter of the table's pages lie behind, and the table goes over no more than 2^21 indices, the list is laid
+//! out anew, with slots for all pages of the table.
 
 use crate::support::rattle_std::prelude::*;
 

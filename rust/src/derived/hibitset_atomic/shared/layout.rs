@@ -4,7 +4,7 @@
 
 use crate::support::rattle_std::prelude::*;
 
-/// The shares of a set. A seat that has them all is whole.
+/// How many shares a set has. A seat that has them all is whole.
 pub const SHARES: u32 = 65_536;
 
 /// The place in the row where layer 1 begins, after the words of layer 0.

@@ -45,7 +45,7 @@ impl Calls {
         self.map.get(&number).copied()
     }
 
-    /// Puts a call under a number. It can't be refused where a call stands there.
+    /// Puts a call under a number. It can't fail if a call has that number.
     ///
     /// # Contract
     ///
@@ -62,7 +62,7 @@ impl Calls {
         }
     }
 
-    /// Puts a call in the place of one that stands there.
+    /// Replaces the call that has this number.
     ///
     /// # Contract
     ///

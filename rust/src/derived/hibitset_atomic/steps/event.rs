@@ -20,22 +20,22 @@ pub enum Event {
     Read { walk: u32 },
 }
 
-/// What an event answers.
+/// What an event returns.
 #[derive(Clone, Copy, Debug, PartialEq, Eq)]
 pub enum Reply {
     /// A call has begun.
     Begun,
-    /// A call has passed layer 0. `there` tells whether the index was there before: old, or written by another call.
+    /// A call has passed layer 0. `there`: the index was there before, old or written by another call.
     First { there: bool },
     /// A call has passed a layer above, and has `left` layers still to pass: 2, 1, 0.
     Path { left: u8 },
     /// A walk has begun.
     Opened,
-    /// A walk has read a word. `ended` tells whether it has no word left to read.
+    /// A walk has read a word. `ended`: the walk has no word left to read.
     Word { word: usize, ended: bool },
 }
 
-/// Why an event is refused, in the order of the tests. A refusal changes nothing.
+/// Why an event does not happen, in the order of the tests. Nothing changes then.
 #[derive(Clone, Copy, Debug, PartialEq, Eq)]
 pub enum StepError {
     /// A step or a read under a number that never began.
@@ -46,6 +46,6 @@ pub enum StepError {
     Ended,
     /// A call that is to begin on an index not below `ATOMIC_MAX_EID`.
     Range,
-    /// An allocation failed. It is tested last, so the event would have been accepted.
+    /// An allocation failed. It is tested last, so the event would have happened.
     Memory,
 }

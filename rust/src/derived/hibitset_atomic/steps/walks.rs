@@ -54,7 +54,7 @@ impl Progress {
         !self.is_new && self.cursor.is_done()
     }
 
-    /// Reads the next word. It answers the word, and whether none is left.
+    /// Reads the next word, and returns it, and whether none is left.
     ///
     /// # Contract
     ///
@@ -110,7 +110,7 @@ impl Walks {
         }
     }
 
-    /// Returns whether a walk has ended; none where the number is unknown.
+    /// Returns whether a walk has ended, or `None` if the number is unknown.
     ///
     /// # Contract
     ///

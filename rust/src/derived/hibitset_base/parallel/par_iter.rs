@@ -22,18 +22,15 @@ use crate::support::rattle_std::thread::Threads;
 // threads have started, if each takes less than some ten nanoseconds, and what takes longer is worth a thread.
 const MIN_LEN: usize = 4_096;
 
-/// A walk over a set, which several threads make in parts.
+/// A walk over a set, which several threads make in parts: `BitParIter` of the original, where it is a
+/// `ParallelIterator`.
 ///
-/// Its calls start threads anew each time, one for each processor beside the calling one, which takes some tenths of a
-/// millisecond, so a set that seems, by a few of its words, to be small is walked over in the calling thread, as any
-/// set is where there is one processor. `for_each` and `fold` take threads from about 4,096 members on, whatever their
-/// closures do; where a closure does little, [`with_min_len`](BitParIter::with_min_len) asks for more. `count` and
-/// `collect` take them where there is more to do than threads take to start: from about 100,000 members on, or, where
-/// the set [has cheap words](crate::derived::hibitset_base::like::BitSetLike::has_cheap_words), `count` from about 700,000 words with members
-/// on, and `collect` from about 60,000 to 170,000 of them on, by how many members each has; words with more than twelve
-/// members are listed nearly as fast as memory takes them, so they count for nothing. Nothing else depends on it. Each
-/// takes the handle that starts threads, and an allocator for the parts and what is collected, and is refused for
-/// memory alone. In the original it is a `ParallelIterator` of `rayon`.
+/// Each call starts threads anew, one for each processor beside the calling one. Small sets are walked in the calling
+/// thread, as any set is on one processor; [`with_min_len`](BitParIter::with_min_len) moves that threshold
+/// (docs/COSTS.md has the numbers). The result is the same.
+///
+/// Each call takes the handle that starts threads, and an allocator for the parts and what is collected. It fails only
+/// if an allocation fails.
 #[derive(Debug)]
 pub struct BitParIter<T> {
     pub(crate) set: T,
@@ -58,8 +55,8 @@ impl<T> BitParIter<T> {
         }
     }
 
-    /// The same, but cut in so many layers from the top one on: 1, 2, 3 or 4. With fewer layers there are fewer parts:
-    /// a part then has whole ranges of 16,777,216, 262,144, 4,096 or 64 indices.
+    /// The same, cut in the `layers` uppermost layers alone, 1 to 4: `layers_split` of the original. With fewer layers
+    /// there are fewer parts: each has whole ranges of 16,777,216, 262,144, 4,096 or 64 indices.
     ///
     /// # Contract
     ///
@@ -79,9 +76,12 @@ impl<T> BitParIter<T> {
         }
     }
 
-    /// The same, but each call takes threads only where there seem to be so many members or more, in the place of
-    /// 4,096. For closures that do little; 500,000 serves one that adds. It is `with_min_len` of `rayon`, said of the
-    /// whole walk.
+    /// The same, but each call takes threads only for a set that seems to have at least `members`, in the place of
+    /// 4,096. For closures that do little: 500,000 serves one that adds.
+    ///
+    /// ```text
+    /// let sum = (&set).par_iter().with_min_len(500_000).fold(&rt, alloc, || 0, |a, i| a + i as u64, |a, b| a + b)?;
+    /// ```
     ///
     /// # Contract
     ///
@@ -153,8 +153,7 @@ impl<T: BitSetLike + Send + Sync> BitParIter<T> {
         )
     }
 
-    /// Calls `f` at each member below `MAX_EID`, in any order, from several threads. What `f` does is not said by the
-    /// contract.
+    /// Calls `f` at each member below `MAX_EID`, in any order, from several threads. What `f` does is in no clause.
     ///
     /// # Contract
     ///
@@ -175,8 +174,8 @@ impl<T: BitSetLike + Send + Sync> BitParIter<T> {
         run::for_each(rt, alloc, (&self.set).iter(), self.cuts(size, CALL_COST), f)
     }
 
-    /// The folds of one or more consecutive pieces of the ascending list of members, each from `init()`, combined from
-    /// left to right. A piece may be empty. Where the list is cut is not said.
+    /// Folds consecutive pieces of the ascending list of members, each from `init()`, and combines the results from
+    /// left to right. A piece may be empty. Where the list is cut is in no clause.
     ///
     /// # Contract
     ///

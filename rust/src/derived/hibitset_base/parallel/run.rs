@@ -18,8 +18,8 @@ use crate::derived::hibitset_base::util::{Index, LAYERS};
 use crate::support::rattle_std::alloc::{AllocError, Global};
 use crate::support::rattle_std::thread::Threads;
 
-/// Where a walk is cut into parts: in so many layers from the top one on, and into so many parts at most. They are cut in
-/// one thread.
+/// Where a walk is cut into parts: in how many layers from the top one on, and into how many parts at most. They are
+/// cut in one thread.
 #[derive(Clone, Copy)]
 pub(crate) struct Cuts {
     pub(crate) layers: u8,

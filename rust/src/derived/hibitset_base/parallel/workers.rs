@@ -121,7 +121,7 @@ fn in_order<P, U, F: Fn(&P) -> U>(
     Ok(answers)
 }
 
-/// What `f` answers at each part, in order, from several threads.
+/// What `f` returns at each part, in order, from several threads.
 pub(super) fn map_parts<R: Threads + Sync, P: Sync, U: Send, F: Fn(&P) -> U + Sync>(
     rt: &R,
     alloc: Global,
