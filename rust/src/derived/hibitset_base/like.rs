@@ -285,7 +285,7 @@ pub trait BitSetLike {
     /// ```
     fn layer4(&self) -> usize;
 
-    /// The word of layer 3 at a position, which is to be below 64.
+    /// The word of layer 3 at a position. Those from 64 on stand for no index.
     ///
     /// # Contract
     ///
@@ -294,7 +294,7 @@ pub trait BitSetLike {
     /// ```
     fn layer3(&self, i: usize) -> usize;
 
-    /// The word of layer 2 at a position, which is to be below 4,096.
+    /// The word of layer 2 at a position. Those from 4,096 on stand for no index.
     ///
     /// # Contract
     ///
@@ -303,7 +303,7 @@ pub trait BitSetLike {
     /// ```
     fn layer2(&self, i: usize) -> usize;
 
-    /// The word of layer 1 at a position, which is to be below 262,144.
+    /// The word of layer 1 at a position. Those from 262,144 on stand for no index.
     ///
     /// # Contract
     ///
@@ -312,7 +312,7 @@ pub trait BitSetLike {
     /// ```
     fn layer1(&self, i: usize) -> usize;
 
-    /// The word of layer 0 at a position, which is to be below 16,777,216.
+    /// The word of layer 0 at a position. Those from 16,777,216 on stand for no index.
     ///
     /// # Contract
     ///

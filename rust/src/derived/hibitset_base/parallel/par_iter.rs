@@ -25,8 +25,8 @@ const MIN_LEN: usize = 4_096;
 /// A walk over a set, which several threads make in parts: `BitParIter` of the original, where it is a
 /// `ParallelIterator`.
 ///
-/// Each call starts threads anew, one for each processor beside the calling one. Small sets are walked in the calling
-/// thread, as any set is on one processor; [`with_min_len`](BitParIter::with_min_len) moves that threshold
+/// Each call starts threads anew: with the calling one there is one for each processor. Small sets are walked in the
+/// calling thread, as any set is on one processor; [`with_min_len`](BitParIter::with_min_len) moves that threshold
 /// (docs/COSTS.md has the numbers). The result is the same.
 ///
 /// Each call takes the handle that starts threads, and an allocator for the parts and what is collected. It fails only
