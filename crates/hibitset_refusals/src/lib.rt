@@ -1,4 +1,4 @@
-//! Each call that asks for memory, with one request refused.
+//! Each call that allocates, with one allocation that fails.
 #![tactic(auto)]
 
 #[cfg(test)]

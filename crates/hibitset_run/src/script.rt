@@ -105,10 +105,13 @@ pub enum Reply {
 
 /// Runs commands on eight sets, one after the other, and gives one reply a command, in order.
 ///
-/// The room for the replies is made first, and where it is refused nothing has changed; a run of no commands needs
-/// none. A command that fails to allocate replies `NoMemory` and changes no set, and the run goes on. Four can be:
-/// `Add` of an index past the words of all members, `List` of a set with members, and `Or` and `Xor` with another set
-/// that has members.
+/// A command that fails to allocate replies `NoMemory` and changes no set, and the run goes on. Four can: `Add` of an
+/// index past the words of all members, `List` of a set with members, and `Or` and `Xor` with another set that has
+/// members.
+///
+/// # Errors
+///
+/// The allocation of the replies fails, which is made first: nothing has changed. A run of no commands makes none.
 pub fn run(
     alloc: Global,
     sets: &mut [BitSet; 8],

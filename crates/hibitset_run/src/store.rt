@@ -56,9 +56,12 @@ pub enum StoreReply {
 
 /// Runs commands on two columns, one after the other, and gives one reply a command, in order.
 ///
-/// The room for the replies is made first, and where it is refused nothing has changed; a run of no commands needs
-/// none. A command that fails to allocate replies `NoMemory` and changes no column, and the run goes on. Two can be:
-/// `Put` of an index that has no value, and `Join` of columns that have an index in common.
+/// A command that fails to allocate replies `NoMemory` and changes no column, and the run goes on. Two can: `Put` of an
+/// index that has no value, and `Join` of columns that have an index in common.
+///
+/// # Errors
+///
+/// The allocation of the replies fails, which is made first: nothing has changed. A run of no commands makes none.
 pub fn run(
     alloc: Global,
     columns: &mut [Column<u32>; 2],

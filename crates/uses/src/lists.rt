@@ -6,9 +6,12 @@ ghost use Rattle.uses.specs.Lists.{IsRefusalFrom, BeginsWord};
 use hibitset::{BitSet, BuildError, Index};
 use std::alloc::Global;
 
-/// The set of the indices of a list, with no more words in a layer than they need. Where one is refused, the error
-/// tells its place: it is the first out of range, or one for which there was no memory, and then its word lies past
-/// those of all before it.
+/// The set of the indices of a list, with no more words in a layer than they need.
+///
+/// # Errors
+///
+/// The place of the first index that is out of range, or whose allocation failed: then its word lies past those of all
+/// before it.
 pub fn set_of(alloc: Global, list: &[Index]) -> Result<BitSet, BuildError>
     ensures members { IfOk result (λ set. (i : ℕ) → (has set i ≡ true) ↔ Contains list.now i) }
     ensures short { IfOk result (λ set. (l end : ℕ) → l < LAYERS - 1
@@ -22,9 +25,13 @@ pub fn set_of(alloc: Global, list: &[Index]) -> Result<BitSet, BuildError>
     BitSet::from_slice(alloc, list)
 }
 
-/// The set of the indices from `start` on and below `end`, with no more words in a layer than those below `end` need.
-/// Where one is refused, the error tells its place: it is the first out of range, or one for which there was no memory,
-/// and then it is `start`, or the first index of a word.
+/// The set of the indices from `start` up to, but without, `end`, with no more words in a layer than those below `end`
+/// need.
+///
+/// # Errors
+///
+/// The place of the first index that is out of range, or whose allocation failed: then it is `start`, or the first
+/// index of a word.
 pub fn set_of_range(alloc: Global, start: Index, end: Index) -> Result<BitSet, BuildError>
     ensures members { IfOk result (λ set. (i : ℕ)
         → (has set i ≡ true) ↔ ((start ≤ i) × (i < end))) }
@@ -39,8 +46,12 @@ pub fn set_of_range(alloc: Global, start: Index, end: Index) -> Result<BitSet, B
     BitSet::from_indices(alloc, start..end)
 }
 
-/// Adds the indices of a list to a set. Where one is refused, those before it are added: it is the first out of range,
-/// or one for which there was no memory, and then the set has no word for it.
+/// Adds the indices of a list to a set.
+///
+/// # Errors
+///
+/// The place of the first index that is out of range, or whose allocation failed: then the set has no word for it.
+/// Those before it are added.
 pub fn add_all(set: &mut BitSet, list: &[Index]) -> Result<(), BuildError>
     ensures added { OnOk result ((i : ℕ)
         → (has set.new i ≡ true) ↔ ((has set.old i ≡ true) ⊎ Contains list.now i)) }

@@ -42,8 +42,11 @@ impl Pages {
         self.dirty.add(page)
     }
 
-    /// Moves all dirty pages to the end of `out`, in ascending order. Room for them is made first, so that if an
-    /// allocation fails nothing changes.
+    /// Moves all dirty pages to the end of `out`, in ascending order.
+    ///
+    /// # Errors
+    ///
+    /// The allocation fails, which is made first: nothing changes.
     pub fn flush(&mut self, out: &mut Vec<Index>) -> Result<(), AllocError>
         ensures flushed { OnOk result (out.new.items
             ≡ out.old.items ++ members_below MAX_EID (is_dirty self.old)) }

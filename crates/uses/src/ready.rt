@@ -5,7 +5,7 @@ ghost use Rattle.hibitset.specs.Prelude.{IsFirst, HasNone, MAX_EID, slice_len};
 use hibitset::{BitSet, BitSetLike, Index, MAX_EID};
 use std::alloc::{AllocError, Global};
 
-/// The tasks that are ready, with room at all times for those below a limit.
+/// The tasks that are ready, with capacity at all times for those below a limit.
 #[derive(Debug, Drop)]
 pub struct Ready {
     tasks: BitSet,
@@ -16,7 +16,8 @@ pub struct Ready {
 impl Ready {
     ghost use Rattle.uses.specs.Ready.{is_ready, is_ready_from, limit_of, words_of};
 
-    /// No task is ready, and there is room for those below `limit`, and for no more than their words need.
+    /// No task is ready, and there is capacity for those below `limit`, no more than their words need. It fails only if
+    /// that allocation does.
     pub fn new(alloc: Global, limit: Index) -> Result<Ready, AllocError>
         requires { limit ≤ MAX_EID }
         ensures empty { IfOk result (λ ready. (i : ℕ) → is_ready ready i ≡ false) }
@@ -29,8 +30,11 @@ impl Ready {
         })
     }
 
-    /// Makes a task ready, and returns whether it was. Below the limit it can't fail, at any time; where it is refused
-    /// nothing changes.
+    /// Makes a task ready, and returns whether it was.
+    ///
+    /// # Errors
+    ///
+    /// An allocation fails: nothing changes. Below the limit it can't fail, at any time.
     pub fn wake(&mut self, task: Index) -> Result<bool, AllocError>
         requires { task < MAX_EID }
         ensures was { IfOk result (λ was. was ≡ is_ready self.old task) }
@@ -43,7 +47,7 @@ impl Ready {
         self.tasks.add(task)
     }
 
-    /// Takes the first task that is ready, or none where none is.
+    /// Takes the first task that is ready, or none if there is none.
     pub fn next_ready(&mut self) -> Option<Index>
         ensures first { MatchOption result (HasNone MAX_EID (is_ready self.old))
             (IsFirst MAX_EID (is_ready self.old)) }

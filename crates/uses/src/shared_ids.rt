@@ -14,8 +14,8 @@ pub struct Taken {
     pub refused: bool,
 }
 
-/// Takes a fresh identifier: the first from `start` on that the seat's own exchange puts in, of so many tries below
-/// `ATOMIC_MAX_EID`, or none where all of these were there.
+/// Takes a fresh identifier: the first from `start` on that the seat's own exchange puts in, of `tries` below
+/// `ATOMIC_MAX_EID`, or none if all of these were there.
 ///
 /// It was not there when the set was shared, nor did the seat know it, and it is the newest of the seat's reports from
 /// then on. No two seats that are joined have a report in common, as `join` says, so no other of them is given it,
@@ -72,10 +72,12 @@ fn take_into(set: &SharedBitSet, seat: &mut Seat, ids: &mut Vec<Index>, count: u
     false
 }
 
-/// Takes so many fresh identifiers with a new seat. It takes fewer only where memory for the list is refused, as
-/// `refused` tells, and where each index below `ATOMIC_MAX_EID` is there, as the seat then knows. Room is made before
-/// one is taken, so that none is lost. Each index is tried at most once: however many are taken, it makes at most
-/// seven loads for each index below `ATOMIC_MAX_EID`.
+/// Takes `count` fresh identifiers with a new seat. It takes fewer only if the allocation of the list fails, as
+/// `refused` says, or if each index below `ATOMIC_MAX_EID` is there, as the seat then knows. It reserves before it
+/// takes one, so none is lost.
+///
+/// Each index is tried at most once: however many are taken, it makes at most seven loads for each index below
+/// `ATOMIC_MAX_EID`.
 pub fn take_many(alloc: Global, set: &SharedBitSet, seat: Seat, count: usize) -> Taken
     requires { BelongsTo set.now seat × (reports_of seat ≡ []) }
     ensures came { BelongsTo set.now result.seat × (weight_of result.seat ≡ weight_of seat) }
