@@ -195,7 +195,7 @@ impl BitSet {
     }
 }
 
-/// Sets are equal where they have the same members. It does not allocate.
+/// Sets are equal if they have the same members. It does not allocate.
 impl PartialEq for BitSet {
     ghost eq = { on members_of (pointwise ◌==◌) };
 

@@ -102,7 +102,7 @@ impl Blocks {
         Ok(())
     }
 
-    /// Makes the block of a position, where it is not there, and changes no word.
+    /// Makes the block of a position, if it is not made, and changes no word.
     #[inline]
     pub(crate) fn make(&mut self, position: usize) -> Result<(), AllocError>
         requires { position < 64 ^ (ATOMIC_LAYERS - 1) }

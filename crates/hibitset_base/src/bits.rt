@@ -1,4 +1,4 @@
-//! The bits of one word, and one word in the place of another.
+//! The bits of one word, and one word replaced by another.
 ghost use Rattle.std.specs.Prelude.{◌≡◌, ◌≢◌, ℕ, ◌<◌, ◌≤◌, ◌↔◌, false, get_or, length};
 ghost use Rattle.std.specs.Int.{bit_at};
 ghost use Rattle.hibitset_base.specs.Sets.{bit_of};

@@ -26,12 +26,12 @@ pub struct DrainBitIter<'a, T> {
 }
 
 impl<'a, T> DrainBitIter<'a, T> {
-    /// A drain of `set` that goes on from the given state: `masks` has the bits that are left of each layer from the
-    /// lowest up, and `prefix` the position of each mask's first bit in its layer, below the top layer, where it is 0.
+    /// A drain of `set` that goes on from the given state. `masks` has the bits that are left of each layer, from the
+    /// lowest up. `prefix` has the position of each mask's first bit in its layer, for the layers below the top.
     ///
-    /// The prefix of a mask that is not 0 is a multiple of 64 within the layer. What is left in a layer lies in the
-    /// range of one word of each layer above that has something left: the word whose first bit is at that layer's
-    /// prefix. There it lies before what is left of that word.
+    /// - The prefix of a nonzero mask is a multiple of 64 within the layer.
+    /// - What is left in a layer lies in the range of one word of each layer above that has something left: the word
+    ///   whose first bit is at that layer's prefix. There it lies before what is left of that word.
     #[inline]
     pub fn new(set: &'a mut T, masks: [usize; LAYERS], prefix: [u32; LAYERS - 1]) -> Self
         requires { IsWellFormed LAYERS masks prefix }

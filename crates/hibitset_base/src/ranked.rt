@@ -1,4 +1,4 @@
-//! Counts of members beside a set that stands still.
+//! Counts of members beside a set that does not change.
 #![tactic(auto, unfolding(crate::specs::Ranked::counted_set, crate::specs::Ranked::counts_len))]
 
 ghost use Rattle.std.specs.Prelude.{◌≡◌, ℕ, ◌+◌, ◌-◌, ◌*◌, ◌/◌, ◌<◌, ◌≤◌, IfOk, length, min, nat_le, true, false, slice_get};

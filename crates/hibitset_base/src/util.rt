@@ -4,7 +4,7 @@ ghost use Rattle.std.specs.Int.{bit_at};
 ghost use Rattle.std.specs.Int.RustNames.{count_ones};
 ghost use Rattle.hibitset_base.specs.MiddleBit.{IsHalvingBit};
 
-/// An index: what a set has as its members, where it is below `MAX_EID`.
+/// An index. The members of a set are indices below `MAX_EID`.
 pub type Index = u32;
 
 /// Base two logarithm of the number of bits in a word.
@@ -89,7 +89,7 @@ pub fn offsets(bit: Index) -> (usize, usize, usize, usize)
     )
 }
 
-/// The halving bit of a word: the set bit with exactly half of the set bits, rounded down, at or above it. None where
+/// The halving bit of a word: the set bit with exactly half of the set bits, rounded down, at or above it. `None` if
 /// fewer than two bits are set.
 #[inline]
 pub fn average_ones(n: usize) -> Option<usize>

@@ -11,14 +11,12 @@ use crate::like::{BitSetLike, DrainableBitSet};
 use crate::util::Index;
 use std::alloc::AllocError;
 
-/// The intersection of two sets: the indices that are in both.
+/// The intersection of two sets: the indices that are in both. `BitSetAnd` of the original.
 #[derive(Debug, Drop)]
 pub struct BitSetAnd<A: BitSetLike, B: BitSetLike>(pub A, pub B);
 
 impl<A: BitSetLike + Clone, B: BitSetLike + Clone> BitSetAnd<A, B> {
-    /// The same set over clones of the operands. It can't fail where no clone of an operand can be.
-    ///
-    /// A clone of an operand is the same set.
+    /// The same set over clones of the operands. It fails only if a clone of an operand does, which is the same set.
     pub fn clone(&self) -> Result<Self, AllocError>
         requires first { ClonesToSame A.is_clone A.holds self.now.0 }
         requires second { ClonesToSame B.is_clone B.holds self.now.1 }
@@ -104,14 +102,12 @@ impl<A: DrainableBitSet, B: DrainableBitSet> DrainableBitSet for BitSetAnd<A, B>
     }
 }
 
-/// The union of two sets: the indices that are in at least one.
+/// The union of two sets: the indices that are in at least one. `BitSetOr` of the original.
 #[derive(Debug, Drop)]
 pub struct BitSetOr<A: BitSetLike, B: BitSetLike>(pub A, pub B);
 
 impl<A: BitSetLike + Clone, B: BitSetLike + Clone> BitSetOr<A, B> {
-    /// The same set over clones of the operands. It can't fail where no clone of an operand can be.
-    ///
-    /// A clone of an operand is the same set.
+    /// The same set over clones of the operands. It fails only if a clone of an operand does, which is the same set.
     pub fn clone(&self) -> Result<Self, AllocError>
         requires first { ClonesToSame A.is_clone A.holds self.now.0 }
         requires second { ClonesToSame B.is_clone B.holds self.now.1 }
@@ -192,14 +188,12 @@ impl<A: DrainableBitSet, B: DrainableBitSet> DrainableBitSet for BitSetOr<A, B> 
     }
 }
 
-/// The symmetric difference of two sets: the indices that are in one and not in the other.
+/// The symmetric difference of two sets: the indices that are in exactly one. `BitSetXor` of the original.
 #[derive(Debug, Drop)]
 pub struct BitSetXor<A: BitSetLike, B: BitSetLike>(pub A, pub B);
 
 impl<A: BitSetLike + Clone, B: BitSetLike + Clone> BitSetXor<A, B> {
-    /// The same set over clones of the operands. It can't fail where no clone of an operand can be.
-    ///
-    /// A clone of an operand is the same set.
+    /// The same set over clones of the operands. It fails only if a clone of an operand does, which is the same set.
     pub fn clone(&self) -> Result<Self, AllocError>
         requires first { ClonesToSame A.is_clone A.holds self.now.0 }
         requires second { ClonesToSame B.is_clone B.holds self.now.1 }
@@ -265,9 +259,7 @@ impl<A: BitSetLike, B: BitSetLike> BitSetLike for BitSetXor<A, B> {
 pub struct BitSetNot<A: BitSetLike>(pub A);
 
 impl<A: BitSetLike + Clone> BitSetNot<A> {
-    /// The same set over a clone of the operand. It can't fail where no clone of the operand can be.
-    ///
-    /// A clone of the operand is the same set.
+    /// The same set over a clone of the operand. It fails only if the clone of the operand does, which is the same set.
     pub fn clone(&self) -> Result<Self, AllocError>
         requires { ClonesToSame A.is_clone A.holds self.now.0 }
         ensures same { IfOk result (λ copy. SameSet (⟦<Self as BitSetLike>⟧.holds self.now)
@@ -322,7 +314,7 @@ impl<A: BitSetLike> BitSetLike for BitSetNot<A> {
     }
 }
 
-/// The set of all indices. A walk stops below `MAX_EID`.
+/// The set of all indices, `BitSetAll` of the original. A walk stops below `MAX_EID`.
 #[derive(Debug, Drop)]
 pub struct BitSetAll;
 

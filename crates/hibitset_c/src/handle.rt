@@ -10,7 +10,7 @@ use hibitset::BitSet;
 use std::alloc::Global;
 use std::marker::Model;
 
-/// A set, or none: where there is none, the pointer is never followed.
+/// A set, or none: then the pointer is never followed.
 #[repr(C)]
 #[derive(Drop)]
 pub struct Handle {

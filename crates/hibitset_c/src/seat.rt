@@ -175,8 +175,8 @@ pub extern "C" fn hibitset_seat_collect(alloc: Global, seat: &mut HeldSeat, set:
     if all { OK } else { NO_MEMORY }
 }
 
-/// Makes of the shared set an atomic set held alone, which takes the place of what `set` was, if no other seat has it.
-/// The seat is given up then.
+/// Makes of the shared set an atomic set held alone, and leaves it in `set`, if no other seat has it. The seat is given
+/// up then.
 #[unsafe(no_mangle)]
 pub extern "C" fn hibitset_seat_settle(
     alloc: Global,

@@ -1,4 +1,4 @@
-//! A set written as a stream in which a container is runs where these take fewer bytes.
+//! A set written as a stream in which a container is runs if these take fewer bytes.
 
 ghost use Rattle.std.specs.Prelude.{◌≡◌, ℕ, ◌+◌, ◌*◌, ◌/◌, ◌%◌, ◌^◌, ◌<◌, ◌≤◌, ◌==◌, true, false, if◌then◌else◌, List, drop, get_or, length, vec_len, IfOk, OnOk, OnErr};
 ghost use Rattle.std.specs.Int.{bit_at};
@@ -431,7 +431,8 @@ pub fn write_run_optimized_to(
     Ok(())
 }
 
-/// A set in the portable Roaring format with runs where these are shorter, as `write_run_optimized_to` writes it.
+/// A set in the portable Roaring format with runs where these are shorter, as `write_run_optimized_to` writes it. It
+/// fails only if an allocation fails.
 pub fn write_run_optimized(alloc: Global, set: &BitSet) -> Result<Vec<u8>, AllocError>
     ensures stream { IfOk result (λ out. IsCanonicalRunStream (has set.now) out.items) }
     ensures below { IfOk result (λ out. HasKeysBelow out.items KEYS) }

@@ -64,7 +64,7 @@ impl ContainerSink for Vec<usize> {
     }
 }
 
-/// A sparse set, and room for the words of one container.
+/// A sparse set, and a buffer for the words of one container.
 #[derive(Drop)]
 pub(crate) struct SparseSink {
     pub(crate) set: SparseBitSet,
@@ -72,7 +72,7 @@ pub(crate) struct SparseSink {
 }
 
 impl SparseSink {
-    /// An empty set, with room for the words of a container.
+    /// An empty set, with a buffer for the words of a container.
     pub(crate) fn new(alloc: Global) -> Result<SparseSink, AllocError>
         ensures { IfOk result (λ sink. (i : ℕ) → has sink.set i ≡ false) }
     {

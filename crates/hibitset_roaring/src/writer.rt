@@ -319,7 +319,7 @@ pub fn write_to(alloc: Global, set: &BitSet, out: &mut Vec<u8>) -> Result<(), Al
     write_source_to(alloc, &WordSource::of(set), out)
 }
 
-/// A set in the portable Roaring format, as `write_to` writes it.
+/// A set in the portable Roaring format, as `write_to` writes it. It fails only if an allocation fails.
 pub fn write(alloc: Global, set: &BitSet) -> Result<Vec<u8>, AllocError>
     ensures stream { IfOk result (λ out. IsCanonicalStream (has set.now) out.items) }
     ensures below { IfOk result (λ out. HasKeysBelow out.items KEYS) }

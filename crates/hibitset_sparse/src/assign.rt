@@ -82,7 +82,7 @@ impl SparseBitSet {
     /// Takes out the members that are in the other set. It does not allocate.
     ///
     /// It goes through the words of this set once, in the chunks in which the other has members, and looks up those of
-    /// the other. They are changed where they lie, and those that are left close up.
+    /// the other. They are changed in place, and those that are left close up.
     pub fn subtract_assign<B: BitSetLike>(&mut self, other: &B)
         ensures { IsDifference (has self.old) (B.holds other.now) (has self.new) }
     {

@@ -59,7 +59,7 @@ impl Chunk {
     }
 
     /// Adds an index, and returns whether it was there. If an allocation fails, the members stay. It does not allocate
-    /// where one of the 64 indices that share its word is there.
+    /// if one of the 64 indices that share its word is there.
     pub(crate) fn add(&mut self, i: usize) -> Result<bool, AllocError>
         requires { i < INDICES_PER_CHUNK }
         ensures was { IfOk result (λ was. was ≡ has_in self.old i) }

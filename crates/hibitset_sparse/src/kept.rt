@@ -1,4 +1,4 @@
-//! What is left of words and chunks where the indices stay that are in another set, or those that are not.
+//! What is left of words and chunks if the indices stay that are in another set, or those that are not.
 ghost use Rattle.std.specs.Prelude.{◌≡◌, ℕ, ◌+◌, ◌*◌, ◌%◌, ◌^◌, ◌<◌, Option, Some, true, false, not};
 ghost use Rattle.hibitset_sparse.specs.Chunk.{chunk_word, has_in};
 ghost use Rattle.hibitset_sparse.specs.Retain.{IsKeptChunk, IsKeptWord, LeavesOf};

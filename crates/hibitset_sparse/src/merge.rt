@@ -39,7 +39,7 @@ trait Merge: Drop {
     /// How many words there may be, so that capacity for them is reserved at once.
     fn most_words(own: usize, other: usize) -> usize;
 
-    /// Appends group q, made of a group of each, where no group is there from q on.
+    /// Appends group q, made of a group of each, if no group is there from q on.
     fn push_merged(
         groups: &mut PackedArray<Group>,
         items: &mut Vec<usize>,
@@ -240,8 +240,8 @@ impl SparseBitSet {
 
     /// Takes out the members that are not in the other sparse set. It does not allocate.
     ///
-    /// It goes through the words of this set once, in the chunks in which both have members. They are changed where
-    /// they lie, and those that are left close up.
+    /// It goes through the words of this set once, in the chunks in which both have members. They are changed in place,
+    /// and those that are left close up.
     pub fn intersect_with(&mut self, other: &SparseBitSet)
         ensures { IsIntersection (has self.old) (has other.now) (has self.new) }
     {

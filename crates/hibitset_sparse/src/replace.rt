@@ -1,4 +1,4 @@
-//! Chunks in the place of a set's own.
+//! Chunks that replace a set's own.
 #![tactic(auto, unfolding(crate::specs::SparseBitSet::has, crate::specs::SparseBitSet::word_of))]
 
 ghost use Rattle.std.specs.Prelude.{◌≡◌, ◌≢◌, ℕ, ◌+◌, ◌/◌, ◌%◌, ◌<◌, ◌==◌, if◌then◌else◌, length, None, OnErr, OnOk};

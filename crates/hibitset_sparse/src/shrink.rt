@@ -40,9 +40,8 @@ fn shrink_chunks(chunks: &mut Table<Chunk>)
 }
 
 impl SparseBitSet {
-    /// Gives back the capacity that no member uses. The members stay.
-    ///
-    /// It can't fail: where a smaller block can't be allocated, the old one is kept.
+    /// Gives back the capacity that no member uses. The members stay. It can't fail: a list whose smaller block can't
+    /// be allocated keeps its old one.
     pub fn shrink_to_fit(&mut self)
         ensures same { (i : ℕ) → has self.new i ≡ has self.old i }
     {

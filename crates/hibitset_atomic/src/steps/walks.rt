@@ -11,7 +11,8 @@ use hibitset_base::util::Index;
 use std::alloc::{AllocError, Global};
 use std::collections::BTreeMap;
 
-/// A walk's items, and where it stands. A new walk has the top word to read, which no bit stands for.
+/// A walk's items, and the places that it has still to read. A new walk has the top word to read, which no bit stands
+/// for.
 #[derive(Drop)]
 pub(crate) struct Progress {
     pub(crate) items: Vec<Index>,

@@ -129,7 +129,7 @@ impl BitSet {
     }
 }
 
-/// Sets are equal where they have the same members. It does not allocate.
+/// Sets are equal if they have the same members. It does not allocate.
 impl PartialEq for BitSet {
     fn eq(&self, other: &BitSet) -> bool {
         compare::<Equality>(self, other)

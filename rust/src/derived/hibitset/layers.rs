@@ -311,8 +311,8 @@ impl Layers {
         self.top = word;
     }
 
-    /// Sets the bit over a word right that has become zero or nonzero and is not 0 where it stands, and returns whether
-    /// the word with that bit has turned too.
+    /// Updates the bit above a word that has just become zero or nonzero (`stands`: nonzero), and returns whether the
+    /// word with that bit became so too.
     ///
     /// # Contract
     ///

@@ -88,7 +88,7 @@ impl Blocks {
         Ok(())
     }
 
-    /// Makes the block of a position, where it is not there, and changes no word.
+    /// Makes the block of a position, if it is not made, and changes no word.
     ///
     /// # Contract
     ///

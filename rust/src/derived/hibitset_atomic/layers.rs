@@ -145,7 +145,7 @@ impl Layers {
         self.layer0.word(position)
     }
 
-    /// Makes the block of a position of layer 0, where it is not there, and changes no word.
+    /// Makes the block of a position of layer 0, if it is not made, and changes no word.
     ///
     /// # Contract
     ///

@@ -1,6 +1,6 @@
 // Derived from crates/hibitset_base/src/bits.rt by rust/derive.py, and never edited by hand.
 
-//! The bits of one word, and one word in the place of another.
+//! The bits of one word, and one word replaced by another.
 
 use crate::support::rattle_std::prelude::*;
 

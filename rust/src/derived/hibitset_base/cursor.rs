@@ -67,7 +67,7 @@ impl<const N: usize> Cursor<N> {
         }
     }
 
-    /// A cursor that has the bits of one word of `layer` left, where the first one lies at `start`.
+    /// A cursor that has the bits of one word of `layer` left, the first of which lies at `start`.
     ///
     /// # Contract
     ///
@@ -160,8 +160,8 @@ impl<const N: usize> Cursor<N> {
         Some((layer, position))
     }
 
-    /// Takes all places that are left in `layer` at once, where none is left below, and returns the position of the
-    /// first bit of their word, and the word.
+    /// Takes all places that are left in `layer` at once, if none is left below, and returns the position of the first
+    /// bit of their word, and the word.
     ///
     /// # Contract
     ///
@@ -264,7 +264,7 @@ impl<const N: usize> Cursor<N> {
         self.push_bits_from(layer, position << BITS, word);
     }
 
-    /// Puts the places of a word's bits in front of those that are left, as `push_bits` does, where the first bit of the word
+    /// Puts the places of a word's bits in front of those that are left, as `push_bits` does. The first bit of the word
     /// lies at `start`.
     ///
     /// # Contract

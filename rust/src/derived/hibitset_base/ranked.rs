@@ -1,6 +1,6 @@
 // Derived from crates/hibitset_base/src/ranked.rt by rust/derive.py, and never edited by hand.
 
-//! Counts of members beside a set that stands still.
+//! Counts of members beside a set that does not change.
 
 use crate::support::rattle_std::prelude::*;
 

@@ -4,7 +4,7 @@
 
 use crate::support::rattle_std::prelude::*;
 
-/// An index: what a set has as its members, where it is below `MAX_EID`.
+/// An index. The members of a set are indices below `MAX_EID`.
 pub type Index = u32;
 
 /// Base two logarithm of the number of bits in a word.
@@ -102,7 +102,7 @@ pub fn offsets(bit: Index) -> (usize, usize, usize, usize) {
     )
 }
 
-/// The halving bit of a word: the set bit with exactly half of the set bits, rounded down, at or above it. None where
+/// The halving bit of a word: the set bit with exactly half of the set bits, rounded down, at or above it. `None` if
 /// fewer than two bits are set.
 ///
 /// # Contract

@@ -11,14 +11,12 @@ use crate::derived::hibitset_base::like::{BitSetLike, DrainableBitSet};
 use crate::derived::hibitset_base::util::Index;
 use crate::support::rattle_std::alloc::AllocError;
 
-/// The intersection of two sets: the indices that are in both.
+/// The intersection of two sets: the indices that are in both. `BitSetAnd` of the original.
 #[derive(Debug)]
 pub struct BitSetAnd<A: BitSetLike, B: BitSetLike>(pub A, pub B);
 
 impl<A: BitSetLike + TryClone, B: BitSetLike + TryClone> BitSetAnd<A, B> {
-    /// The same set over clones of the operands. It can't fail where no clone of an operand can be.
-    ///
-    /// A clone of an operand is the same set.
+    /// The same set over clones of the operands. It fails only if a clone of an operand does, which is the same set.
     ///
     /// # Contract
     ///
@@ -99,14 +97,12 @@ impl<A: DrainableBitSet, B: DrainableBitSet> DrainableBitSet for BitSetAnd<A, B>
     }
 }
 
-/// The union of two sets: the indices that are in at least one.
+/// The union of two sets: the indices that are in at least one. `BitSetOr` of the original.
 #[derive(Debug)]
 pub struct BitSetOr<A: BitSetLike, B: BitSetLike>(pub A, pub B);
 
 impl<A: BitSetLike + TryClone, B: BitSetLike + TryClone> BitSetOr<A, B> {
-    /// The same set over clones of the operands. It can't fail where no clone of an operand can be.
-    ///
-    /// A clone of an operand is the same set.
+    /// The same set over clones of the operands. It fails only if a clone of an operand does, which is the same set.
     ///
     /// # Contract
     ///
@@ -182,14 +178,12 @@ impl<A: DrainableBitSet, B: DrainableBitSet> DrainableBitSet for BitSetOr<A, B> 
     }
 }
 
-/// The symmetric difference of two sets: the indices that are in one and not in the other.
+/// The symmetric difference of two sets: the indices that are in exactly one. `BitSetXor` of the original.
 #[derive(Debug)]
 pub struct BitSetXor<A: BitSetLike, B: BitSetLike>(pub A, pub B);
 
 impl<A: BitSetLike + TryClone, B: BitSetLike + TryClone> BitSetXor<A, B> {
-    /// The same set over clones of the operands. It can't fail where no clone of an operand can be.
-    ///
-    /// A clone of an operand is the same set.
+    /// The same set over clones of the operands. It fails only if a clone of an operand does, which is the same set.
     ///
     /// # Contract
     ///
@@ -253,9 +247,7 @@ impl<A: BitSetLike, B: BitSetLike> BitSetLike for BitSetXor<A, B> {
 pub struct BitSetNot<A: BitSetLike>(pub A);
 
 impl<A: BitSetLike + TryClone> BitSetNot<A> {
-    /// The same set over a clone of the operand. It can't fail where no clone of the operand can be.
-    ///
-    /// A clone of the operand is the same set.
+    /// The same set over a clone of the operand. It fails only if the clone of the operand does, which is the same set.
     ///
     /// # Contract
     ///
@@ -308,7 +300,7 @@ impl<A: BitSetLike> BitSetLike for BitSetNot<A> {
     }
 }
 
-/// The set of all indices. A walk stops below `MAX_EID`.
+/// The set of all indices, `BitSetAll` of the original. A walk stops below `MAX_EID`.
 #[derive(Debug)]
 pub struct BitSetAll;
 

@@ -1,6 +1,6 @@
 // Derived from crates/hibitset_roaring/src/run_writer.rt by rust/derive.py, and never edited by hand.
 
-//! A set written as a stream in which a container is runs where these take fewer bytes.
+//! A set written as a stream in which a container is runs if these take fewer bytes.
 
 use crate::support::rattle_std::prelude::*;
 
@@ -287,7 +287,8 @@ pub fn write_run_optimized_to(
     Ok(())
 }
 
-/// A set in the portable Roaring format with runs where these are shorter, as `write_run_optimized_to` writes it.
+/// A set in the portable Roaring format with runs where these are shorter, as `write_run_optimized_to` writes it. It
+/// fails only if an allocation fails.
 ///
 /// # Contract
 ///

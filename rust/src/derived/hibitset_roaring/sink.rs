@@ -54,14 +54,14 @@ impl ContainerSink for Vec<usize> {
     }
 }
 
-/// A sparse set, and room for the words of one container.
+/// A sparse set, and a buffer for the words of one container.
 pub(crate) struct SparseSink {
     pub(crate) set: SparseBitSet,
     words: Vec<usize>,
 }
 
 impl SparseSink {
-    /// An empty set, with room for the words of a container.
+    /// An empty set, with a buffer for the words of a container.
     ///
     /// # Contract
     ///

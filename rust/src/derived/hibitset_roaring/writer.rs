@@ -241,7 +241,7 @@ pub fn write_to(alloc: Global, set: &BitSet, out: &mut Vec<u8>) -> Result<(), Al
     write_source_to(alloc, &WordSource::of(set), out)
 }
 
-/// A set in the portable Roaring format, as `write_to` writes it.
+/// A set in the portable Roaring format, as `write_to` writes it. It fails only if an allocation fails.
 ///
 /// # Contract
 ///

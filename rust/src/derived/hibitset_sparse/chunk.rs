@@ -73,7 +73,7 @@ impl Chunk {
     }
 
     /// Adds an index, and returns whether it was there. If an allocation fails, the members stay. It does not allocate
-    /// where one of the 64 indices that share its word is there.
+    /// if one of the 64 indices that share its word is there.
     ///
     /// # Contract
     ///

@@ -34,7 +34,7 @@ fn push_words<S: BitSetLike>(
     Ok(bits)
 }
 
-/// Appends group q, with the words of a set under a word of its layer 1, where no group is there from q on.
+/// Appends group q, with the words of a set under a word of its layer 1, if no group is there from q on.
 ///
 /// # Contract
 ///

@@ -1,6 +1,6 @@
 // Derived from crates/hibitset_sparse/src/kept.rt by rust/derive.py, and never edited by hand.
 
-//! What is left of words and chunks where the indices stay that are in another set, or those that are not.
+//! What is left of words and chunks if the indices stay that are in another set, or those that are not.
 
 use crate::support::rattle_std::prelude::*;
 

@@ -31,7 +31,7 @@ trait Merge {
     /// How many words there may be, so that capacity for them is reserved at once.
     fn most_words(own: usize, other: usize) -> usize;
 
-    /// Appends group q, made of a group of each, where no group is there from q on.
+    /// Appends group q, made of a group of each, if no group is there from q on.
     ///
     /// # Contract
     ///
@@ -221,8 +221,8 @@ impl SparseBitSet {
 
     /// Takes out the members that are not in the other sparse set. It does not allocate.
     ///
-    /// It goes through the words of this set once, in the chunks in which both have members. They are changed where
-    /// they lie, and those that are left close up.
+    /// It goes through the words of this set once, in the chunks in which both have members. They are changed in place,
+    /// and those that are left close up.
     ///
     /// # Contract
     ///

@@ -1,6 +1,6 @@
 // Derived from crates/hibitset_sparse/src/replace.rt by rust/derive.py, and never edited by hand.
 
-//! Chunks in the place of a set's own.
+//! Chunks that replace a set's own.
 
 use crate::support::rattle_std::prelude::*;
 

@@ -28,9 +28,8 @@ fn shrink_chunks(chunks: &mut Table<Chunk>) {
 }
 
 impl SparseBitSet {
-    /// Gives back the capacity that no member uses. The members stay.
-    ///
-    /// It can't fail: where a smaller block can't be allocated, the old one is kept.
+    /// Gives back the capacity that no member uses. The members stay. It can't fail: a list whose smaller block can't
+    /// be allocated keeps its old one.
     ///
     /// # Contract
     ///

@@ -7,13 +7,13 @@ use crate::support::rattle_std::prelude::*;
 /// How many shares a set has. A seat that has them all is whole.
 pub const SHARES: u32 = 65_536;
 
-/// The place in the row where layer 1 begins, after the words of layer 0.
+/// The position in the row at which layer 1 begins, after the words of layer 0.
 pub(crate) const LAYER1_START: usize = 262_144;
 
-/// The place in the row where layer 2 begins.
+/// The position in the row at which layer 2 begins.
 pub(crate) const LAYER2_START: usize = 266_240;
 
-/// The place in the row where the one word of layer 3 lies.
+/// The position in the row of the one word of layer 3.
 pub(crate) const LAYER3_START: usize = 266_304;
 
 /// The words of the row: those of the four layers.

@@ -1,6 +1,6 @@
 // Derived from crates/hibitset_atomic/src/steps/event.rt by rust/derive.py, and never edited by hand.
 
-//! What happens to a world, and what it answers.
+//! What happens to a world, and what it returns.
 
 use crate::support::rattle_std::prelude::*;
 

@@ -10,7 +10,8 @@ use crate::derived::hibitset_base::util::Index;
 use crate::support::rattle_std::alloc::{AllocError, Global};
 use crate::support::rattle_std::collections::BTreeMap;
 
-/// A walk's items, and where it stands. A new walk has the top word to read, which no bit stands for.
+/// A walk's items, and the places that it has still to read. A new walk has the top word to read, which no bit stands
+/// for.
 pub(crate) struct Progress {
     pub(crate) items: Vec<Index>,
     pub(crate) is_new: bool,

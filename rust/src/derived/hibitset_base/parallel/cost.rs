@@ -178,8 +178,8 @@ const USUAL_PARTS: usize = 512;
 // How many there are at most.
 const MAX_PARTS: usize = 4_096;
 
-/// Into how many parts a walk over a set of this size is cut at most: more than the usual number where the set is so
-/// large that cutting them takes less than a hundredth of the walk.
+/// Into how many parts a walk over a set of this size is cut at most: more than the usual number if the set is so large
+/// that cutting them takes less than a hundredth of the walk.
 pub(super) fn max_parts(size: Estimate, work: CostModel) -> usize {
     (size.members_in_all() / work.members_per_part.max(1)).clamp(USUAL_PARTS, MAX_PARTS)
 }
@@ -196,8 +196,8 @@ fn sum_of_estimates(size: Estimate, other: Estimate) -> Estimate {
     }
 }
 
-/// About how large the set is. It reads a few words under each bit of the layer below the top, until there is so much
-/// of this work, at about so many members, however much more there is.
+/// About how large the set is. It reads a few words under each bit of the layer below the top, until this much work, at
+/// about this many members, is found.
 pub(super) fn estimate_set<T: BitSetLike>(set: &T, work: CostModel, least: usize) -> Estimate {
     let mut left = set.get_from_layer(LAYERS - 1, 0);
     let mut size = EMPTY;
