@@ -201,7 +201,7 @@ def ratios(results):
 
 def slower(results):
     """README's table of what is slower than the original."""
-    lines = ["| call | times its time, at most |", "|---|---:|"]
+    lines = ["| call | ratio, at most |", "|---|---:|"]
     most = [(max(ratio for name, ratio in ratios(results) if re.match(pattern, name)), shown) for shown, pattern in SLOWER]
     lines += [f"| {shown} | {ratio:.1f} |" for ratio, shown in sorted(most)]
     return "\n".join(lines) + "\n"
