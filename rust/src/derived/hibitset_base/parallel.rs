@@ -19,8 +19,8 @@ mod workers;
 
 pub use self::par_iter::BitParIter;
 
-/// A part of a walk over a set, which can be split, and the number of layers, from the top one on, that a split looks
-/// at; 0 acts as 1.
+/// A part of a walk over a set, which can be split: `BitProducer` of the original. Its number is that of the layers,
+/// from the top one on, that a split looks at; 0 acts as 1.
 #[derive(Debug)]
 pub struct BitProducer<'a, T: 'a + Send + Sync>(pub BitIter<&'a T>, pub u8);
 

@@ -76,11 +76,11 @@ impl<T> BitParIter<T> {
         }
     }
 
-    /// The same, but each call takes threads only for a set that seems to have at least `members`, in the place of
-    /// 4,096. For closures that do little: 500,000 serves one that adds.
+    /// The same, but each call takes threads only for a set that seems to have at least `members`, instead of 4,096.
+    /// For closures that do little: 500,000 serves one that adds.
     ///
     /// ```text
-    /// let sum = (&set).par_iter().with_min_len(500_000).fold(&rt, alloc, || 0, |a, i| a + i as u64, |a, b| a + b)?;
+    /// let pages = (&set).par_iter().with_min_len(500_000).count(&rt, alloc)?;
     /// ```
     ///
     /// # Contract
@@ -110,7 +110,7 @@ impl<T: BitSetLike + Send + Sync> BitParIter<T> {
         }
     }
 
-    /// How many members there are below `MAX_EID`.
+    /// How many members there are below `MAX_EID`. It fails only if an allocation fails.
     ///
     /// # Contract
     ///
@@ -126,7 +126,7 @@ impl<T: BitSetLike + Send + Sync> BitParIter<T> {
         run::count(rt, alloc, (&self.set).iter(), self.cuts(size, work))
     }
 
-    /// The members below `MAX_EID`, in ascending order.
+    /// The members below `MAX_EID`, in ascending order. It fails only if an allocation fails.
     ///
     /// # Contract
     ///
