@@ -4,7 +4,6 @@
 pub use Rattle.hibitset_base.specs.declared.util.TheConstants.{LAYERS, MAX_EID}
 pub use Rattle.hibitset_atomic.specs.declared.atomic.TheConstants.{ATOMIC_MAX_EID}
 pub use Rattle.hibitset_atomic.specs.declared.shared.layout.TheConstants.{SHARES}
-pub use Rattle.hibitset.specs.declared.set.BitSet.{BitSet}
 pub use Rattle.hibitset_atomic.specs.declared.atomic.AtomicBitSet.{AtomicBitSet}
 pub use Rattle.hibitset_atomic.specs.declared.shared.types.SharedBitSet.{SharedBitSet}
 pub use Rattle.hibitset_atomic.specs.declared.shared.types.Seat.{Seat}

@@ -4,7 +4,8 @@ use Rattle.std.specs.List.{All}
 use Rattle.std.proofs.Math.Nat.{div-lt_iff_lt-mul, div-mul-le_self, one-le-pow}
 use Rattle.std.proofs.lemmas.Bool.{lt-ltb, le-ltb, cases_lt}
 use Rattle.std.proofs.lemmas.List.Elements.{filter-append, All-weaker}
-use Rattle.hibitset.specs.Prelude.{Place, IsAheadFrom, BeginsBy, BeginsAfter, AreBoundByMembers, IsAboveMember, words_under, intersection_word, LAYERS, MAX_EID, members_below, SplitReads, part_reads, part_words, BitProducer, has, BitSet}
+use Rattle.hibitset.specs.Prelude.{Place, IsAheadFrom, BeginsBy, BeginsAfter, AreBoundByMembers, IsAboveMember, words_under, intersection_word, LAYERS, MAX_EID, members_below, SplitReads, part_reads, part_words, BitProducer, has}
+use Rattle.hibitset.specs.declared.set.BitSet.{BitSet}
 use Rattle.std.specs.Borrow.{Bor}
 use Rattle.uses.specs.Budget.{Both, words_in_both, is_after, budget, part_reads_in_all, other_reads_in_all, EndsBy, BeginsBefore}
 

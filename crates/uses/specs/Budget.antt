@@ -1,7 +1,8 @@
 -- How many words walks read in all, and where they lie.
 use Rattle.std.specs.Prelude.{◌≡◌, ℕ, ◌+◌, ◌*◌, ◌^◌, ◌<◌, min, Bool, true, List, length, filter, nat_lt, ◌&&◌, Option, Some, None}
 use Rattle.std.specs.Borrow.{Bor}
-use Rattle.hibitset.specs.Prelude.{Place, part_words, part_reads, words_read, words_ahead, BitIter, BitProducer, BitSetAnd, has, members_of, intersection_word, BitSet}
+use Rattle.hibitset.specs.Prelude.{Place, part_words, part_reads, words_read, words_ahead, BitIter, BitProducer, BitSetAnd, has, members_of, intersection_word}
+use Rattle.hibitset.specs.declared.set.BitSet.{BitSet}
 
 -- what two sets have in common, by reference
 abbrev pub Both : Type 0

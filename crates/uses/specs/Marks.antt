@@ -1,7 +1,8 @@
 -- Rows of a table, and marks that few of them have.
 use Rattle.std.specs.Prelude.{ℕ, ◌+◌, ◌&&◌, Bool, bit_and, length}
 use Rattle.std.specs.Borrow.{Bor}
-use Rattle.hibitset.specs.Prelude.{words_read, words_ahead, BitIter, BitSetAnd, has, word_of, BitSet}
+use Rattle.hibitset.specs.Prelude.{words_read, words_ahead, BitIter, BitSetAnd, has, word_of}
+use Rattle.hibitset.specs.declared.set.BitSet.{BitSet}
 use Rattle.hibitset_sparse.specs.SparseBitSet.{has as is_marked, word_of as marked_word}
 use Rattle.hibitset_sparse.specs.declared.set.SparseBitSet.{SparseBitSet}
 

@@ -1,7 +1,8 @@
 -- What three sets have in common and a fourth has not, and how many words a walk over it reads.
 use Rattle.std.specs.Prelude.{ℕ, ◌+◌, ◌*◌, min, Bool, length, ◌&&◌, not, bit_and}
 use Rattle.std.specs.Borrow.{Bor}
-use Rattle.hibitset.specs.Prelude.{not_word, words_read, words_ahead, BitIter, BitSetAnd, BitSetNot, has, word_of, members_of, intersection_word, BitSet}
+use Rattle.hibitset.specs.Prelude.{not_word, words_read, words_ahead, BitIter, BitSetAnd, BitSetNot, has, word_of, members_of, intersection_word}
+use Rattle.hibitset.specs.declared.set.BitSet.{BitSet}
 
 -- the virtual set, over references
 abbrev pub Chosen : Type 0

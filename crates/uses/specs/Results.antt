@@ -1,6 +1,7 @@
 -- What a contract sees of rows that a search found.
 use Rattle.std.specs.Prelude.{◌≡◌, ℕ, ◌+◌, ◌-◌, ◌*◌, ◌/◌, ◌<◌, ◌≤◌, Bool, true, List, length, get_or, min}
-use Rattle.hibitset.specs.Prelude.{members, members_below, has, members_of, BitSet}
+use Rattle.hibitset.specs.Prelude.{members, members_below, has, members_of}
+use Rattle.hibitset.specs.declared.set.BitSet.{BitSet}
 
 -- The number is a member, and half of the members come before it, rounded down.
 pub record IsMedian (set : BitSet) (x : ℕ) : Type 0 where

@@ -3,7 +3,8 @@ use Rattle.std.specs.Borrow.{Bor}
 use Rattle.std.proofs.lemmas.Iterator.{YieldsList-from_take, items_from_collect}
 use Rattle.std.proofs.lemmas.Iterator.Consumers.{YieldsList-from_shown, YieldsList-at}
 use Rattle.std.proofs.lemmas.Result.{IfOk-weaker}
-use Rattle.hibitset.specs.Prelude.{RevWalkSteps, rev_items_left, has, word_of, BitSet}
+use Rattle.hibitset.specs.Prelude.{RevWalkSteps, rev_items_left, has, word_of}
+use Rattle.hibitset.specs.declared.set.BitSet.{BitSet}
 use Rattle.uses.proofs.results.last_rows.Goals as goal
 
 pub returns : goal.returns

@@ -1,7 +1,8 @@
 use Rattle.std.proofs.Common.{◌≡◌, ℕ, ◌/◌, ◌<◌, List, [], ◌∷◌, length, get_or, Option, Some, None, MatchOption, refl, sym, ◌∙◌, ap, arith}
 use Rattle.std.specs.Prelude.{slice_get}
 use Rattle.std.proofs.lemmas.Option.{slice_get-get_or}
-use Rattle.hibitset.specs.Prelude.{IsNth, MAX_EID, has, members_of, BitSet}
+use Rattle.hibitset.specs.Prelude.{IsNth, MAX_EID, has, members_of}
+use Rattle.hibitset.specs.declared.set.BitSet.{BitSet}
 use Rattle.uses.specs.Results.{IsMedian}
 use Rattle.uses.proofs.results.median.Goals as goal
 
