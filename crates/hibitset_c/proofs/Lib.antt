@@ -4,10 +4,10 @@ mod CombineLemmas
 mod EmptinessLemmas
 mod HandleLemmas
 mod HashLemmas
-mod KeptHandleLemmas
 mod LengthLemmas
 mod ListLemmas
 mod NoMemberLemmas
+mod OwnedBoxLemmas
 mod RawBoxLemmas
 mod SparseLemmas
 mod StreamLemmas

@@ -6,15 +6,15 @@ ghost use Rattle.hibitset_base.specs.Members.{members_below};
 ghost use Rattle.hibitset_base.specs.Ranked.{counted_set};
 ghost use Rattle.hibitset_base.specs.declared.util.TheConstants.{MAX_EID};
 ghost use Rattle.hibitset_c.specs.Buffer.{Fills};
-ghost use Rattle.hibitset_c.specs.Seen.{has as other_has};
+ghost use Rattle.hibitset_c.specs.LentSet.{has as other_has};
 
-use crate::seen::Seen;
+use crate::lent_set::LentSet;
 use hibitset::{BitSetLike, Ranked};
 use std::alloc::Global;
 
 // How many members lie before `end`, by the counts of the set if there are any.
 #[inline]
-fn rank_by(counted: &Option<Ranked<Seen<'_>>>, set: &Seen<'_>, end: u32) -> usize
+fn rank_by(counted: &Option<Ranked<LentSet<'_>>>, set: &LentSet<'_>, end: u32) -> usize
     requires { IfSome counted.now (λ ranked. counted_set ranked ≡ set.now) }
     ensures { result ≡ length (members_below (min end MAX_EID) (other_has set.now)) }
 {
@@ -32,7 +32,7 @@ fn rank_by(counted: &Option<Ranked<Seen<'_>>>, set: &Seen<'_>, end: u32) -> usiz
 #[unsafe(no_mangle)]
 pub extern "C" fn hibitset_rank_many(
     alloc: Global,
-    set: &Seen<'_>,
+    set: &LentSet<'_>,
     ends: &[u32],
     ranks: &mut [usize],
 ) -> usize
