@@ -39,6 +39,9 @@ TYPES = {
     "&mut [u32]": [("uint32_t *", ""), ("size_t", "len")],
     "&[usize]": [("const uint64_t *", ""), ("size_t", "len")],
     "&mut [usize]": [("uint64_t *", ""), ("size_t", "len")],
+    "u64": [("uint64_t", "")],
+    "&[u64]": [("const uint64_t *", ""), ("size_t", "len")],
+    "&mut [u64]": [("uint64_t *", ""), ("size_t", "len")],
     "&[u8]": [("const uint8_t *", ""), ("size_t", "len")],
     "&mut [u8]": [("uint8_t *", ""), ("size_t", "len")],
 }

@@ -9,5 +9,7 @@ mod ListLemmas
 mod NoMemberLemmas
 mod OwnedBoxLemmas
 mod RawBoxLemmas
+mod RemovalLemmas
+mod SelectLemmas
 mod SparseLemmas
 mod StreamLemmas

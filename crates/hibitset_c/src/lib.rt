@@ -25,6 +25,7 @@ pub mod fault;
 mod fill;
 pub mod handle;
 pub mod hash;
+pub mod ids;
 pub mod lent_set;
 pub mod lists;
 pub mod order;
