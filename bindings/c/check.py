@@ -3,8 +3,8 @@
 
 Functions  Each function that the header declares without a body is an export of the crate, with the same parameters, in
            name and type, and the same result; and each export is declared.
-Layouts    `Set` and `Seen` of the crate have the same fields in the same places, and `hibitset_t` has them too; so do
-           `SparseSet` and `hibitset_sparse_t`, `AtomicSet` and `hibitset_atomic_t`, and `HeldSeat` and
+Layouts    `Set` and `LentSet` of the crate have the same fields in the same places, and `hibitset_t` has them too; so do
+           `SparseSet` and `hibitset_sparse_t`, `AtomicSet` and `hibitset_atomic_t`, and `SeatSlot` and
            `hibitset_seat_t`.
 Numbers    The enumerators of hibitset_status are the constants of status.rt, and those of hibitset_fault those of fault.rt.
 Versions   HIBITSET_VERSION is the version in the file VERSION, and its three numbers are those of the macros.
@@ -26,10 +26,10 @@ CRATE = TOP / "crates" / "hibitset_c" / "src"
 TYPES = {
     "Global": [],
     "&mut Set": [("hibitset_t *", "")],
-    "&Seen<'_>": [("const hibitset_t *", "")],
+    "&LentSet<'_>": [("const hibitset_t *", "")],
     "&mut SparseSet": [("hibitset_sparse_t *", "")],
     "&mut AtomicSet": [("hibitset_atomic_t *", "")],
-    "&mut HeldSeat": [("hibitset_seat_t *", "")],
+    "&mut SeatSlot": [("hibitset_seat_t *", "")],
     "u32": [("uint32_t", "")],
     "usize": [("size_t", "")],
     "&mut u32": [("uint32_t *", "")],
@@ -39,6 +39,9 @@ TYPES = {
     "&mut [u32]": [("uint32_t *", ""), ("size_t", "len")],
     "&[usize]": [("const uint64_t *", ""), ("size_t", "len")],
     "&mut [usize]": [("uint64_t *", ""), ("size_t", "len")],
+    "u64": [("uint64_t", "")],
+    "&[u64]": [("const uint64_t *", ""), ("size_t", "len")],
+    "&mut [u64]": [("uint64_t *", ""), ("size_t", "len")],
     "&[u8]": [("const uint8_t *", ""), ("size_t", "len")],
     "&mut [u8]": [("uint8_t *", ""), ("size_t", "len")],
 }
@@ -46,10 +49,10 @@ RESULTS = {"": "void", "bool": "bool", "usize": "size_t", "u32": "hibitset_statu
 
 # The structs of the crate that are seen as a struct of the header.
 LAYOUTS = [
-    (["Set", "Seen"], "hibitset"),
+    (["Set", "LentSet"], "hibitset"),
     (["SparseSet"], "hibitset_sparse"),
     (["AtomicSet"], "hibitset_atomic"),
-    (["HeldSeat"], "hibitset_seat"),
+    (["SeatSlot"], "hibitset_seat"),
 ]
 
 # The size of a field; all are aligned to it.
@@ -167,7 +170,7 @@ def faults(header):
         ours, theirs = of_crate.get(name), of_header.get(name)
         if ours != theirs:
             yield f"{name}: the crate exports {ours}, the header declares {theirs}"
-    files = ("words", "handle", "set", "seen", "kept_handle", "sparse_set", "atomic_set", "held_seat")
+    files = ("words", "handle", "set", "lent_set", "owned_box", "sparse_set", "atomic_set", "seat_slot")
     types = "".join((CRATE / f"{name}.rt").read_text(encoding="utf-8") for name in files)
     for ours, theirs in LAYOUTS:
         layouts = {name: fields(name, types) for name in ours} | {f"{theirs}_t": c_fields(theirs, header)}

@@ -205,6 +205,10 @@ HIBITSET_MUST_USE hibitset_status hibitset_add_range(hibitset_t *set, uint32_t s
 /* Removes an index, and returns whether it was a member. The capacity stays. */
 bool hibitset_remove(hibitset_t *set, uint32_t index);
 
+/* Removes `len` indices, and returns how many members that takes out of the set. Those that are none, or out of range,
+ * change nothing. The capacity stays. */
+size_t hibitset_remove_many(hibitset_t *set, const uint32_t *indices, size_t len);
+
 /* Removes the indices from `start` on and below `end`. The capacity stays. */
 void hibitset_remove_range(hibitset_t *set, uint32_t start, uint32_t end);
 
@@ -273,6 +277,12 @@ bool hibitset_select(const hibitset_t *set, size_t at, uint32_t *index);
  * If the memory for the counts is refused, 4 bytes for each 4,096 indices up to the last member, it counts for each end. */
 size_t hibitset_rank_many(const hibitset_t *set, const uint32_t *ends, size_t len, uint64_t *ranks, size_t ranks_len);
 
+/* Writes for each of `len` positions the member there, as hibitset_select leaves it, into `indices`, up to the first
+ * position without a member and until `indices_len` are written, and returns how many. What lies behind them in `indices`
+ * stays. It counts the members once, as hibitset_rank_many does, and then reads at most 65 words for a position. */
+size_t hibitset_select_many(const hibitset_t *set, const uint64_t *positions, size_t len, uint32_t *indices,
+                            size_t indices_len);
+
 /* Returns the number of members from `start` on and before `end`. */
 size_t hibitset_len_range(const hibitset_t *set, uint32_t start, uint32_t end);
 
@@ -296,6 +306,18 @@ bool hibitset_pop_last(hibitset_t *set, uint32_t *index);
  * nothing if end <= start.
  * HIBITSET_NO_MEMORY (never if end <= hibitset_capacity), HIBITSET_OUT_OF_RANGE: the members are unchanged. */
 HIBITSET_MUST_USE hibitset_status hibitset_flip_range(hibitset_t *set, uint32_t start, uint32_t end);
+
+/* ---- Ids of 64 bits ---- */
+
+/* Writes the members from `start` on into `buffer` as hibitset_next_many does, each plus `base`, modulo 2^64: of a set
+ * that is shard s of ids of which the low b bits are indices, with s << b as the base, these are the ids. */
+size_t hibitset_next_many_u64(const hibitset_t *set, uint32_t start, uint64_t base, uint64_t *buffer, size_t len);
+
+/* Writes for each of `len` ids its shard, id >> bits, into `highs`, and its index there, the low `bits` bits, into `lows`,
+ * until `highs_len` or `lows_len` are written, and returns how many. An id past the last shard, which is shards - 1, has
+ * `shards` as its shard. What lies behind them stays. If `bits` is more than 30, nothing is written, and 0 is returned. */
+size_t hibitset_split_ids(const uint64_t *ids, size_t len, uint32_t bits, uint32_t shards, uint32_t *highs,
+                          size_t highs_len, uint32_t *lows, size_t lows_len);
 
 /* ---- Words ---- */
 

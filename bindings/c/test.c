@@ -89,6 +89,30 @@ static void check_ranks(const hibitset_t *set, size_t members) {
     for (; i < 120; i++) CHECK(ranks[i] == UINT64_C(0xa5a5a5a5a5a5a5a5));
 }
 
+static void check_selected(const hibitset_t *set, const uint32_t *list, size_t members) {
+    uint64_t positions[100];
+    uint32_t indices[120];
+    size_t len = random_below(101), room = random_below(121), count = 0, i;
+    for (i = 0; i < len; i++) positions[i] = random_below((uint32_t)members + 1);
+    if (len > 0 && room % 2 == 0) positions[random_below((uint32_t)len)] = UINT64_MAX - random_below(5);
+    while (count < len && count < room && positions[count] < members) count++;
+    memset(indices, 0xa5, sizeof indices);
+    CHECK(hibitset_select_many(set, positions, len, indices, room) == count);
+    for (i = 0; i < count; i++) CHECK(indices[i] == list[positions[i]]);
+    for (; i < 120; i++) CHECK(indices[i] == 0xa5a5a5a5u);
+}
+
+static void check_ids(const hibitset_t *set) {
+    static const uint64_t bases[] = {0, UINT64_C(5) << 30, UINT64_MAX - 100, UINT64_MAX};
+    uint64_t base = bases[random_below(4)], ids[80];
+    uint32_t members[80], start = random_below(RANGE + 100);
+    size_t room = random_below(71), count = hibitset_next_many(set, start, members, room), i;
+    memset(ids, 0xa5, sizeof ids);
+    CHECK(hibitset_next_many_u64(set, start, base, ids, room) == count);
+    for (i = 0; i < count; i++) CHECK(ids[i] == base + members[i]);
+    for (; i < 80; i++) CHECK(ids[i] == UINT64_C(0xa5a5a5a5a5a5a5a5));
+}
+
 static void check_members(const hibitset_t *set, const unsigned char *model) {
     static uint32_t list[RANGE];
     uint32_t index = 12345, *next = list, i;
@@ -114,6 +138,8 @@ static void check_members(const hibitset_t *set, const unsigned char *model) {
     }
     check_many(set, model);
     check_ranks(set, members);
+    check_selected(set, list, members);
+    check_ids(set);
 }
 
 static void check_words(const hibitset_t *set, const unsigned char *model) {
@@ -246,6 +272,18 @@ static void remove_some(hibitset_t *set, unsigned char *model, uint32_t span) {
     }
 }
 
+static void remove_list(hibitset_t *set, unsigned char *model, uint32_t span) {
+    uint32_t list[300];
+    size_t members = 0, i;
+    for (i = 0; i < 299; i++) {
+        list[i] = random_below(span) % RANGE;
+        members += model[list[i]];
+        model[list[i]] = 0;
+    }
+    list[i] = HIBITSET_MAX_EID + random_below(5);
+    CHECK(hibitset_remove_many(set, list, 300) == members);
+}
+
 static void pop_some(hibitset_t *set, unsigned char *model) {
     uint32_t first = 0, last = RANGE, index;
     int i;
@@ -265,10 +303,11 @@ static void change(hibitset_t *x, hibitset_t *y, unsigned char *a, unsigned char
     uint32_t i, start = random_below(RANGE), end = start + random_below(round % 3 ? 300 : 100000);
     uint32_t span = 1u << random_below(19);
     if (end > RANGE) end = RANGE;
-    switch (random_below(15)) {
+    switch (random_below(16)) {
     case 0:
     case 1: add_some(x, a, span); break;
     case 2: remove_some(x, a, span); break;
+    case 14: remove_list(x, a, span); break;
     case 3: add_list(x, a, span); break;
     case 4:
         CHECK(hibitset_add_range(x, start, end) == HIBITSET_OK);
@@ -373,7 +412,9 @@ static void look_at_empty(const hibitset_t *set, const hibitset_t *other) {
     CHECK(hibitset_next_many(set, 0, NULL, 0) == 0 && hibitset_not_next_many(set, 0, NULL, 0) == 0);
     CHECK(hibitset_contains_many(set, &index, 1, &found, 1) == 1 && found == 0);
     CHECK(hibitset_rank_many(set, &index, 1, words, 1) == 1 && words[0] == 0);
+    CHECK(hibitset_select_many(set, words, 1, &index, 1) == 0 && index == 7);
     words[0] = 7;
+    CHECK(hibitset_next_many_u64(set, 0, 5, words, 2) == 0 && words[0] == 7);
     hibitset_copy_words(set, 0, words, 1);
     CHECK(words[0] == 0 && words[1] == 7 && hibitset_hash(set) == hibitset_hash(other));
     CHECK(hibitset_first_gap(set, 5, &index) && index == 5);
@@ -393,6 +434,7 @@ static void leave_empty(hibitset_t *set, const hibitset_t *other) {
     uint32_t index = 7;
     size_t added = 7;
     long before = allocations;
+    CHECK(hibitset_remove_many(set, &index, 1) == 0 && hibitset_remove_many(set, NULL, 0) == 0);
     CHECK(!hibitset_remove(set, 5) && !hibitset_pop_first(set, &index) && !hibitset_pop_last(set, &index) && index == 7);
     CHECK(hibitset_flip_range(set, 10, 10) == HIBITSET_OK && hibitset_flip_range(set, 10, 5) == HIBITSET_OK);
     hibitset_remove_range(set, 0, 100);
@@ -514,10 +556,35 @@ static void version(void) {
     CHECK(strcmp(text, HIBITSET_VERSION) == 0 && strcmp(hibitset_version(), HIBITSET_VERSION) == 0 && hibitset_abi_0 == 0);
 }
 
+/* Ids by shards, beside C's own operators. */
+static void split_ids(void) {
+    uint64_t ids[60];
+    uint32_t highs[70], lows[70], bits, shards;
+    size_t len, highs_len, lows_len, count, i, round;
+    for (round = 0; round < 2000; round++) {
+        bits = random_below(33);
+        shards = random_below(2) ? random_below(20) : UINT32_MAX - random_below(3);
+        len = random_below(61), highs_len = random_below(66), lows_len = random_below(66);
+        for (i = 0; i < len; i++) ids[i] = ((uint64_t)random_below(UINT32_MAX) << 32 | random_below(UINT32_MAX)) >> random_below(64);
+        count = len < highs_len ? len : highs_len;
+        if (lows_len < count) count = lows_len;
+        if (bits > 30) count = 0;
+        memset(highs, 0xa5, sizeof highs);
+        memset(lows, 0xa5, sizeof lows);
+        CHECK(hibitset_split_ids(ids, len, bits, shards, highs, highs_len, lows, lows_len) == count);
+        for (i = 0; i < count; i++) {
+            CHECK(highs[i] == (ids[i] >> bits < shards ? ids[i] >> bits : shards));
+            CHECK(lows[i] == (ids[i] & ((UINT64_C(1) << bits) - 1)));
+        }
+        for (; i < 70; i++) CHECK(highs[i] == 0xa5a5a5a5u && lows[i] == 0xa5a5a5a5u);
+    }
+}
+
 /* NULL is a buffer of length 0, also where there are members. */
 static void null_buffers(void) {
     hibitset_t set = hibitset_new();
     uint32_t index = 7;
+    uint64_t word = 7;
     uint8_t found = 7;
     size_t added = 7;
     CHECK(hibitset_add_range(&set, 5, 5000) == HIBITSET_OK);
@@ -526,6 +593,9 @@ static void null_buffers(void) {
     CHECK(hibitset_contains_many(&set, NULL, 0, &found, 1) == 0 && hibitset_contains_many(&set, &index, 1, NULL, 0) == 0);
     hibitset_copy_words(&set, 0, NULL, 0);
     CHECK(found == 7);
+    CHECK(hibitset_select_many(&set, NULL, 0, &index, 1) == 0 && hibitset_select_many(&set, &word, 1, NULL, 0) == 0);
+    CHECK(hibitset_next_many_u64(&set, 0, 5, NULL, 0) == 0 && hibitset_remove_many(&set, NULL, 0) == 0 && index == 7);
+    CHECK(hibitset_split_ids(NULL, 0, 30, 1, &index, 1, &index, 0) == 0 && hibitset_split_ids(&word, 1, 30, 1, NULL, 0, NULL, 0) == 0);
     CHECK(hibitset_and_next_many(&set, &set, 0, NULL, 0) == 0 && hibitset_or_next_many(&set, &set, 0, NULL, 0) == 0);
     CHECK(hibitset_xor_next_many(&set, &set, 0, NULL, 0) == 0 && hibitset_andnot_next_many(&set, &set, 0, NULL, 0) == 0);
     CHECK(hibitset_add_many(&set, NULL, 0, &added) == HIBITSET_OK && added == 0 && hibitset_len(&set) == 4995);
@@ -753,6 +823,7 @@ int main(void) {
     empty_sets();
     texts();
     version();
+    split_ids();
     null_buffers();
     out_of_range();
     one_set_twice();

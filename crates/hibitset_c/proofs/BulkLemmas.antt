@@ -1,7 +1,7 @@
 -- Lists that are written from the beginning on: what is made of each item of another, and words with zeros behind them.
-use Rattle.std.proofs.Common.{◌≡◌, ℕ, ◌+◌, ◌-◌, ◌<◌, min, List, ◌++◌, take, drop, length, map, get_or, replicate, sym, ap, ◌∙◌, inl, inr, arith}
+use Rattle.std.proofs.Common.{◌≡◌, ℕ, ◌+◌, ◌-◌, ◌<◌, min, List, [], ◌∷◌, ◌++◌, ◌≤◌, take, drop, length, map, get_or, slice_index, slice_set, replicate, sym, ap, ap₂, ◌∙◌, inl, inr, arith}
 use Rattle.std.proofs.lemmas.Bool.{cases_lt}
-use Rattle.std.proofs.lemmas.List.{take-map, take_min, take_rest, get_or_append_left, get_or-append_right, get_or-take, get_or-drop, get_or_past, get_or-replicate, length-take, length-append, length-drop, length-replicate}
+use Rattle.std.proofs.lemmas.List.{take-map, take_all, take_more, take_more_set, length-map, map-append, drop-drop, drop-set-lt, take_min, take_rest, get_or_append_left, get_or-append_right, get_or-take, get_or-drop, get_or_past, get_or-replicate, length-take, length-append, length-drop, length-replicate}
 use Rattle.hibitset_c.specs.Buffer.{Fills}
 
 min-comm : (x y : ℕ) → min x y ≡ min y x
@@ -17,6 +17,30 @@ fills_map f items old new slot count at most written rest same = record {
   rest = ap (λ n. drop n new) (sym at) ∙ (rest ∙ ap (λ n. drop n old) at);
   length_stays = same;
 }
+
+-- the same of the first items of a list
+pub fills_first : (f : ℕ → ℕ) (items old new : List ℕ) (count : ℕ) → count ≤ length old → take count new ≡ map f (take count items) → drop count new ≡ drop count old → length new ≡ length old → Fills (map f (take count items)) old count new
+fills_first f items old new count within written rest same = record {
+  written =
+      let few : length (map f (take count items)) ≤ length old = let m = length-map (take count items) f in let t = length-take count items in omega (arith, m, t, within) in
+      written ∙ sym (take_all (length old) (map f (take count items)) few);
+  within = within;
+  rest = rest;
+  length_stays = same;
+}
+
+-- one more item is written
+pub next_written : (f : ℕ → ℕ) (items buffer : List ℕ) (slot x : ℕ) → slot < length buffer → slot < length items → take slot buffer ≡ map f (take slot items) → x ≡ f (slice_index items slot)
+    → take (slot + 1) (slice_set buffer slot x) ≡ map f (take (slot + 1) items)
+next_written f items buffer slot x room there before is =
+    take_more_set buffer slot x room
+    ∙ (ap₂ (λ xs y. xs ++ y ∷ []) before is
+    ∙ (sym (map-append f (take slot items) (slice_index items slot ∷ []))
+    ∙ ap (map f) (sym (take_more items slot 0 there))))
+
+-- and what lies behind it stays
+pub next_rest : (old buffer : List ℕ) (slot x : ℕ) → drop slot buffer ≡ drop slot old → drop (slot + 1) (slice_set buffer slot x) ≡ drop (slot + 1) old
+next_rest old buffer slot x before = drop-set-lt (slot + 1) buffer slot x (omega arith) ∙ (sym (drop-drop 1 slot buffer) ∙ (ap (drop 1) before ∙ drop-drop 1 slot old))
 
 -- The words from a position on that a buffer has room for, in front of what it had.
 module _ (layer old front : List ℕ) (from count : ℕ) (count-is : count ≡ min (length layer - from) (length old)) (front-is : front ≡ take count (drop from layer)) where

@@ -13,12 +13,12 @@ use Rattle.hibitset_base.specs.Virtual.{differ, xor_word, not_word, and_lawful, 
 use Rattle.hibitset_base.specs.declared.util.TheConstants.{LAYERS, MAX_EID}
 use Rattle.hibitset.specs.Extension.{MembersEndBy}
 use Rattle.hibitset.specs.Merge.{AreWords, NoWordsFrom}
-use Rattle.hibitset_c.specs.Seen.{has, word_of, has_is_lawful}
-use Rattle.hibitset_c.specs.declared.seen.Seen.{Seen}
+use Rattle.hibitset_c.specs.LentSet.{has, word_of, has_is_lawful}
+use Rattle.hibitset_c.specs.declared.lent_set.LentSet.{LentSet}
 use Rattle.hibitset_c.proofs.NoMemberLemmas.{bit_of_none}
 
 -- from the bound of all indices on a set that C lends has no member
-past : (set : Seen) (i : ℕ) → MAX_EID ≤ i → has set i ≡ false
+past : (set : LentSet) (i : ℕ) → MAX_EID ≤ i → has set i ≡ false
 unfolding has word_of
 past set i from =
     let short = set.short in
@@ -40,7 +40,7 @@ no_words_past holds w new end lawful fits same ends p range after =
     ∙ (ap bit_of (false_from_ne_true (holds (64 * p + b)) (λ on. let h = ends (64 * p + b) (same (64 * p + b) ∙ on) in omega (arith, h, after, small)))
     ∙ sym (bit_at-zero b)))
 
-module _ (a b : Seen) (new : ℕ → Bool) where
+module _ (a b : LentSet) (new : ℕ → Bool) where
   pub and_members : ((i : ℕ) → new i ≡ is_member (λ i. has a i && has b i) i) → IsIntersection (has a) (has b) new
   and_members same i = same i ∙ every (λ i. has a i && has b i) (λ i from. rw (past a i from) refl) i
 

@@ -7,9 +7,9 @@ use Rattle.std.proofs.lemmas.Nat.Bits.{bit_at_lowest, bit_at-suc}
 use Rattle.hibitset_base.specs.Sets.{bit_of}
 use Rattle.hibitset_base.specs.declared.util.TheConstants.{LAYERS}
 use Rattle.hibitset_c.specs.Hash.{member_bits, with_word, hash_to, hash_of}
-use Rattle.hibitset_c.specs.Seen.{has, word_of, has_is_lawful}
+use Rattle.hibitset_c.specs.LentSet.{has, word_of, has_is_lawful}
 use Rattle.hibitset_c.specs.declared.hash.TheConstants.{SEED}
-use Rattle.hibitset_c.specs.declared.seen.Seen.{Seen}
+use Rattle.hibitset_c.specs.declared.lent_set.LentSet.{LentSet}
 
 double : (x : ℕ) → x ≡ x % 2 + 2 * (x / 2)
 double x = omega arith
@@ -30,7 +30,7 @@ by_bits holds a (suc n) w fits bits =
     double w ∙ (ap (λ x. x + 2 * (w / 2)) low ∙ ap (λ x. bit_of (holds a) + 2 * x) rest)
 
 -- the word of a set at a position has the bits of its members there
-pub word_bits : (set : Seen) (p : ℕ) → p < 64 ^ (LAYERS - 1) → get_or set.layer0.now p 0 < 2 ^ 64 → get_or set.layer0.now p 0 ≡ member_bits (has set) (64 * p) 64
+pub word_bits : (set : LentSet) (p : ℕ) → p < 64 ^ (LAYERS - 1) → get_or set.layer0.now p 0 < 2 ^ 64 → get_or set.layer0.now p 0 ≡ member_bits (has set) (64 * p) 64
 unfolding word_of
 word_bits set p range fits = by_bits (has set) (64 * p) 64 (get_or set.layer0.now p 0) fits (λ b small. (has_is_lawful set).members p b range small)
 
@@ -59,7 +59,7 @@ hash_past holds n (suc k) none =
     ∙ hash_past holds n k (λ p from below. none p from (omega (arith, below)))))
 
 -- past the last word of layer 0 there are none
-pub hash_whole : (set : Seen) → hash_to (has set) (length set.layer0.now) ≡ hash_of (has set)
+pub hash_whole : (set : LentSet) → hash_to (has set) (length set.layer0.now) ≡ hash_of (has set)
 hash_whole set =
     let short = set.short in
     let words = set.layer0.now in

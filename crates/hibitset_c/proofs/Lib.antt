@@ -4,10 +4,12 @@ mod CombineLemmas
 mod EmptinessLemmas
 mod HandleLemmas
 mod HashLemmas
-mod KeptHandleLemmas
 mod LengthLemmas
 mod ListLemmas
 mod NoMemberLemmas
+mod OwnedBoxLemmas
 mod RawBoxLemmas
+mod RemovalLemmas
+mod SelectLemmas
 mod SparseLemmas
 mod StreamLemmas

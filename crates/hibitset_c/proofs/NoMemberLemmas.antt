@@ -9,8 +9,8 @@ use Rattle.hibitset_base.specs.declared.util.TheConstants.{MAX_EID}
 use Rattle.hibitset_base.proofs.FirstLemmas.{none_below}
 use Rattle.hibitset_base.proofs.MemberLemmas.{members-none}
 use Rattle.hibitset.specs.Merge.{NoWordsFrom}
-use Rattle.hibitset_c.specs.Seen.{has, word_of}
-use Rattle.hibitset_c.specs.declared.seen.Seen.{Seen}
+use Rattle.hibitset_c.specs.LentSet.{has, word_of}
+use Rattle.hibitset_c.specs.declared.lent_set.LentSet.{LentSet}
 
 neither : (b c : Bool) → (b ≡ true → c ≡ false) → (b && c) ≡ false
 neither true c h = h refl
@@ -38,7 +38,7 @@ module _ (old other : ℕ → Bool) (none : members_below MAX_EID other ≡ []) 
 pub bit_of_none : (b : ℕ) → (bit_at 0 b == 1) ≡ false
 bit_of_none b = grind (arith, nat_tests)
 
-pub no_words : (set : Seen) → NoWordsFrom (word_of set) 0 → members_below MAX_EID (has set) ≡ []
+pub no_words : (set : LentSet) → NoWordsFrom (word_of set) 0 → members_below MAX_EID (has set) ≡ []
 unfolding has
 no_words set none = members-none (has set) 0 MAX_EID (λ i from below.
     ap (λ w. bit_at w (i % 64) == 1) (none (i / 64) (omega arith) (omega arith)) ∙ bit_of_none (i % 64))

@@ -16,8 +16,8 @@ use Rattle.hibitset_sparse.specs.SparseBitSet.{has, word_of, has_is_lawful}
 use Rattle.hibitset_sparse.specs.declared.set.SparseBitSet.{SparseBitSet}
 use Rattle.hibitset_sparse.proofs.ExactLemmas.{members-within, words-fit}
 use Rattle.hibitset_c.specs.Sparse.{has_in}
-use Rattle.hibitset_c.specs.declared.kept.Kept.{Kept}
-use Rattle.hibitset_c.specs.declared.kept.Kept.TheVariants.{Alone, Seated, Sparse, Nothing}
+use Rattle.hibitset_c.specs.declared.set_or_seat.SetOrSeat.{SetOrSeat}
+use Rattle.hibitset_c.specs.declared.set_or_seat.SetOrSeat.TheVariants.{Alone, Seated, Sparse, Nothing}
 use Rattle.hibitset_c.proofs.CombineLemmas.{every, no_words_past}
 use Rattle.hibitset_c.proofs.NoMemberLemmas.{or_stays, xor_stays}
 
@@ -56,10 +56,10 @@ pub no_end : (set : SparseBitSet) → MembersEndBy (has set) 0 → members_below
 no_end set ends = members-none (has set) 0 MAX_EID (λ i from below. false_from_ne_true (has set i) (λ on. let h = ends i on in omega (arith, h)))
 
 -- what lies behind a handle, seen through a loan of it
-pub is_kept : (kept : Option Kept) (lent : Kept) (set : SparseBitSet) → kept ≡ Some lent → lent ≡ Sparse set → kept ≡ Some (Sparse set)
-is_kept kept lent set is what = is ∙ ap Some what
+pub content_is : (content : Option SetOrSeat) (lent : SetOrSeat) (set : SparseBitSet) → content ≡ Some lent → lent ≡ Sparse set → content ≡ Some (Sparse set)
+content_is content lent set is what = is ∙ ap Some what
 
-past_in : (kept : Option Kept) (i : ℕ) → MAX_EID ≤ i → has_in kept i ≡ false
+past_in : (content : Option SetOrSeat) (i : ℕ) → MAX_EID ≤ i → has_in content i ≡ false
 past_in None i from = refl
 past_in (Some (Alone set)) i from = refl
 past_in (Some (Seated m)) i from = refl
@@ -67,17 +67,17 @@ past_in (Some (Sparse set)) i from = past set i from
 past_in (Some Nothing) i from = refl
 
 -- what C keeps without a member adds none
-module _ (old : ℕ → Bool) (kept : Option Kept) (none : members_below MAX_EID (has_in kept) ≡ []) where
-  pub or_none : IsUnion old (has_in kept) old
-  or_none i = or_stays old (has_in kept) none i ∙ ap (λ b. old i || b) (every (has_in kept) (past_in kept) i)
+module _ (old : ℕ → Bool) (content : Option SetOrSeat) (none : members_below MAX_EID (has_in content) ≡ []) where
+  pub or_none : IsUnion old (has_in content) old
+  or_none i = or_stays old (has_in content) none i ∙ ap (λ b. old i || b) (every (has_in content) (past_in content) i)
 
-  pub xor_none : IsSymmetricDifference old (has_in kept) old
-  xor_none i = xor_stays old (has_in kept) none i ∙ ap (λ b. differ (old i) b) (every (has_in kept) (past_in kept) i)
+  pub xor_none : IsSymmetricDifference old (has_in content) old
+  xor_none i = xor_stays old (has_in content) none i ∙ ap (λ b. differ (old i) b) (every (has_in content) (past_in content) i)
 
 -- the set that there is not has each member of another only if that has none
-pub subset_of_none : (kept other : Option Kept) → is_some other ≡ false → (members_below MAX_EID (has_in kept) ≡ []) ↔ IsSubset MAX_EID (has_in kept) (has_in other)
-subset_of_none kept (Some held) none = absurd (true≢false none)
-subset_of_none kept None none = (
-  λ empty i below on. absurd (true≢false (sym on ∙ none_below MAX_EID (has_in kept) empty i below)),
-  λ within. members-none (has_in kept) 0 MAX_EID (λ i from below. false_from_ne_true (has_in kept i) (λ on. true≢false (sym (within i (omega (arith, below)) on)))),
+pub subset_of_none : (content other : Option SetOrSeat) → is_some other ≡ false → (members_below MAX_EID (has_in content) ≡ []) ↔ IsSubset MAX_EID (has_in content) (has_in other)
+subset_of_none content (Some held) none = absurd (true≢false none)
+subset_of_none content None none = (
+  λ empty i below on. absurd (true≢false (sym on ∙ none_below MAX_EID (has_in content) empty i below)),
+  λ within. members-none (has_in content) 0 MAX_EID (λ i from below. false_from_ne_true (has_in content i) (λ on. true≢false (sym (within i (omega (arith, below)) on)))),
 )

@@ -4,10 +4,10 @@ use Rattle.hibitset.specs.WordBits.{stands_in}
 use Rattle.hibitset_roaring.specs.Format.{IsCanonicalStream, IsPlainStream}
 use Rattle.hibitset_roaring.specs.Words.{AreSummaries}
 use Rattle.hibitset_roaring.proofs.AppendLemmas.{canonical_same}
-use Rattle.hibitset_c.specs.Seen.{has, word_of}
-use Rattle.hibitset_c.specs.declared.seen.Seen.{Seen}
+use Rattle.hibitset_c.specs.LentSet.{has, word_of}
+use Rattle.hibitset_c.specs.declared.lent_set.LentSet.{LentSet}
 
-module _ (set : Seen) where
+module _ (set : LentSet) where
   same_members : (i : ℕ) → has set i ≡ stands_in set.layer0.now i
   unfolding has word_of
   same_members i = refl

@@ -12,7 +12,7 @@ ghost use Rattle.hibitset_c.specs.declared.status.TheConstants.{OK, PRESENT, NO_
 
 use crate::atomic_set::AtomicSet;
 use crate::fill::fill;
-use crate::kept::Kept;
+use crate::set_or_seat::SetOrSeat;
 use crate::status::{NO_MEMORY, OK, OUT_OF_RANGE, PRESENT};
 use hibitset::{ATOMIC_MAX_EID, BitSetLike, LAYERS};
 use std::alloc::Global;
@@ -52,7 +52,7 @@ pub extern "C" fn hibitset_atomic_add(alloc: Global, set: &mut AtomicSet, index:
     if !set.make(alloc) {
         return NO_MEMORY;
     }
-    let Kept::Alone(members) = set.handle.as_mut() else {
+    let SetOrSeat::Alone(members) = set.handle.as_mut() else {
         unreachable!()
     };
     match members.add(index) {
@@ -72,7 +72,7 @@ pub extern "C" fn hibitset_atomic_remove(set: &mut AtomicSet, index: u32) -> boo
     if !set.made {
         return false;
     }
-    let Kept::Alone(members) = set.handle.as_mut() else {
+    let SetOrSeat::Alone(members) = set.handle.as_mut() else {
         unreachable!()
     };
     members.remove(index)
@@ -87,7 +87,7 @@ pub extern "C" fn hibitset_atomic_contains(set: &mut AtomicSet, index: u32) -> b
     if !set.made {
         return false;
     }
-    let Kept::Alone(members) = set.handle.as_mut() else {
+    let SetOrSeat::Alone(members) = set.handle.as_mut() else {
         unreachable!()
     };
     members.contains(index)
@@ -101,7 +101,7 @@ pub extern "C" fn hibitset_atomic_clear(set: &mut AtomicSet)
     ensures room { AllBlocksReserved set.old → AllBlocksReserved set.new }
 {
     if set.made {
-        let Kept::Alone(members) = set.handle.as_mut() else {
+        let SetOrSeat::Alone(members) = set.handle.as_mut() else {
             unreachable!()
         };
         members.clear();
@@ -118,7 +118,7 @@ pub extern "C" fn hibitset_atomic_len(set: &mut AtomicSet) -> usize
     if !set.made {
         return 0;
     }
-    let Kept::Alone(members) = set.handle.as_mut() else {
+    let SetOrSeat::Alone(members) = set.handle.as_mut() else {
         unreachable!()
     };
     members.len()
@@ -134,7 +134,7 @@ pub extern "C" fn hibitset_atomic_is_empty(set: &mut AtomicSet) -> bool
     if !set.made {
         return true;
     }
-    let Kept::Alone(members) = set.handle.as_mut() else {
+    let SetOrSeat::Alone(members) = set.handle.as_mut() else {
         unreachable!()
     };
     members.is_empty()
@@ -151,7 +151,7 @@ pub extern "C" fn hibitset_atomic_first(set: &mut AtomicSet, index: &mut u32) ->
     if !set.made {
         return false;
     }
-    let Kept::Alone(members) = set.handle.as_mut() else {
+    let SetOrSeat::Alone(members) = set.handle.as_mut() else {
         unreachable!()
     };
     match members.first() {
@@ -174,7 +174,7 @@ pub extern "C" fn hibitset_atomic_last(set: &mut AtomicSet, index: &mut u32) -> 
     if !set.made {
         return false;
     }
-    let Kept::Alone(members) = set.handle.as_mut() else {
+    let SetOrSeat::Alone(members) = set.handle.as_mut() else {
         unreachable!()
     };
     match members.last() {
@@ -202,7 +202,7 @@ pub extern "C" fn hibitset_atomic_next_many(
     if !set.made {
         return 0;
     }
-    let Kept::Alone(members) = set.handle.as_mut() else {
+    let SetOrSeat::Alone(members) = set.handle.as_mut() else {
         unreachable!()
     };
     fill(&*members, start, buffer)
@@ -219,7 +219,7 @@ pub extern "C" fn hibitset_atomic_word(set: &mut AtomicSet, layer: usize, positi
     if !set.made || layer >= LAYERS {
         return 0;
     }
-    let Kept::Alone(members) = set.handle.as_mut() else {
+    let SetOrSeat::Alone(members) = set.handle.as_mut() else {
         unreachable!()
     };
     members.get_from_layer(layer, position)

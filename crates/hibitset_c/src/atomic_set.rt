@@ -2,12 +2,12 @@
 #![tactic(auto)]
 
 ghost use Rattle.std.specs.Prelude.{◌≡◌, is_some};
-ghost use Rattle.hibitset_c.specs.KeptSet.{is_alone_at};
+ghost use Rattle.hibitset_c.specs.SetOrSeat.{is_alone_at};
 
-use crate::kept::Kept;
-use crate::kept_handle::KeptHandle;
+use crate::owned_box::OwnedBox;
 use crate::raw_box::RawBox;
 use crate::set::sent;
+use crate::set_or_seat::SetOrSeat;
 use hibitset::AtomicBitSet;
 use std::alloc::Global;
 
@@ -18,16 +18,16 @@ use std::alloc::Global;
 #[repr(C)]
 #[derive(Drop)]
 pub struct AtomicSet {
-    pub(crate) handle: KeptHandle,
+    pub(crate) handle: OwnedBox,
     pub(crate) made: bool,
-    ghost tells: { made ≡ is_some handle.kept },
-    ghost alone: { made ≡ is_alone_at handle.kept },
+    ghost tells: { made ≡ is_some handle.content },
+    ghost alone: { made ≡ is_alone_at handle.content },
 }
 
 impl AtomicSet {
     ghost use Rattle.std.specs.Prelude.{◌↔◌, ℕ, true, false, Some};
     ghost use Rattle.hibitset_c.specs.Atomic.{has, NeedsAllocation, AllBlocksReserved, OwnsNoMemory};
-    ghost use Rattle.hibitset_c.specs.KeptSet.{is_alone};
+    ghost use Rattle.hibitset_c.specs.SetOrSeat.{is_alone};
 
     // Makes an empty set where there is none.
     #[inline(never)]
@@ -40,9 +40,9 @@ impl AtomicSet {
         let Ok(set) = AtomicBitSet::new(alloc) else {
             return false;
         };
-        match Box::new(alloc, Kept::Alone(set)) {
-            Ok(kept) => {
-                self.handle = KeptHandle::of(RawBox::from_box(kept));
+        match Box::new(alloc, SetOrSeat::Alone(set)) {
+            Ok(content) => {
+                self.handle = OwnedBox::of(RawBox::from_box(content));
                 self.made = true;
                 true
             }
@@ -73,9 +73,9 @@ impl AtomicSet {
     }
 
     // Takes the set out.
-    pub(crate) fn take(&mut self, alloc: Global) -> Box<Kept, Global>
+    pub(crate) fn take(&mut self, alloc: Global) -> Box<SetOrSeat, Global>
         requires { self.old.made ≡ true }
-        ensures taken { self.old.handle.kept ≡ Some result.value }
+        ensures taken { self.old.handle.content ≡ Some result.value }
         ensures freed { OwnsNoMemory self.new }
     {
         self.made = false;
@@ -83,12 +83,12 @@ impl AtomicSet {
     }
 
     // Puts a set in the place of what there is.
-    pub(crate) fn replace(&mut self, alloc: Global, kept: Box<Kept, Global>)
-        requires { is_alone kept.value ≡ true }
-        ensures { self.new.handle.kept ≡ Some kept.value }
+    pub(crate) fn replace(&mut self, alloc: Global, content: Box<SetOrSeat, Global>)
+        requires { is_alone content.value ≡ true }
+        ensures { self.new.handle.content ≡ Some content.value }
     {
         self.release(alloc);
-        self.handle = KeptHandle::of(RawBox::from_box(kept));
+        self.handle = OwnedBox::of(RawBox::from_box(content));
         self.made = true;
     }
 }

@@ -5,12 +5,12 @@ ghost use Rattle.std.specs.Prelude.{◌≡◌, ◌≢◌, ◌⊎◌, ◌↔◌, 
 ghost use Rattle.hibitset_base.specs.declared.util.TheConstants.{LAYERS, MAX_EID};
 ghost use Rattle.hibitset.specs.BitSet.{has as bits_have, slice_len};
 ghost use Rattle.hibitset.specs.WordBits.{stands_in};
+ghost use Rattle.hibitset_c.specs.LentSet.{has as other_has};
 ghost use Rattle.hibitset_c.specs.List.{AddsFirst, StopsAt};
-ghost use Rattle.hibitset_c.specs.Seen.{has as other_has};
 ghost use Rattle.hibitset_c.specs.Set.{has, layer0_len};
 ghost use Rattle.hibitset_c.specs.declared.status.TheConstants.{OK, NO_MEMORY, OUT_OF_RANGE};
 
-use crate::seen::Seen;
+use crate::lent_set::LentSet;
 use crate::set::Set;
 use crate::status::{NO_MEMORY, OK, OUT_OF_RANGE};
 use hibitset::{BitSet, Index, MAX_EID};
@@ -66,9 +66,9 @@ pub extern "C" fn hibitset_assign_words(alloc: Global, set: &mut Set, words: &[u
 }
 
 /// Makes it a copy of the other set.
-#[tactic(auto, unfolding(crate::specs::Seen::has, crate::specs::Seen::word_of))]
+#[tactic(auto, unfolding(crate::specs::LentSet::has, crate::specs::LentSet::word_of))]
 #[unsafe(no_mangle)]
-pub extern "C" fn hibitset_internal_assign(alloc: Global, set: &mut Set, other: &Seen<'_>) -> u32
+pub extern "C" fn hibitset_internal_assign(alloc: Global, set: &mut Set, other: &LentSet<'_>) -> u32
     ensures members { result ≡ OK → (i : ℕ) → has set.new i ≡ other_has other.now i }
     ensures err { result ≢ OK → (i : ℕ) → has set.new i ≡ has set.old i }
     ensures status { (result ≡ OK) ⊎ (result ≡ NO_MEMORY) }

@@ -6,11 +6,11 @@ ghost use Rattle.hibitset_base.specs.Connectives.{is_member, IsDifference, IsSym
 ghost use Rattle.hibitset_base.specs.declared.util.TheConstants.{MAX_EID};
 ghost use Rattle.hibitset.specs.Merge.{NoWordsFrom};
 ghost use Rattle.hibitset.specs.WordBits.{in_range};
-ghost use Rattle.hibitset_c.specs.Seen.{has as other_has, word_of as other_word};
+ghost use Rattle.hibitset_c.specs.LentSet.{has as other_has, word_of as other_word};
 ghost use Rattle.hibitset_c.specs.Set.{has, layer0_len, OwnsNoMemory};
 ghost use Rattle.hibitset_c.specs.declared.status.TheConstants.{OK, PRESENT, NO_MEMORY, OUT_OF_RANGE};
 
-use crate::seen::Seen;
+use crate::lent_set::LentSet;
 use crate::set::Set;
 use crate::status::{NO_MEMORY, OK, OUT_OF_RANGE, PRESENT};
 use hibitset::{BitSetLike, MAX_EID};
@@ -178,7 +178,7 @@ pub extern "C" fn hibitset_remove_range(set: &mut Set, start: u32, end: u32)
 
 /// Removes the members that the other set lacks.
 #[unsafe(no_mangle)]
-pub extern "C" fn hibitset_internal_and_assign(set: &mut Set, other: &Seen<'_>)
+pub extern "C" fn hibitset_internal_and_assign(set: &mut Set, other: &LentSet<'_>)
     ensures members { IsIntersection (has set.old) (other_has other.now) (has set.new) }
     ensures length { layer0_len set.new ≡ layer0_len set.old }
 {
@@ -191,7 +191,7 @@ pub extern "C" fn hibitset_internal_and_assign(set: &mut Set, other: &Seen<'_>)
 
 /// Removes the members that the other set has.
 #[unsafe(no_mangle)]
-pub extern "C" fn hibitset_internal_andnot_assign(set: &mut Set, other: &Seen<'_>)
+pub extern "C" fn hibitset_internal_andnot_assign(set: &mut Set, other: &LentSet<'_>)
     ensures members { IsDifference (has set.old) (other_has other.now) (has set.new) }
     ensures length { layer0_len set.new ≡ layer0_len set.old }
 {
@@ -204,7 +204,11 @@ pub extern "C" fn hibitset_internal_andnot_assign(set: &mut Set, other: &Seen<'_
 
 /// Adds the members of the other set.
 #[unsafe(no_mangle)]
-pub extern "C" fn hibitset_internal_or_assign(alloc: Global, set: &mut Set, other: &Seen<'_>) -> u32
+pub extern "C" fn hibitset_internal_or_assign(
+    alloc: Global,
+    set: &mut Set,
+    other: &LentSet<'_>,
+) -> u32
     ensures members { result ≡ OK → IsUnion (has set.old) (is_member (other_has other.now))
         (has set.new) }
     ensures err { result ≢ OK → (i : ℕ) → has set.new i ≡ has set.old i }
@@ -237,7 +241,7 @@ pub extern "C" fn hibitset_internal_or_assign(alloc: Global, set: &mut Set, othe
 pub extern "C" fn hibitset_internal_xor_assign(
     alloc: Global,
     set: &mut Set,
-    other: &Seen<'_>,
+    other: &LentSet<'_>,
 ) -> u32
     ensures members { result ≡ OK → IsSymmetricDifference (has set.old)
         (is_member (other_has other.now)) (has set.new) }

@@ -5,11 +5,11 @@ ghost use Rattle.std.specs.Prelude.{◌≡◌, ◌≢◌, ◌⊎◌, ℕ, ◌≤
 ghost use Rattle.hibitset_base.specs.Connectives.{is_member, IsDifference, IsSymmetricDifference, IsIntersection, IsUnion};
 ghost use Rattle.hibitset.specs.Extension.{MembersEndBy};
 ghost use Rattle.hibitset.specs.Merge.{NoWordsFrom};
-ghost use Rattle.hibitset_c.specs.Seen.{has as other_has};
+ghost use Rattle.hibitset_c.specs.LentSet.{has as other_has};
 ghost use Rattle.hibitset_c.specs.Set.{has, layer0_len};
 ghost use Rattle.hibitset_c.specs.declared.status.TheConstants.{OK, NO_MEMORY};
 
-use crate::seen::{Seen, are_words};
+use crate::lent_set::{LentSet, are_words};
 use crate::set::Set;
 use crate::status::{NO_MEMORY, OK};
 use hibitset::{BitSet, BitSetAnd, BitSetLike, BitSetNot, BitSetOr, BitSetXor};
@@ -38,7 +38,12 @@ pub(crate) fn make_of<B: BitSetLike>(alloc: Global, out: &mut Set, other: B) -> 
 
 /// Makes `out` the set of the indices that both sets have.
 #[unsafe(no_mangle)]
-pub extern "C" fn hibitset_and(alloc: Global, a: &Seen<'_>, b: &Seen<'_>, out: &mut Set) -> u32
+pub extern "C" fn hibitset_and(
+    alloc: Global,
+    a: &LentSet<'_>,
+    b: &LentSet<'_>,
+    out: &mut Set,
+) -> u32
     ensures members { result ≡ OK → IsIntersection (other_has a.now) (other_has b.now)
         (has out.new) }
     ensures err { result ≢ OK → (i : ℕ) → has out.new i ≡ has out.old i }
@@ -54,7 +59,7 @@ pub extern "C" fn hibitset_and(alloc: Global, a: &Seen<'_>, b: &Seen<'_>, out: &
 
 /// Makes `out` the set of the indices that at least one of the two sets has.
 #[unsafe(no_mangle)]
-pub extern "C" fn hibitset_or(alloc: Global, a: &Seen<'_>, b: &Seen<'_>, out: &mut Set) -> u32
+pub extern "C" fn hibitset_or(alloc: Global, a: &LentSet<'_>, b: &LentSet<'_>, out: &mut Set) -> u32
     ensures members { result ≡ OK → IsUnion (other_has a.now) (other_has b.now) (has out.new) }
     ensures err { result ≢ OK → (i : ℕ) → has out.new i ≡ has out.old i }
     ensures status { (result ≡ OK) ⊎ (result ≡ NO_MEMORY) }
@@ -69,7 +74,12 @@ pub extern "C" fn hibitset_or(alloc: Global, a: &Seen<'_>, b: &Seen<'_>, out: &m
 
 /// Makes `out` the set of the indices that one of the two sets has alone.
 #[unsafe(no_mangle)]
-pub extern "C" fn hibitset_xor(alloc: Global, a: &Seen<'_>, b: &Seen<'_>, out: &mut Set) -> u32
+pub extern "C" fn hibitset_xor(
+    alloc: Global,
+    a: &LentSet<'_>,
+    b: &LentSet<'_>,
+    out: &mut Set,
+) -> u32
     ensures members { result ≡ OK → IsSymmetricDifference (other_has a.now) (other_has b.now)
         (has out.new) }
     ensures err { result ≢ OK → (i : ℕ) → has out.new i ≡ has out.old i }
@@ -85,7 +95,12 @@ pub extern "C" fn hibitset_xor(alloc: Global, a: &Seen<'_>, b: &Seen<'_>, out: &
 
 /// Makes `out` the set of the indices that `a` has and `b` lacks.
 #[unsafe(no_mangle)]
-pub extern "C" fn hibitset_andnot(alloc: Global, a: &Seen<'_>, b: &Seen<'_>, out: &mut Set) -> u32
+pub extern "C" fn hibitset_andnot(
+    alloc: Global,
+    a: &LentSet<'_>,
+    b: &LentSet<'_>,
+    out: &mut Set,
+) -> u32
     ensures members { result ≡ OK → IsDifference (other_has a.now) (other_has b.now)
         (has out.new) }
     ensures err { result ≢ OK → (i : ℕ) → has out.new i ≡ has out.old i }

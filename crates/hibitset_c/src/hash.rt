@@ -3,9 +3,9 @@
 
 ghost use Rattle.std.specs.Prelude.{◌≡◌};
 ghost use Rattle.hibitset_c.specs.Hash.{mixed, with_word, hash_of};
-ghost use Rattle.hibitset_c.specs.Seen.{has};
+ghost use Rattle.hibitset_c.specs.LentSet.{has};
 
-use crate::seen::{Seen, are_words};
+use crate::lent_set::{LentSet, are_words};
 
 const SEED: u64 = 0x243F_6A88_85A3_08D3;
 
@@ -36,7 +36,7 @@ fn mix_word(hash: u64, position: usize, word: usize) -> u64
 
 /// Returns a hash of the members, which sets with the same members share.
 #[unsafe(no_mangle)]
-pub extern "C" fn hibitset_hash(set: &Seen<'_>) -> u64
+pub extern "C" fn hibitset_hash(set: &LentSet<'_>) -> u64
     ensures { result ≡ hash_of (has set.now) }
 {
     let words = set.layer0;

@@ -4,8 +4,8 @@
 //! `bindings/c/hibitset.h` declares them.
 //!
 //! C keeps each set in a struct of its own. A call that changes a set takes it as a `Set`, by `&mut`; a call that reads
-//! one takes the same bytes as a `Seen`, by `&`. A `Seen` is slices alone and owns nothing, so any number of threads
-//! may read a set at once. The empty set does not allocate.
+//! one takes the same bytes as a `LentSet`, by `&`. A `LentSet` is slices alone and owns nothing, so any number of
+//! threads may read a set at once. The empty set does not allocate.
 //!
 //! A sparse set, an atomic set, and a seat of a shared one, are one pointer each in a struct of C's. Each call takes it
 //! by `&mut`, and the seats of one set own the set together.
@@ -25,19 +25,20 @@ pub mod fault;
 mod fill;
 pub mod handle;
 pub mod hash;
-pub mod held_seat;
-pub mod kept;
-pub mod kept_handle;
+pub mod ids;
+pub mod lent_set;
 pub mod lists;
-pub mod member;
 pub mod order;
+pub mod owned_box;
 pub mod pair;
 mod raw_box;
 pub mod read;
 pub mod roaring;
 pub mod seat;
-pub mod seen;
+pub mod seat_of_set;
+pub mod seat_slot;
 pub mod set;
+pub mod set_or_seat;
 pub mod shared;
 pub mod sparse;
 pub mod sparse_assign;

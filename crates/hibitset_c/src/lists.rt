@@ -1,20 +1,25 @@
-//! Calls that take a list of ends.
+//! Calls that take a list of indices, ends or positions.
 #![tactic(auto)]
 
-ghost use Rattle.std.specs.Prelude.{◌≡◌, IfSome, length, map, min};
+ghost use Rattle.std.specs.Prelude.{◌≡◌, ◌+◌, ◌<◌, ◌≤◌, IfSome, length, map, min, slice_get, slice_index, take};
+ghost use Rattle.std.specs.List.{All};
 ghost use Rattle.hibitset_base.specs.Members.{members_below};
 ghost use Rattle.hibitset_base.specs.Ranked.{counted_set};
 ghost use Rattle.hibitset_base.specs.declared.util.TheConstants.{MAX_EID};
+ghost use Rattle.hibitset.specs.BitSet.{has as bits_have, slice_len};
 ghost use Rattle.hibitset_c.specs.Buffer.{Fills};
-ghost use Rattle.hibitset_c.specs.Seen.{has as other_has};
+ghost use Rattle.hibitset_c.specs.LentSet.{has as other_has};
+ghost use Rattle.hibitset_c.specs.List.{RemovesAll};
+ghost use Rattle.hibitset_c.specs.Set.{has, layer0_len};
 
-use crate::seen::Seen;
-use hibitset::{BitSetLike, Ranked};
+use crate::lent_set::LentSet;
+use crate::set::Set;
+use hibitset::{BitSet, BitSetLike, Index, Ranked};
 use std::alloc::Global;
 
 // How many members lie before `end`, by the counts of the set if there are any.
 #[inline]
-fn rank_by(counted: &Option<Ranked<Seen<'_>>>, set: &Seen<'_>, end: u32) -> usize
+fn rank_by(counted: &Option<Ranked<LentSet<'_>>>, set: &LentSet<'_>, end: u32) -> usize
     requires { IfSome counted.now (λ ranked. counted_set ranked ≡ set.now) }
     ensures { result ≡ length (members_below (min end MAX_EID) (other_has set.now)) }
 {
@@ -32,7 +37,7 @@ fn rank_by(counted: &Option<Ranked<Seen<'_>>>, set: &Seen<'_>, end: u32) -> usiz
 #[unsafe(no_mangle)]
 pub extern "C" fn hibitset_rank_many(
     alloc: Global,
-    set: &Seen<'_>,
+    set: &LentSet<'_>,
     ends: &[u32],
     ranks: &mut [usize],
 ) -> usize
@@ -44,5 +49,81 @@ pub extern "C" fn hibitset_rank_many(
     for slot in 0..count {
         ranks[slot] = rank_by(&counted, set, ends[slot]);
     }
+    count
+}
+
+// Returns the member at a position, by the counts of the set if there are any.
+#[inline]
+fn select_by(counted: &Option<Ranked<LentSet<'_>>>, set: &LentSet<'_>, at: usize) -> Option<Index>
+    requires { IfSome counted.now (λ ranked. counted_set ranked ≡ set.now) }
+    ensures { result ≡ slice_get (members_below MAX_EID (other_has set.now)) at }
+{
+    match counted {
+        Some(ranked) => ranked.select(at),
+        None => set.select(at),
+    }
+}
+
+/// Writes the member at each position of a list, until the buffer is full, there are no more positions, or the set has
+/// no member at one. Returns how many were written.
+///
+/// It counts the members of the set once, as `hibitset_rank_many` does, and then reads at most 65 words for a position.
+#[unsafe(no_mangle)]
+pub extern "C" fn hibitset_select_many(
+    alloc: Global,
+    set: &LentSet<'_>,
+    positions: &[usize],
+    indices: &mut [u32],
+) -> usize
+    ensures count { result ≤ length positions.now }
+    ensures found { All (λ at. at < length (members_below MAX_EID (other_has set.now)))
+        (take result positions.now) }
+    ensures written { Fills (map (λ at. slice_index (members_below MAX_EID (other_has set.now)) at)
+        (take result positions.now)) indices.old result indices.new }
+    ensures stops { result < min (length positions.now) (length indices.old)
+        → length (members_below MAX_EID (other_has set.now)) ≤ slice_index positions.now result }
+{
+    let counted = Ranked::new(alloc, *set).ok();
+    let most = positions.len().min(indices.len());
+    for slot in 0..most {
+        let Some(index) = select_by(&counted, set, positions[slot]) else {
+            return slot;
+        };
+        indices[slot] = index;
+    }
+    most
+}
+
+// Removes the indices of a list. Returns how many of them were members.
+#[inline]
+fn remove_list(set: &mut BitSet, list: &[Index]) -> usize
+    ensures removed { RemovesAll list.now (bits_have set.old) (bits_have set.new) }
+    ensures count { length (members_below MAX_EID (bits_have set.old))
+        ≡ result + length (members_below MAX_EID (bits_have set.new)) }
+    ensures length { slice_len set.new 0 ≡ slice_len set.old 0 }
+{
+    let mut count = 0;
+    for slot in 0..list.len() {
+        if set.remove(list[slot]) {
+            count += 1;
+        }
+    }
+    count
+}
+
+/// Removes the indices of a list. Returns how many members that takes out of the set.
+#[unsafe(no_mangle)]
+pub extern "C" fn hibitset_remove_many(set: &mut Set, indices: &[u32]) -> usize
+    ensures removed { RemovesAll indices.now (has set.old) (has set.new) }
+    ensures count { length (members_below MAX_EID (has set.old))
+        ≡ result + length (members_below MAX_EID (has set.new)) }
+    ensures length { layer0_len set.new ≡ layer0_len set.old }
+{
+    if !set.made {
+        return 0;
+    }
+    let bits = set.handle.as_mut();
+    let count = remove_list(bits, indices);
+    set.words.follow_top(bits);
     count
 }

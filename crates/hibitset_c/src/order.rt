@@ -8,12 +8,12 @@ ghost use Rattle.hibitset_base.specs.Ranges.{in_range};
 ghost use Rattle.hibitset_base.specs.Virtual.{differ};
 ghost use Rattle.hibitset_base.specs.declared.util.TheConstants.{MAX_EID};
 ghost use Rattle.hibitset_c.specs.Buffer.{Fills};
-ghost use Rattle.hibitset_c.specs.Seen.{has as other_has};
+ghost use Rattle.hibitset_c.specs.LentSet.{has as other_has};
 ghost use Rattle.hibitset_c.specs.Set.{has, layer0_len};
 ghost use Rattle.hibitset_c.specs.declared.status.TheConstants.{OK, NO_MEMORY, OUT_OF_RANGE};
 
 use crate::fill::fill_back;
-use crate::seen::Seen;
+use crate::lent_set::LentSet;
 use crate::set::Set;
 use crate::status::{NO_MEMORY, OK, OUT_OF_RANGE};
 use hibitset::{BitSetLike, DrainableBitSet, MAX_EID};
@@ -21,7 +21,7 @@ use std::alloc::Global;
 
 /// Returns how many members lie before `end`.
 #[unsafe(no_mangle)]
-pub extern "C" fn hibitset_rank(set: &Seen<'_>, end: u32) -> usize
+pub extern "C" fn hibitset_rank(set: &LentSet<'_>, end: u32) -> usize
     ensures { result ≡ length (members_below (min end MAX_EID) (other_has set.now)) }
 {
     set.rank(end)
@@ -29,7 +29,7 @@ pub extern "C" fn hibitset_rank(set: &Seen<'_>, end: u32) -> usize
 
 /// Leaves the member at a position of the ascending list of all in `index`, and returns whether there is one.
 #[unsafe(no_mangle)]
-pub extern "C" fn hibitset_select(set: &Seen<'_>, at: usize, index: &mut u32) -> bool
+pub extern "C" fn hibitset_select(set: &LentSet<'_>, at: usize, index: &mut u32) -> bool
     ensures found { result ≡ true → slice_get (members_below MAX_EID (other_has set.now)) at
         ≡ Some index.new }
     ensures none { result ≡ false → slice_get (members_below MAX_EID (other_has set.now)) at
@@ -47,7 +47,7 @@ pub extern "C" fn hibitset_select(set: &Seen<'_>, at: usize, index: &mut u32) ->
 
 /// Returns how many members lie from `start` on and before `end`.
 #[unsafe(no_mangle)]
-pub extern "C" fn hibitset_len_range(set: &Seen<'_>, start: u32, end: u32) -> usize
+pub extern "C" fn hibitset_len_range(set: &LentSet<'_>, start: u32, end: u32) -> usize
     ensures { result ≡ length (members (other_has set.now) start (min end MAX_EID - start)) }
 {
     set.len_range(start, end)
@@ -55,7 +55,7 @@ pub extern "C" fn hibitset_len_range(set: &Seen<'_>, start: u32, end: u32) -> us
 
 /// Leaves the greatest member before `end` in `index`, and returns whether there is one.
 #[unsafe(no_mangle)]
-pub extern "C" fn hibitset_last_before(set: &Seen<'_>, end: u32, index: &mut u32) -> bool
+pub extern "C" fn hibitset_last_before(set: &LentSet<'_>, end: u32, index: &mut u32) -> bool
     ensures found { result ≡ true → IsLast (min end MAX_EID) (other_has set.now) index.new }
     ensures none { result ≡ false → HasNone (min end MAX_EID) (other_has set.now) }
     ensures stays { result ≡ false → index.new ≡ index.old }
@@ -72,7 +72,7 @@ pub extern "C" fn hibitset_last_before(set: &Seen<'_>, end: u32, index: &mut u32
 /// Writes the members before `end` into the buffer, descending, until it is full or there are no more. Returns how
 /// many.
 #[unsafe(no_mangle)]
-pub extern "C" fn hibitset_prev_many(set: &Seen<'_>, end: u32, buffer: &mut [u32]) -> usize
+pub extern "C" fn hibitset_prev_many(set: &LentSet<'_>, end: u32, buffer: &mut [u32]) -> usize
     ensures { Fills (reverse (members_below (min end MAX_EID) (other_has set.now))) buffer.old
         result buffer.new }
 {

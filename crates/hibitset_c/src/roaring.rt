@@ -5,13 +5,13 @@ ghost use Rattle.std.specs.Prelude.{◌≡◌, ◌≢◌, ◌⊎◌, ℕ, ◌*�
 ghost use Rattle.hibitset_roaring.specs.Format.{holds, HasKeysBelow, IsCanonicalStream, IsPlainStream, IsStream};
 ghost use Rattle.hibitset_roaring.specs.declared.header.TheConstants.{KEYS};
 ghost use Rattle.hibitset_roaring.specs.declared.layout.TheConstants.{CONTAINER_WORDS};
+ghost use Rattle.hibitset_c.specs.LentSet.{has as other_has};
 ghost use Rattle.hibitset_c.specs.Roaring.{HasFault};
-ghost use Rattle.hibitset_c.specs.Seen.{has as other_has};
 ghost use Rattle.hibitset_c.specs.Set.{has, layer0_len};
 ghost use Rattle.hibitset_c.specs.declared.status.TheConstants.{OK, NO_MEMORY, SHORT_BUFFER, MALFORMED};
 
 use crate::fault::number;
-use crate::seen::Seen;
+use crate::lent_set::LentSet;
 use crate::set::Set;
 use crate::status::{MALFORMED, NO_MEMORY, OK, SHORT_BUFFER};
 use hibitset_roaring::{KEYS, ReadError, len_of_words, read_below, write_words};
@@ -19,7 +19,7 @@ use std::alloc::Global;
 
 /// Returns how many bytes the stream of a set takes that `hibitset_roaring_write` writes.
 #[unsafe(no_mangle)]
-pub extern "C" fn hibitset_roaring_len(set: &Seen<'_>) -> usize
+pub extern "C" fn hibitset_roaring_len(set: &LentSet<'_>) -> usize
     ensures { (bytes : List ℕ) → IsPlainStream (other_has set.now) bytes → length bytes ≡ result }
 {
     len_of_words(set.layer0, set.layer1)
@@ -30,7 +30,7 @@ pub extern "C" fn hibitset_roaring_len(set: &Seen<'_>) -> usize
 #[unsafe(no_mangle)]
 pub extern "C" fn hibitset_roaring_write(
     alloc: Global,
-    set: &Seen<'_>,
+    set: &LentSet<'_>,
     buffer: &mut [u8],
     taken: &mut usize,
 ) -> u32

@@ -5,16 +5,16 @@ ghost use Rattle.std.specs.Prelude.{◌≡◌, ◌≢◌, ◌⊎◌, ◌↔◌, 
 ghost use Rattle.hibitset_atomic.specs.declared.atomic.TheConstants.{ATOMIC_MAX_EID};
 ghost use Rattle.hibitset_atomic.specs.declared.shared.layout.TheConstants.{SHARES};
 ghost use Rattle.hibitset_c.specs.Atomic.{has, AllBlocksReserved, OwnsNoMemory, IsSame as IsSameSet};
-ghost use Rattle.hibitset_c.specs.KeptSet.{IsOpening};
-ghost use Rattle.hibitset_c.specs.Member.{EndsAs};
 ghost use Rattle.hibitset_c.specs.Seat.{Holds, has_seat, set_of, IsOld, IsKnown, weight_of, reports_of, loads_by, exchanges_by, Keeps, IsSame, AreHalves};
+ghost use Rattle.hibitset_c.specs.SeatOfSet.{EndsAs};
 ghost use Rattle.hibitset_c.specs.Set.{has as plain_has};
+ghost use Rattle.hibitset_c.specs.SetOrSeat.{IsOpening};
 ghost use Rattle.hibitset_c.specs.declared.status.TheConstants.{OK, PRESENT, NO_MEMORY, OUT_OF_RANGE, SHARED, ONE_SHARE, NO_SEAT};
 
 use crate::atomic_set::AtomicSet;
-use crate::held_seat::HeldSeat;
-use crate::kept::Kept;
+use crate::seat_slot::SeatSlot;
 use crate::set::Set;
+use crate::set_or_seat::SetOrSeat;
 use crate::status::{NO_MEMORY, NO_SEAT, OK, OUT_OF_RANGE, PRESENT};
 use hibitset::ATOMIC_MAX_EID;
 use std::alloc::Global;
@@ -24,7 +24,7 @@ use std::alloc::Global;
 pub extern "C" fn hibitset_atomic_share(
     alloc: Global,
     set: &mut AtomicSet,
-    seat: &mut HeldSeat,
+    seat: &mut SeatSlot,
 ) -> u32
     ensures opening { result ≡ OK → Holds seat.new (IsOpening (has set.old)) }
     ensures empty { result ≡ OK → OwnsNoMemory set.new }
@@ -35,19 +35,19 @@ pub extern "C" fn hibitset_atomic_share(
     if !set.make(alloc) {
         return NO_MEMORY;
     }
-    let mut kept = set.take(alloc);
-    if kept.share() {
-        seat.replace(alloc, kept);
+    let mut content = set.take(alloc);
+    if content.share() {
+        seat.replace(alloc, content);
         OK
     } else {
-        set.replace(alloc, kept);
+        set.replace(alloc, content);
         NO_MEMORY
     }
 }
 
 /// Gives the seat up, and with the last one of a set the set.
 #[unsafe(no_mangle)]
-pub extern "C" fn hibitset_seat_free(alloc: Global, seat: &mut HeldSeat)
+pub extern "C" fn hibitset_seat_free(alloc: Global, seat: &mut SeatSlot)
     ensures { has_seat seat.new ≡ false }
 {
     seat.release(alloc);
@@ -55,7 +55,7 @@ pub extern "C" fn hibitset_seat_free(alloc: Global, seat: &mut HeldSeat)
 
 /// Adds an index. Returns whether it was there, or why it is not.
 #[unsafe(no_mangle)]
-pub extern "C" fn hibitset_seat_add(seat: &mut HeldSeat, index: u32) -> u32
+pub extern "C" fn hibitset_seat_add(seat: &mut SeatSlot, index: u32) -> u32
     ensures no_seat { (result ≡ NO_SEAT) ↔ (has_seat seat.old ≡ false) }
     ensures range { (result ≡ OUT_OF_RANGE)
         ↔ (has_seat seat.old ≡ true) × (ATOMIC_MAX_EID ≤ index) }
@@ -78,15 +78,15 @@ pub extern "C" fn hibitset_seat_add(seat: &mut HeldSeat, index: u32) -> u32
     if index as usize >= ATOMIC_MAX_EID {
         return OUT_OF_RANGE;
     }
-    let Kept::Seated(member) = seat.handle.as_mut() else {
+    let SetOrSeat::Seated(seated) = seat.handle.as_mut() else {
         unreachable!()
     };
-    if member.add(index) { PRESENT } else { OK }
+    if seated.add(index) { PRESENT } else { OK }
 }
 
 /// Returns whether an index is there, as far as the seat sees.
 #[unsafe(no_mangle)]
-pub extern "C" fn hibitset_seat_contains(seat: &mut HeldSeat, index: u32) -> bool
+pub extern "C" fn hibitset_seat_contains(seat: &mut SeatSlot, index: u32) -> bool
     ensures yes { result ≡ true → (index < ATOMIC_MAX_EID) × IsKnown seat.new index }
     ensures no { result ≡ false → ¬ IsOld seat.old index × ¬ IsKnown seat.new index }
     ensures keeps { Keeps seat.old seat.new }
@@ -97,33 +97,33 @@ pub extern "C" fn hibitset_seat_contains(seat: &mut HeldSeat, index: u32) -> boo
     if !seat.made {
         return false;
     }
-    let Kept::Seated(member) = seat.handle.as_mut() else {
+    let SetOrSeat::Seated(seated) = seat.handle.as_mut() else {
         unreachable!()
     };
-    member.contains(index)
+    seated.contains(index)
 }
 
 /// Returns whether the seat has all shares of its set.
 #[unsafe(no_mangle)]
-pub extern "C" fn hibitset_seat_is_whole(seat: &mut HeldSeat) -> bool
+pub extern "C" fn hibitset_seat_is_whole(seat: &mut SeatSlot) -> bool
     ensures answer { (result ≡ true) ↔ (weight_of seat.old ≡ SHARES) }
     ensures same { IsSame seat.old seat.new }
 {
     if !seat.made {
         return false;
     }
-    let Kept::Seated(member) = seat.handle.as_mut() else {
+    let SetOrSeat::Seated(seated) = seat.handle.as_mut() else {
         unreachable!()
     };
-    member.is_whole()
+    seated.is_whole()
 }
 
 /// Divides the seat, and leaves the second one in `other`.
 #[unsafe(no_mangle)]
 pub extern "C" fn hibitset_seat_divide(
     alloc: Global,
-    seat: &mut HeldSeat,
-    other: &mut HeldSeat,
+    seat: &mut SeatSlot,
+    other: &mut SeatSlot,
 ) -> u32
     ensures no_seat { (result ≡ NO_SEAT) ↔ (has_seat seat.old ≡ false) }
     ensures halves { result ≡ OK → AreHalves seat.old seat.new other.new }
@@ -137,7 +137,7 @@ pub extern "C" fn hibitset_seat_divide(
     if !seat.made {
         return NO_SEAT;
     }
-    let Ok(mut second) = Box::new(alloc, Kept::Nothing) else {
+    let Ok(mut second) = Box::new(alloc, SetOrSeat::Nothing) else {
         return NO_MEMORY;
     };
     let status = seat.handle.as_mut().divide(alloc, second.as_mut());
@@ -149,7 +149,7 @@ pub extern "C" fn hibitset_seat_divide(
 
 /// Adds to a set what a walk over the shared set gives.
 #[unsafe(no_mangle)]
-pub extern "C" fn hibitset_seat_collect(alloc: Global, seat: &mut HeldSeat, set: &mut Set) -> u32
+pub extern "C" fn hibitset_seat_collect(alloc: Global, seat: &mut SeatSlot, set: &mut Set) -> u32
     ensures no_seat { (result ≡ NO_SEAT) ↔ (has_seat seat.old ≡ false) }
     ensures all { result ≡ OK → (i : ℕ) → IsOld seat.old i ⊎ IsKnown seat.old i
         → plain_has set.new i ≡ true }
@@ -166,11 +166,11 @@ pub extern "C" fn hibitset_seat_collect(alloc: Global, seat: &mut HeldSeat, set:
     if !set.make(alloc) {
         return NO_MEMORY;
     }
-    let Kept::Seated(member) = seat.handle.as_mut() else {
+    let SetOrSeat::Seated(seated) = seat.handle.as_mut() else {
         unreachable!()
     };
     let bits = set.handle.as_mut();
-    let all = member.collect(bits);
+    let all = seated.collect(bits);
     set.words.show(bits);
     if all { OK } else { NO_MEMORY }
 }
@@ -180,7 +180,7 @@ pub extern "C" fn hibitset_seat_collect(alloc: Global, seat: &mut HeldSeat, set:
 #[unsafe(no_mangle)]
 pub extern "C" fn hibitset_seat_settle(
     alloc: Global,
-    seat: &mut HeldSeat,
+    seat: &mut SeatSlot,
     set: &mut AtomicSet,
 ) -> u32
     ensures no_seat { (result ≡ NO_SEAT) ↔ (has_seat seat.old ≡ false) }
@@ -194,12 +194,12 @@ pub extern "C" fn hibitset_seat_settle(
     if !seat.made {
         return NO_SEAT;
     }
-    let mut kept = seat.take(alloc);
-    let status = kept.settle();
+    let mut content = seat.take(alloc);
+    let status = content.settle();
     if status == OK {
-        set.replace(alloc, kept);
+        set.replace(alloc, content);
     } else {
-        seat.replace(alloc, kept);
+        seat.replace(alloc, content);
     }
     status
 }

@@ -11,7 +11,7 @@ ghost use Rattle.hibitset_c.specs.List.{AddsFirst, StopsAt};
 ghost use Rattle.hibitset_c.specs.Sparse.{has, SharesWordWithMember, OwnsNoMemory, IsSame};
 ghost use Rattle.hibitset_c.specs.declared.status.TheConstants.{OK, PRESENT, NO_MEMORY, OUT_OF_RANGE};
 
-use crate::kept::Kept;
+use crate::set_or_seat::SetOrSeat;
 use crate::sparse_set::SparseSet;
 use crate::status::{NO_MEMORY, OK, OUT_OF_RANGE, PRESENT};
 use hibitset::{DrainableBitSet, Index, MAX_EID};
@@ -34,7 +34,7 @@ pub extern "C" fn hibitset_sparse_clear(set: &mut SparseSet)
     ensures { (i : ℕ) → has set.new i ≡ false }
 {
     if set.made {
-        let Kept::Sparse(members) = set.handle.as_mut() else {
+        let SetOrSeat::Sparse(members) = set.handle.as_mut() else {
             unreachable!()
         };
         members.clear();
@@ -47,7 +47,7 @@ pub extern "C" fn hibitset_sparse_shrink_to_fit(set: &mut SparseSet)
     ensures { (i : ℕ) → has set.new i ≡ has set.old i }
 {
     if set.made {
-        let Kept::Sparse(members) = set.handle.as_mut() else {
+        let SetOrSeat::Sparse(members) = set.handle.as_mut() else {
             unreachable!()
         };
         members.shrink_to_fit();
@@ -72,7 +72,7 @@ pub extern "C" fn hibitset_sparse_add(alloc: Global, set: &mut SparseSet, index:
     if !set.make(alloc) {
         return NO_MEMORY;
     }
-    let Kept::Sparse(members) = set.handle.as_mut() else {
+    let SetOrSeat::Sparse(members) = set.handle.as_mut() else {
         unreachable!()
     };
     match members.add(index) {
@@ -128,7 +128,7 @@ pub extern "C" fn hibitset_sparse_add_many(
     if !set.make(alloc) {
         return NO_MEMORY;
     }
-    let Kept::Sparse(members) = set.handle.as_mut() else {
+    let SetOrSeat::Sparse(members) = set.handle.as_mut() else {
         unreachable!()
     };
     let (count, status) = add_list(members, indices);
@@ -145,7 +145,7 @@ pub extern "C" fn hibitset_sparse_remove(set: &mut SparseSet, index: u32) -> boo
     if !set.made {
         return false;
     }
-    let Kept::Sparse(members) = set.handle.as_mut() else {
+    let SetOrSeat::Sparse(members) = set.handle.as_mut() else {
         unreachable!()
     };
     members.remove(index)
@@ -160,7 +160,7 @@ pub extern "C" fn hibitset_sparse_contains(set: &mut SparseSet, index: u32) -> b
     if !set.made {
         return false;
     }
-    let Kept::Sparse(members) = set.handle.as_mut() else {
+    let SetOrSeat::Sparse(members) = set.handle.as_mut() else {
         unreachable!()
     };
     members.contains(index)
@@ -190,7 +190,7 @@ pub extern "C" fn hibitset_sparse_add_range(
     if !set.make(alloc) {
         return NO_MEMORY;
     }
-    let Kept::Sparse(members) = set.handle.as_mut() else {
+    let SetOrSeat::Sparse(members) = set.handle.as_mut() else {
         unreachable!()
     };
     match members.add_range(start, end) {
@@ -205,7 +205,7 @@ pub extern "C" fn hibitset_sparse_remove_range(set: &mut SparseSet, start: u32, 
     ensures { (i : ℕ) → has set.new i ≡ (has set.old i && not (in_range start end i)) }
 {
     if set.made {
-        let Kept::Sparse(members) = set.handle.as_mut() else {
+        let SetOrSeat::Sparse(members) = set.handle.as_mut() else {
             unreachable!()
         };
         members.remove_range(start, end);
@@ -236,7 +236,7 @@ pub extern "C" fn hibitset_sparse_flip_range(
     if !set.make(alloc) {
         return NO_MEMORY;
     }
-    let Kept::Sparse(members) = set.handle.as_mut() else {
+    let SetOrSeat::Sparse(members) = set.handle.as_mut() else {
         unreachable!()
     };
     match members.flip_range(start, end) {
@@ -258,7 +258,7 @@ pub extern "C" fn hibitset_sparse_pop_first(set: &mut SparseSet, index: &mut u32
     if !set.made {
         return false;
     }
-    let Kept::Sparse(members) = set.handle.as_mut() else {
+    let SetOrSeat::Sparse(members) = set.handle.as_mut() else {
         unreachable!()
     };
     match members.pop_first() {
@@ -283,7 +283,7 @@ pub extern "C" fn hibitset_sparse_pop_last(set: &mut SparseSet, index: &mut u32)
     if !set.made {
         return false;
     }
-    let Kept::Sparse(members) = set.handle.as_mut() else {
+    let SetOrSeat::Sparse(members) = set.handle.as_mut() else {
         unreachable!()
     };
     match members.pop_last() {

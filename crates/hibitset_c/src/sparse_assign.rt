@@ -6,15 +6,15 @@ ghost use Rattle.hibitset_base.specs.Connectives.{is_member, IsDifference, IsInt
 ghost use Rattle.hibitset_base.specs.Members.{members_below};
 ghost use Rattle.hibitset_base.specs.declared.util.TheConstants.{MAX_EID};
 ghost use Rattle.hibitset.specs.Extension.{MembersEndBy};
-ghost use Rattle.hibitset_c.specs.Seen.{has as dense_has};
+ghost use Rattle.hibitset_c.specs.LentSet.{has as dense_has};
 ghost use Rattle.hibitset_c.specs.Set.{has, layer0_len};
 ghost use Rattle.hibitset_c.specs.Sparse.{has as sparse_has, IsSame};
 ghost use Rattle.hibitset_c.specs.declared.status.TheConstants.{OK, NO_MEMORY};
 
 use crate::combine::make_of;
-use crate::kept::Kept;
-use crate::seen::Seen;
+use crate::lent_set::LentSet;
 use crate::set::Set;
+use crate::set_or_seat::SetOrSeat;
 use crate::sparse_set::SparseSet;
 use crate::status::{NO_MEMORY, OK};
 use hibitset::BitSetLike;
@@ -27,7 +27,7 @@ use std::alloc::Global;
 pub extern "C" fn hibitset_sparse_assign_dense(
     alloc: Global,
     set: &mut SparseSet,
-    other: &Seen<'_>,
+    other: &LentSet<'_>,
 ) -> u32
     ensures members { result ≡ OK → (i : ℕ)
         → sparse_has set.new i ≡ is_member (dense_has other.now) i }
@@ -50,7 +50,7 @@ pub extern "C" fn hibitset_sparse_assign_dense(
 pub extern "C" fn hibitset_sparse_or_assign_dense(
     alloc: Global,
     set: &mut SparseSet,
-    other: &Seen<'_>,
+    other: &LentSet<'_>,
 ) -> u32
     ensures members { result ≡ OK → IsUnion (sparse_has set.old) (is_member (dense_has other.now))
         (sparse_has set.new) }
@@ -64,7 +64,7 @@ pub extern "C" fn hibitset_sparse_or_assign_dense(
     if !set.make(alloc) {
         return NO_MEMORY;
     }
-    let Kept::Sparse(members) = set.handle.as_mut() else {
+    let SetOrSeat::Sparse(members) = set.handle.as_mut() else {
         unreachable!()
     };
     match members.bitor_assign(other) {
@@ -79,7 +79,7 @@ pub extern "C" fn hibitset_sparse_or_assign_dense(
 pub extern "C" fn hibitset_sparse_xor_assign_dense(
     alloc: Global,
     set: &mut SparseSet,
-    other: &Seen<'_>,
+    other: &LentSet<'_>,
 ) -> u32
     ensures members { result ≡ OK → IsSymmetricDifference (sparse_has set.old)
         (is_member (dense_has other.now)) (sparse_has set.new) }
@@ -93,7 +93,7 @@ pub extern "C" fn hibitset_sparse_xor_assign_dense(
     if !set.make(alloc) {
         return NO_MEMORY;
     }
-    let Kept::Sparse(members) = set.handle.as_mut() else {
+    let SetOrSeat::Sparse(members) = set.handle.as_mut() else {
         unreachable!()
     };
     match members.bitxor_assign(other) {
@@ -104,11 +104,11 @@ pub extern "C" fn hibitset_sparse_xor_assign_dense(
 
 /// Removes the members that a dense set lacks.
 #[unsafe(no_mangle)]
-pub extern "C" fn hibitset_sparse_and_assign_dense(set: &mut SparseSet, other: &Seen<'_>)
+pub extern "C" fn hibitset_sparse_and_assign_dense(set: &mut SparseSet, other: &LentSet<'_>)
     ensures { IsIntersection (sparse_has set.old) (dense_has other.now) (sparse_has set.new) }
 {
     if set.made {
-        let Kept::Sparse(members) = set.handle.as_mut() else {
+        let SetOrSeat::Sparse(members) = set.handle.as_mut() else {
             unreachable!()
         };
         *members &= other;
@@ -117,11 +117,11 @@ pub extern "C" fn hibitset_sparse_and_assign_dense(set: &mut SparseSet, other: &
 
 /// Removes the members that a dense set has.
 #[unsafe(no_mangle)]
-pub extern "C" fn hibitset_sparse_andnot_assign_dense(set: &mut SparseSet, other: &Seen<'_>)
+pub extern "C" fn hibitset_sparse_andnot_assign_dense(set: &mut SparseSet, other: &LentSet<'_>)
     ensures { IsDifference (sparse_has set.old) (dense_has other.now) (sparse_has set.new) }
 {
     if set.made {
-        let Kept::Sparse(members) = set.handle.as_mut() else {
+        let SetOrSeat::Sparse(members) = set.handle.as_mut() else {
             unreachable!()
         };
         members.subtract_assign(other);
@@ -145,7 +145,7 @@ pub extern "C" fn hibitset_assign_sparse(alloc: Global, set: &mut Set, other: &m
         set.release(alloc);
         return OK;
     }
-    let Kept::Sparse(members) = other.handle.as_mut() else {
+    let SetOrSeat::Sparse(members) = other.handle.as_mut() else {
         unreachable!()
     };
     make_of(alloc, set, &*members)
@@ -173,7 +173,7 @@ pub extern "C" fn hibitset_or_assign_sparse(
     if !other.made {
         return OK;
     }
-    let Kept::Sparse(members) = other.handle.as_mut() else {
+    let SetOrSeat::Sparse(members) = other.handle.as_mut() else {
         unreachable!()
     };
     if members.is_empty() {
@@ -214,7 +214,7 @@ pub extern "C" fn hibitset_xor_assign_sparse(
     if !other.made {
         return OK;
     }
-    let Kept::Sparse(members) = other.handle.as_mut() else {
+    let SetOrSeat::Sparse(members) = other.handle.as_mut() else {
         unreachable!()
     };
     if members.is_empty() {
@@ -248,7 +248,7 @@ pub extern "C" fn hibitset_and_assign_sparse(set: &mut Set, other: &mut SparseSe
         set.words.follow_top(bits);
         return;
     }
-    let Kept::Sparse(members) = other.handle.as_mut() else {
+    let SetOrSeat::Sparse(members) = other.handle.as_mut() else {
         unreachable!()
     };
     *bits &= &*members;
@@ -265,7 +265,7 @@ pub extern "C" fn hibitset_andnot_assign_sparse(set: &mut Set, other: &mut Spars
     if !set.made || !other.made {
         return;
     }
-    let Kept::Sparse(members) = other.handle.as_mut() else {
+    let SetOrSeat::Sparse(members) = other.handle.as_mut() else {
         unreachable!()
     };
     let bits = set.handle.as_mut();

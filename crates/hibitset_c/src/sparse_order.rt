@@ -9,7 +9,7 @@ ghost use Rattle.hibitset_c.specs.Buffer.{Fills};
 ghost use Rattle.hibitset_c.specs.Sparse.{has, IsSame};
 
 use crate::fill::{fill, fill_back};
-use crate::kept::Kept;
+use crate::set_or_seat::SetOrSeat;
 use crate::sparse_set::SparseSet;
 use hibitset::BitSetLike;
 use hibitset_sparse::SparseBitSet;
@@ -24,7 +24,7 @@ pub extern "C" fn hibitset_sparse_len(set: &mut SparseSet) -> usize
     if !set.made {
         return 0;
     }
-    let Kept::Sparse(members) = set.handle.as_mut() else {
+    let SetOrSeat::Sparse(members) = set.handle.as_mut() else {
         unreachable!()
     };
     SparseBitSet::len(members)
@@ -40,7 +40,7 @@ pub extern "C" fn hibitset_sparse_is_empty(set: &mut SparseSet) -> bool
     if !set.made {
         return true;
     }
-    let Kept::Sparse(members) = set.handle.as_mut() else {
+    let SetOrSeat::Sparse(members) = set.handle.as_mut() else {
         unreachable!()
     };
     members.is_empty()
@@ -57,7 +57,7 @@ pub extern "C" fn hibitset_sparse_first(set: &mut SparseSet, index: &mut u32) ->
     if !set.made {
         return false;
     }
-    let Kept::Sparse(members) = set.handle.as_mut() else {
+    let SetOrSeat::Sparse(members) = set.handle.as_mut() else {
         unreachable!()
     };
     match members.first() {
@@ -80,7 +80,7 @@ pub extern "C" fn hibitset_sparse_last(set: &mut SparseSet, index: &mut u32) -> 
     if !set.made {
         return false;
     }
-    let Kept::Sparse(members) = set.handle.as_mut() else {
+    let SetOrSeat::Sparse(members) = set.handle.as_mut() else {
         unreachable!()
     };
     match members.last() {
@@ -107,7 +107,7 @@ pub extern "C" fn hibitset_sparse_last_before(
     if !set.made {
         return false;
     }
-    let Kept::Sparse(members) = set.handle.as_mut() else {
+    let SetOrSeat::Sparse(members) = set.handle.as_mut() else {
         unreachable!()
     };
     match members.last_before(end) {
@@ -129,7 +129,7 @@ pub extern "C" fn hibitset_sparse_rank(set: &mut SparseSet, end: u32) -> usize
     if !set.made {
         return 0;
     }
-    let Kept::Sparse(members) = set.handle.as_mut() else {
+    let SetOrSeat::Sparse(members) = set.handle.as_mut() else {
         unreachable!()
     };
     SparseBitSet::rank(members, end)
@@ -148,7 +148,7 @@ pub extern "C" fn hibitset_sparse_select(set: &mut SparseSet, at: usize, index: 
     if !set.made {
         return false;
     }
-    let Kept::Sparse(members) = set.handle.as_mut() else {
+    let SetOrSeat::Sparse(members) = set.handle.as_mut() else {
         unreachable!()
     };
     match members.select(at) {
@@ -170,7 +170,7 @@ pub extern "C" fn hibitset_sparse_len_range(set: &mut SparseSet, start: u32, end
     if !set.made {
         return 0;
     }
-    let Kept::Sparse(members) = set.handle.as_mut() else {
+    let SetOrSeat::Sparse(members) = set.handle.as_mut() else {
         unreachable!()
     };
     members.len_range(start, end)
@@ -192,7 +192,7 @@ pub extern "C" fn hibitset_sparse_next_many(
     if !set.made {
         return 0;
     }
-    let Kept::Sparse(members) = set.handle.as_mut() else {
+    let SetOrSeat::Sparse(members) = set.handle.as_mut() else {
         unreachable!()
     };
     fill(&*members, start, buffer)
@@ -214,7 +214,7 @@ pub extern "C" fn hibitset_sparse_prev_many(
     if !set.made {
         return 0;
     }
-    let Kept::Sparse(members) = set.handle.as_mut() else {
+    let SetOrSeat::Sparse(members) = set.handle.as_mut() else {
         unreachable!()
     };
     fill_back(&*members, end, buffer)

@@ -8,7 +8,7 @@ ghost use Rattle.hibitset_base.specs.declared.util.TheConstants.{MAX_EID};
 ghost use Rattle.hibitset_c.specs.Sparse.{has, IsSame};
 ghost use Rattle.hibitset_c.specs.declared.status.TheConstants.{OK, NO_MEMORY};
 
-use crate::kept::Kept;
+use crate::set_or_seat::SetOrSeat;
 use crate::sparse_set::SparseSet;
 use crate::status::{NO_MEMORY, OK};
 use hibitset::BitSetLike;
@@ -30,7 +30,7 @@ pub extern "C" fn hibitset_internal_sparse_assign(
         set.release(alloc);
         return OK;
     }
-    let Kept::Sparse(others) = other.handle.as_mut() else {
+    let SetOrSeat::Sparse(others) = other.handle.as_mut() else {
         unreachable!()
     };
     let Ok(copy) = others.clone() else {
@@ -60,7 +60,7 @@ pub extern "C" fn hibitset_internal_sparse_or_assign(
     if !other.made {
         return OK;
     }
-    let Kept::Sparse(others) = other.handle.as_mut() else {
+    let SetOrSeat::Sparse(others) = other.handle.as_mut() else {
         unreachable!()
     };
     if others.is_empty() {
@@ -69,7 +69,7 @@ pub extern "C" fn hibitset_internal_sparse_or_assign(
     if !set.make(alloc) {
         return NO_MEMORY;
     }
-    let Kept::Sparse(members) = set.handle.as_mut() else {
+    let SetOrSeat::Sparse(members) = set.handle.as_mut() else {
         unreachable!()
     };
     match members.union_with(others) {
@@ -96,7 +96,7 @@ pub extern "C" fn hibitset_internal_sparse_xor_assign(
     if !other.made {
         return OK;
     }
-    let Kept::Sparse(others) = other.handle.as_mut() else {
+    let SetOrSeat::Sparse(others) = other.handle.as_mut() else {
         unreachable!()
     };
     if others.is_empty() {
@@ -105,7 +105,7 @@ pub extern "C" fn hibitset_internal_sparse_xor_assign(
     if !set.make(alloc) {
         return NO_MEMORY;
     }
-    let Kept::Sparse(members) = set.handle.as_mut() else {
+    let SetOrSeat::Sparse(members) = set.handle.as_mut() else {
         unreachable!()
     };
     match members.symmetric_difference_with(others) {
@@ -123,14 +123,14 @@ pub extern "C" fn hibitset_internal_sparse_and_assign(set: &mut SparseSet, other
     if !set.made {
         return;
     }
-    let Kept::Sparse(members) = set.handle.as_mut() else {
+    let SetOrSeat::Sparse(members) = set.handle.as_mut() else {
         unreachable!()
     };
     if !other.made {
         members.clear();
         return;
     }
-    let Kept::Sparse(others) = other.handle.as_mut() else {
+    let SetOrSeat::Sparse(others) = other.handle.as_mut() else {
         unreachable!()
     };
     members.intersect_with(others);
@@ -145,10 +145,10 @@ pub extern "C" fn hibitset_internal_sparse_andnot_assign(set: &mut SparseSet, ot
     if !set.made || !other.made {
         return;
     }
-    let Kept::Sparse(members) = set.handle.as_mut() else {
+    let SetOrSeat::Sparse(members) = set.handle.as_mut() else {
         unreachable!()
     };
-    let Kept::Sparse(others) = other.handle.as_mut() else {
+    let SetOrSeat::Sparse(others) = other.handle.as_mut() else {
         unreachable!()
     };
     members.difference_with(others);
@@ -163,10 +163,10 @@ pub extern "C" fn hibitset_internal_sparse_is_disjoint(a: &mut SparseSet, b: &mu
     if !a.made || !b.made {
         return true;
     }
-    let Kept::Sparse(first) = a.handle.as_mut() else {
+    let SetOrSeat::Sparse(first) = a.handle.as_mut() else {
         unreachable!()
     };
-    let Kept::Sparse(second) = b.handle.as_mut() else {
+    let SetOrSeat::Sparse(second) = b.handle.as_mut() else {
         unreachable!()
     };
     first.is_disjoint(&*second)
@@ -181,13 +181,13 @@ pub extern "C" fn hibitset_internal_sparse_is_subset(a: &mut SparseSet, b: &mut 
     if !a.made {
         return true;
     }
-    let Kept::Sparse(first) = a.handle.as_mut() else {
+    let SetOrSeat::Sparse(first) = a.handle.as_mut() else {
         unreachable!()
     };
     if !b.made {
         return first.is_empty();
     }
-    let Kept::Sparse(second) = b.handle.as_mut() else {
+    let SetOrSeat::Sparse(second) = b.handle.as_mut() else {
         unreachable!()
     };
     first.is_subset(&*second)

@@ -2,12 +2,12 @@
 #![tactic(auto)]
 
 ghost use Rattle.std.specs.Prelude.{◌≡◌, is_some};
-ghost use Rattle.hibitset_c.specs.KeptSet.{is_sparse_at};
+ghost use Rattle.hibitset_c.specs.SetOrSeat.{is_sparse_at};
 
-use crate::kept::Kept;
-use crate::kept_handle::KeptHandle;
+use crate::owned_box::OwnedBox;
 use crate::raw_box::RawBox;
 use crate::set::sent;
+use crate::set_or_seat::SetOrSeat;
 use hibitset_sparse::SparseBitSet;
 use std::alloc::Global;
 
@@ -18,10 +18,10 @@ use std::alloc::Global;
 #[repr(C)]
 #[derive(Drop)]
 pub struct SparseSet {
-    pub(crate) handle: KeptHandle,
+    pub(crate) handle: OwnedBox,
     pub(crate) made: bool,
-    ghost tells: { made ≡ is_some handle.kept },
-    ghost sparse: { made ≡ is_sparse_at handle.kept },
+    ghost tells: { made ≡ is_some handle.content },
+    ghost sparse: { made ≡ is_sparse_at handle.content },
 }
 
 impl SparseSet {
@@ -36,9 +36,9 @@ impl SparseSet {
         ensures members { result ≡ true → (i : ℕ) → has self.new i ≡ sparse_has members i }
         ensures err { result ≡ false → (i : ℕ) → has self.new i ≡ false }
     {
-        match Box::new(alloc, Kept::Sparse(members)) {
-            Ok(kept) => {
-                self.handle = KeptHandle::of(RawBox::from_box(kept));
+        match Box::new(alloc, SetOrSeat::Sparse(members)) {
+            Ok(content) => {
+                self.handle = OwnedBox::of(RawBox::from_box(content));
                 self.made = true;
                 true
             }
@@ -64,7 +64,7 @@ impl SparseSet {
         if !self.made {
             return self.put_first(alloc, members);
         }
-        *self.handle.as_mut() = Kept::Sparse(members);
+        *self.handle.as_mut() = SetOrSeat::Sparse(members);
         true
     }
 

@@ -1,6 +1,6 @@
 use Rattle.std.proofs.Common.{arith}
 use Rattle.hibitset_base.specs.Sets.{bit_of}
-use Rattle.hibitset_c.specs.Seen.{has}
+use Rattle.hibitset_c.specs.LentSet.{has}
 use Rattle.hibitset_c.proofs.BulkLemmas.{fills_map}
 use Rattle.hibitset_c.proofs.bulk.hibitset_contains_many.Goals as goal
 

@@ -1,6 +1,6 @@
 use Rattle.std.proofs.Common.{◌≡◌, drop, length, map, take}
 use Rattle.hibitset_base.specs.Sets.{bit_of}
-use Rattle.hibitset_c.specs.Seen.{has}
+use Rattle.hibitset_c.specs.LentSet.{has}
 use Rattle.hibitset_c.proofs.bulk.hibitset_contains_many.Given as goal
 
 abbrev pub invariant-loop-slot : goal.invariant-loop-slot

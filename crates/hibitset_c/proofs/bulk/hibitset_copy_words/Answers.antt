@@ -1,7 +1,7 @@
 use Rattle.std.proofs.Common.{◌≡◌, ◌-◌, ◌++◌, ◌∙◌, ap, drop, length, min, replicate, take}
 use Rattle.std.proofs.lemmas.List.{length-drop, take_rest}
 use borrow.Rule.Slice.PartMut.{post_of}
-use Rattle.hibitset_c.specs.Seen.{word_of}
+use Rattle.hibitset_c.specs.LentSet.{word_of}
 use Rattle.hibitset_c.proofs.BulkLemmas.{copied, rest_len}
 use Rattle.hibitset_c.proofs.bulk.hibitset_copy_words.Goals as goal
 

@@ -1,6 +1,6 @@
 use Rattle.std.proofs.Common.{subst}
 use Rattle.hibitset.specs.Merge.{NoWordsFrom}
-use Rattle.hibitset_c.specs.Seen.{has as other_has, word_of as other_word}
+use Rattle.hibitset_c.specs.LentSet.{has as other_has, word_of as other_word}
 use Rattle.hibitset_c.specs.Set.{has}
 use Rattle.hibitset_c.proofs.NoMemberLemmas.{no_words, or_stays}
 use Rattle.hibitset_c.proofs.change.hibitset_internal_or_assign.Goals as goal

@@ -1,6 +1,6 @@
 use Rattle.std.proofs.Common.{◌∙◌, sym, ap, get_or, arith}
 use Rattle.hibitset_c.specs.Hash.{hash_to, with_word}
-use Rattle.hibitset_c.specs.Seen.{has}
+use Rattle.hibitset_c.specs.LentSet.{has}
 use Rattle.hibitset_c.proofs.HashLemmas.{hash_none, hash_next, hash_whole, word_bits}
 use Rattle.hibitset_c.proofs.hash.hibitset_hash.Goals as goal
 

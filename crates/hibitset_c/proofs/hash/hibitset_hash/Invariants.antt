@@ -1,6 +1,6 @@
 use Rattle.std.proofs.Common.{◌≡◌, ◌-◌, ◌≤◌, length}
 use Rattle.hibitset_c.specs.Hash.{hash_to}
-use Rattle.hibitset_c.specs.Seen.{has}
+use Rattle.hibitset_c.specs.LentSet.{has}
 use Rattle.hibitset_c.proofs.hash.hibitset_hash.Given as goal
 
 abbrev pub invariant-loop-position : goal.invariant-loop-position

@@ -1,7 +1,7 @@
 use Rattle.std.proofs.Common.{length, min, arith}
 use Rattle.hibitset_base.specs.Members.{members_below}
 use Rattle.hibitset_base.specs.declared.util.TheConstants.{MAX_EID}
-use Rattle.hibitset_c.specs.Seen.{has}
+use Rattle.hibitset_c.specs.LentSet.{has}
 use Rattle.hibitset_c.proofs.BulkLemmas.{fills_map}
 use Rattle.hibitset_c.proofs.lists.hibitset_rank_many.Goals as goal
 

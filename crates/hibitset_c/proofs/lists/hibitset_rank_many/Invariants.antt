@@ -1,7 +1,7 @@
 use Rattle.std.proofs.Common.{◌≡◌, drop, length, map, min, take}
 use Rattle.hibitset_base.specs.Members.{members_below}
 use Rattle.hibitset_base.specs.declared.util.TheConstants.{MAX_EID}
-use Rattle.hibitset_c.specs.Seen.{has}
+use Rattle.hibitset_c.specs.LentSet.{has}
 use Rattle.hibitset_c.proofs.lists.hibitset_rank_many.Given as goal
 
 abbrev pub invariant-loop-slot : goal.invariant-loop-slot

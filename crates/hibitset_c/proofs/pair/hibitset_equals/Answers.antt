@@ -2,12 +2,12 @@ use Rattle.std.proofs.Common.{◌≡◌, ℕ, ◌/◌, ◌%◌, ◌==◌, get_or
 use Rattle.std.specs.Int.{bit_at}
 use Rattle.std.specs.Cmp.Lexicographic.{pointwise_decides}
 use Rattle.std.proofs.lemmas.Bool.Decides.{Decides-eqb}
-use Rattle.hibitset_c.specs.Seen.{has, word_of}
-use Rattle.hibitset_c.specs.declared.seen.Seen.{Seen}
+use Rattle.hibitset_c.specs.LentSet.{has, word_of}
+use Rattle.hibitset_c.specs.declared.lent_set.LentSet.{LentSet}
 use Rattle.hibitset_c.proofs.pair.hibitset_equals.Goals as goal
 
 -- the same words are the same members
-same : (a b : Seen) → a.layer0.now ≡ b.layer0.now → (i : ℕ) → has a i ≡ has b i
+same : (a b : LentSet) → a.layer0.now ≡ b.layer0.now → (i : ℕ) → has a i ≡ has b i
 unfolding has word_of
 same a b e i = ap (λ words. bit_at (get_or words (i / 64) 0) (i % 64) == 1) e
 

@@ -3,24 +3,24 @@ use Rattle.hibitset_base.specs.Connectives.{IsUnion}
 use Rattle.hibitset_base.specs.Members.{members_below}
 use Rattle.hibitset_base.specs.declared.util.TheConstants.{MAX_EID}
 use Rattle.hibitset_c.specs.Sparse.{has, has_in}
-use Rattle.hibitset_c.specs.declared.kept.Kept.TheVariants.{Sparse}
-use Rattle.hibitset_c.proofs.SparseLemmas.{is_kept, or_none}
+use Rattle.hibitset_c.specs.declared.set_or_seat.SetOrSeat.TheVariants.{Sparse}
+use Rattle.hibitset_c.proofs.SparseLemmas.{content_is, or_none}
 use Rattle.hibitset_c.proofs.sparse_pair.hibitset_internal_sparse_or_assign.Goals as goal
 
 pub returns-then-is_empty-clause-members : goal.returns-then-is_empty-clause-members
 returns-then-is_empty-clause-members c = λ _.
-    let is = is_kept c.args.other.now.handle.kept c.as_mut.result.now c.in-Sparse.others c.as_mut.ensures.value c.in-Sparse.is in
+    let is = content_is c.args.other.now.handle.content c.as_mut.result.now c.in-Sparse.others c.as_mut.ensures.value c.in-Sparse.is in
     let old = has c.args.set.now in
     subst (λ k. IsUnion old (has_in k) old) (sym is) (or_none old (Some (Sparse c.in-Sparse.others)) (c.is_empty.ensures.0 c.if-is_empty.true))
 
 pub returns-then-not-make-clause-none : goal.returns-then-not-make-clause-none
 returns-then-not-make-clause-none c = λ none.
-    let is = is_kept c.args.other.now.handle.kept c.as_mut.result.now c.in-Sparse.others c.as_mut.ensures.value c.in-Sparse.is in
+    let is = content_is c.args.other.now.handle.content c.as_mut.result.now c.in-Sparse.others c.as_mut.ensures.value c.in-Sparse.is in
     let yes = c.is_empty.ensures.1 (subst (λ k. members_below MAX_EID (has_in k) ≡ []) is none) in
     let no = c.if-is_empty.false in absurd cc
 
 pub returns-in-Err-clause-none : goal.returns-in-Err-clause-none
 returns-in-Err-clause-none c = λ none.
-    let is = is_kept c.args.other.now.handle.kept c.as_mut.result.now c.in-Sparse.others c.as_mut.ensures.value c.in-Sparse.is in
+    let is = content_is c.args.other.now.handle.content c.as_mut.result.now c.in-Sparse.others c.as_mut.ensures.value c.in-Sparse.is in
     let yes = c.is_empty.ensures.1 (subst (λ k. members_below MAX_EID (has_in k) ≡ []) is none) in
     let no = c.if-is_empty.false in absurd cc

@@ -11,7 +11,7 @@ use std::alloc::Global;
 
 /// A seat, and the set that it came from.
 #[derive(Drop)]
-pub struct Member {
+pub struct SeatOfSet {
     pub(crate) set: Shared,
     pub(crate) seat: Seat,
     ghost came: { ∥ BelongsTo (set_of set) seat ∥₁ },
@@ -19,36 +19,36 @@ pub struct Member {
 
 /// What comes of a seat that is divided.
 pub(crate) enum Divided {
-    Two(Member, Member),
+    Two(SeatOfSet, SeatOfSet),
     /// It has one share.
-    Single(Member),
+    Single(SeatOfSet),
     /// An allocation failed.
-    NoMemory(Member),
+    NoMemory(SeatOfSet),
 }
 
 /// What comes of a set that is to be held alone again.
 pub(crate) enum Settled {
     Alone(AtomicBitSet),
     /// It has another seat.
-    Shared(Member),
+    Shared(SeatOfSet),
     /// An allocation failed.
-    NoMemory(Member),
+    NoMemory(SeatOfSet),
 }
 
-impl Member {
+impl SeatOfSet {
     ghost use Rattle.std.specs.Prelude.{◌≡◌, ◌≢◌, ◌⊎◌, ℕ, ◌+◌, ◌<◌, ◌≤◌, ◌∷◌, true, false, Contains};
     ghost use Rattle.hibitset.specs.BitSet.{has as bits_have};
     ghost use Rattle.hibitset_atomic.specs.Seats.{IsOld, IsKnown, weight_of, reports_of, loads_by, exchanges_by};
     ghost use Rattle.hibitset_atomic.specs.declared.atomic.TheConstants.{ATOMIC_MAX_EID};
     ghost use Rattle.hibitset_atomic.specs.declared.shared.layout.TheConstants.{SHARES};
-    ghost use Rattle.hibitset_c.specs.Member.{Keeps, DividesTo, SettlesTo};
+    ghost use Rattle.hibitset_c.specs.SeatOfSet.{Keeps, DividesTo, SettlesTo};
 
     // A shared set with its first seat.
-    pub(crate) fn new(set: SharedBitSet, seat: Seat) -> Member
+    pub(crate) fn new(set: SharedBitSet, seat: Seat) -> SeatOfSet
         requires { BelongsTo set seat }
         ensures { (set_of result.set ≡ set) × (result.seat ≡ seat) }
     {
-        Member {
+        SeatOfSet {
             set: Shared::Sole(set),
             seat,
         }
@@ -94,17 +94,17 @@ impl Member {
     pub(crate) fn divide(self, alloc: Global) -> Divided
         ensures { DividesTo self result }
     {
-        let Member { set, seat } = self;
+        let SeatOfSet { set, seat } = self;
         let (set, other_set) = match set.two(alloc) {
             Ok(both) => both,
-            Err(set) => return Divided::NoMemory(Member { set, seat }),
+            Err(set) => return Divided::NoMemory(SeatOfSet { set, seat }),
         };
         let (seat, other) = set.as_set().divide(seat);
-        let first = Member { set, seat };
+        let first = SeatOfSet { set, seat };
         match other {
             Some(seat) => Divided::Two(
                 first,
-                Member {
+                SeatOfSet {
                     set: other_set,
                     seat,
                 },
@@ -118,14 +118,14 @@ impl Member {
     pub(crate) fn settle(self) -> Settled
         ensures { SettlesTo self result }
     {
-        let Member { set, seat } = self;
+        let SeatOfSet { set, seat } = self;
         let set = match set.into_set() {
             Ok(set) => set,
-            Err(set) => return Settled::Shared(Member { set, seat }),
+            Err(set) => return Settled::Shared(SeatOfSet { set, seat }),
         };
         match set.settle(seat) {
             Ok(set) => Settled::Alone(set),
-            Err((set, seat)) => Settled::NoMemory(Member::new(set, seat)),
+            Err((set, seat)) => Settled::NoMemory(SeatOfSet::new(set, seat)),
         }
     }
 

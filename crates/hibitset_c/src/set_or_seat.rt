@@ -1,7 +1,7 @@
 //! What the pointer of an atomic set, of a seat or of a sparse set in C owns.
 #![tactic(auto)]
 
-use crate::member::{Divided, Member, Settled};
+use crate::seat_of_set::{Divided, SeatOfSet, Settled};
 use crate::status::{NO_MEMORY, OK, ONE_SHARE, SHARED};
 use hibitset::AtomicBitSet;
 use hibitset_sparse::SparseBitSet;
@@ -10,17 +10,17 @@ use std::mem;
 
 /// An atomic set held alone, a seat of a shared one, or a sparse set.
 #[derive(Drop)]
-pub enum Kept {
+pub enum SetOrSeat {
     Alone(AtomicBitSet),
-    Seated(Member),
+    Seated(SeatOfSet),
     Sparse(SparseBitSet),
     /// Within a call alone, which makes the one of the other.
     Nothing,
 }
 
-impl Kept {
+impl SetOrSeat {
     ghost use Rattle.std.specs.Prelude.{◌≡◌, ◌≢◌, ◌⊎◌, true, false};
-    ghost use Rattle.hibitset_c.specs.KeptSet.{is_alone, is_seated, Opens, Halves, HasOneShare, KeepsAll, Settles, IsSameSeat};
+    ghost use Rattle.hibitset_c.specs.SetOrSeat.{is_alone, is_seated, Opens, Halves, HasOneShare, KeepsAll, Settles, IsSameSeat};
     ghost use Rattle.hibitset_c.specs.declared.status.TheConstants.{OK, NO_MEMORY, SHARED, ONE_SHARE};
 
     // Shares the set. Returns false if an allocation failed.
@@ -29,44 +29,44 @@ impl Kept {
         ensures shared { result ≡ true → Opens self.old self.new }
         ensures err { result ≡ false → self.new ≡ self.old }
     {
-        let Kept::Alone(set) = mem::replace(self, Kept::Nothing) else {
+        let SetOrSeat::Alone(set) = mem::replace(self, SetOrSeat::Nothing) else {
             unreachable!()
         };
         match set.share() {
             Ok((set, seat)) => {
-                *self = Kept::Seated(Member::new(set, seat));
+                *self = SetOrSeat::Seated(SeatOfSet::new(set, seat));
                 true
             }
             Err(set) => {
-                *self = Kept::Alone(set);
+                *self = SetOrSeat::Alone(set);
                 false
             }
         }
     }
 
     // Divides the seat, and puts the second one into `other`. Returns the status.
-    pub(crate) fn divide(&mut self, alloc: Global, other: &mut Kept) -> u32
+    pub(crate) fn divide(&mut self, alloc: Global, other: &mut SetOrSeat) -> u32
         requires { is_seated self.old ≡ true }
         ensures halves { result ≡ OK → Halves self.old self.new other.new }
         ensures one { result ≡ ONE_SHARE → HasOneShare self.old }
         ensures stays { result ≢ OK → KeepsAll self.old self.new }
         ensures status { (result ≡ OK) ⊎ (result ≡ NO_MEMORY) ⊎ (result ≡ ONE_SHARE) }
     {
-        let Kept::Seated(member) = mem::replace(self, Kept::Nothing) else {
+        let SetOrSeat::Seated(seated) = mem::replace(self, SetOrSeat::Nothing) else {
             unreachable!()
         };
-        match member.divide(alloc) {
+        match seated.divide(alloc) {
             Divided::Two(first, second) => {
-                *self = Kept::Seated(first);
-                *other = Kept::Seated(second);
+                *self = SetOrSeat::Seated(first);
+                *other = SetOrSeat::Seated(second);
                 OK
             }
-            Divided::Single(member) => {
-                *self = Kept::Seated(member);
+            Divided::Single(seated) => {
+                *self = SetOrSeat::Seated(seated);
                 ONE_SHARE
             }
-            Divided::NoMemory(member) => {
-                *self = Kept::Seated(member);
+            Divided::NoMemory(seated) => {
+                *self = SetOrSeat::Seated(seated);
                 NO_MEMORY
             }
         }
@@ -79,20 +79,20 @@ impl Kept {
         ensures stays { result ≢ OK → IsSameSeat self.old self.new }
         ensures status { (result ≡ OK) ⊎ (result ≡ NO_MEMORY) ⊎ (result ≡ SHARED) }
     {
-        let Kept::Seated(member) = mem::replace(self, Kept::Nothing) else {
+        let SetOrSeat::Seated(seated) = mem::replace(self, SetOrSeat::Nothing) else {
             unreachable!()
         };
-        match member.settle() {
+        match seated.settle() {
             Settled::Alone(set) => {
-                *self = Kept::Alone(set);
+                *self = SetOrSeat::Alone(set);
                 OK
             }
-            Settled::Shared(member) => {
-                *self = Kept::Seated(member);
+            Settled::Shared(seated) => {
+                *self = SetOrSeat::Seated(seated);
                 SHARED
             }
-            Settled::NoMemory(member) => {
-                *self = Kept::Seated(member);
+            Settled::NoMemory(seated) => {
+                *self = SetOrSeat::Seated(seated);
                 NO_MEMORY
             }
         }

@@ -25,17 +25,17 @@ use Rattle.std.proofs.alloc.Global.TheLaws as heap_laws
 use Rattle.std.specs.contracts.alloc.Global as heap
 use Rattle.std.specs.contracts.impls.GlobalAllocator.TheImpl.{ghosts}
 use Rattle.std.specs.Prelude.{is_some}
-use Rattle.hibitset_c.specs.contracts.kept.Kept.{the_row as kept_row}
-use Rattle.hibitset_c.specs.declared.kept.Kept.{Kept}
 use Rattle.hibitset_c.specs.Handle.{handle_owns}
-use Rattle.hibitset_c.specs.contracts.kept_handle.KeptHandle.{the_row as R}
-use Rattle.hibitset_c.specs.declared.kept_handle.KeptHandle.{KeptHandle}
-use Rattle.hibitset_c.specs.contracts.kept_handle.KeptHandle.take as f
+use Rattle.hibitset_c.specs.contracts.owned_box.OwnedBox.{the_row as R}
+use Rattle.hibitset_c.specs.contracts.owned_box.OwnedBox.take as f
+use Rattle.hibitset_c.specs.contracts.set_or_seat.SetOrSeat.{the_row as content_row}
+use Rattle.hibitset_c.specs.declared.owned_box.OwnedBox.{OwnedBox}
+use Rattle.hibitset_c.specs.declared.set_or_seat.SetOrSeat.{SetOrSeat}
 use Rattle.hibitset_c.proofs.HandleLemmas.{held_of}
 use Rattle.hibitset_c.proofs.RawBoxLemmas.{two, two_fits, ptr_fits, raw_closes}
-use Rattle.hibitset_c.proofs.kept_handle.KeptHandle.TheLaws.{lowers}
-use Rattle.hibitset_c.proofs.kept_handle.KeptHandle.take.Statement.{statement}
-use Rattle.hibitset_c.proofs.kept_handle.KeptHandle.take.Code as code
+use Rattle.hibitset_c.proofs.owned_box.OwnedBox.TheLaws.{lowers}
+use Rattle.hibitset_c.proofs.owned_box.OwnedBox.take.Statement.{statement}
+use Rattle.hibitset_c.proofs.owned_box.OwnedBox.take.Code as code
 
 abbrev Z : RattleType
 Z = heap.the_row
@@ -52,10 +52,10 @@ take_spec 𝓤 𝓛 𝓜 𝓡 wired =
     proved_at 𝓛 f.ended stayed c 𝓜 𝓡 (Goes-ref 𝓛 1 0 tt (plain (λ _. R)), (Goes-blank 𝓛 1 (plain (λ _. Z)) f.ended.kept.1.0 (λ κs x w. tt), tt))
     f.Key.name code.function (code.unfolded 𝓤 𝓛.H 𝓜 𝓡 wired) (λ z are.
     let κ = z.0.0.0 in let q = z.0.1.0 in let self = z.0.3.0 in let h = self.now in let own = self.ref_ptr in let a = z.0.3.1.0 in
-    let Self : KeptHandle → List Val → Item 𝓤 = λ now us. ‵ ((MutRef (named 0) κ R).own_val (record self { now = now }) us) in let emptied : KeptHandle = record h { kept = None } in let self_is = mut_Tells (named 0) κ R self z.0.4.0 are.0 in
+    let Self : OwnedBox → List Val → Item 𝓤 = λ now us. ‵ ((MutRef (named 0) κ R).own_val (record self { now = now }) us) in let emptied : OwnedBox = record h { content = None } in let self_is = mut_Tells (named 0) κ R self z.0.4.0 are.0 in
     let Post : Val → SProp 𝓤 = (walk_of 𝓛 f.ended stayed c).post z in
-    qed 𝓛 (((‵ (flft κ q) ⊛ ‵ ftrue) ⊛ ‵ (owns (types_at f.ended.signature.params z.0.0) z.0.3 z.0.4)) ∷ raw (fact 𝓤 (is_some h.kept ≡ true)) ∷ []) ∵
-    move ! (1 ∷ []) $ heard ! _ (λ there. let x = (held_of h.kept there).0 in let is_x = (held_of h.kept there).1 in
+    qed 𝓛 (((‵ (flft κ q) ⊛ ‵ ftrue) ⊛ ‵ (owns (types_at f.ended.signature.params z.0.0) z.0.3 z.0.4)) ∷ raw (fact 𝓤 (is_some h.content ≡ true)) ∷ []) ∵
+    move ! (1 ∷ []) $ heard ! _ (λ there. let x = (held_of h.content there).0 in let is_x = (held_of h.content there).1 in
     split ! $ split ! $ move ! (2 ∷ []) $ fsplit ! $ rewrite ! 0 (Self h) self_is refl $ move ! (1 ∷ []) $ fsplit ! $
     handle_tells freeing ! a z.0.4.1.0 (λ alloc alloc_is fits. keep ! (0 ∷ 2 ∷ 3 ∷ []) $
     -- [the allocator; the reference; the token]
@@ -75,9 +75,9 @@ take_spec 𝓤 𝓛 𝓜 𝓡 wired =
     nothing ! $ move ! (2 ∷ 0 ∷ []) $ fjoin ! $ move ! (2 ∷ 0 ∷ 3 ∷ 4 ∷ 5 ∷ []) $ closes ! tt R emptied us own.0 own.1 $
     -- [the reference, in two entries; the token; the set with its block; the rest of the reference; the allocator]
     returns ! (look_at ! 0 refl) $ free_all ! refl $
-    move ! (3 ∷ 5 ∷ []) $ rewrite ! 0 (λ (set : Option Kept). ‵ (handle_owns kept_row h.at set)) is_x refl $ raw_closes kept_row Z heap_laws.the_row_laws ghosts ! h.at alloc a x $
-    let none : Option Kept = None in
-    use0 𝓛 (raw (fact 𝓤 (none ≡ none))) (fact_i 𝓤 (none ≡ none) (emp 𝓤) refl) $ use0 𝓛 (raw (fact 𝓤 (h.kept ≡ Some x))) (fact_i 𝓤 (h.kept ≡ Some x) (emp 𝓤) is_x) $ join ! $
+    move ! (3 ∷ 5 ∷ []) $ rewrite ! 0 (λ (set : Option SetOrSeat). ‵ (handle_owns content_row h.at set)) is_x refl $ raw_closes content_row Z heap_laws.the_row_laws ghosts ! h.at alloc a x $
+    let none : Option SetOrSeat = None in
+    use0 𝓛 (raw (fact 𝓤 (none ≡ none))) (fact_i 𝓤 (none ≡ none) (emp 𝓤) refl) $ use0 𝓛 (raw (fact 𝓤 (h.content ≡ Some x))) (fact_i 𝓤 (h.content ≡ Some x) (emp 𝓤) is_x) $ join ! $
     move ! (5 ∷ 2 ∷ 3 ∷ []) $ fjoin3 ! $ rewrite ! 0 (Self emptied) (sym self_is) refl $ nothing ! $ nothing ! $ fjoin ! $ move ! (1 ∷ []) $ fjoin ! $ nothing ! $ move ! (4 ∷ []) $ join ! $
     keep ! (0 ∷ 1 ∷ 3 ∷ 2 ∷ []) $
     by ! (leaves 𝓛 f.ended stayed c z (two h.at alloc) (record { at = h.at; alloc = a; value = x }) (emptied, (tt, tt)) (tt, (tt, tt)))))))))

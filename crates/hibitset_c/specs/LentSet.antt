@@ -5,21 +5,21 @@ use Rattle.hibitset_base.specs.StoredWords.{summed_lawful}
 use Rattle.hibitset_base.specs.Words.{word_at, holds_at}
 use Rattle.hibitset_base.specs.declared.util.TheConstants.{LAYERS}
 use Rattle.hibitset.specs.Layers.{piled}
-use Rattle.hibitset_c.specs.declared.seen.Seen.{Seen}
+use Rattle.hibitset_c.specs.declared.lent_set.LentSet.{LentSet}
 
 -- the words of the layers, from the lowest up
-abbrev pub layers : Seen → List (List ℕ)
+abbrev pub layers : LentSet → List (List ℕ)
 layers set = piled set.layer0.now set.layer1.now set.layer2.now set.layer3.now set.top
 
 -- the word of a layer at a position
-unfoldable pub word_of : Seen → ℕ → ℕ → ℕ
+unfoldable pub word_of : LentSet → ℕ → ℕ → ℕ
 word_of set = word_at (layers set)
 
 -- the set has the number as a member
-unfoldable pub has : Seen → ℕ → Bool
+unfoldable pub has : LentSet → ℕ → Bool
 has set = holds_at (word_of set)
 
 -- the words are those of a set that has these members
-pub has_is_lawful : (set : Seen) → IsLawful LAYERS (has set) (word_of set)
+pub has_is_lawful : (set : LentSet) → IsLawful LAYERS (has set) (word_of set)
 unfolding has word_of
 has_is_lawful set = summed_lawful LAYERS set.summed

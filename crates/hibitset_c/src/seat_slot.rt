@@ -2,12 +2,12 @@
 #![tactic(auto)]
 
 ghost use Rattle.std.specs.Prelude.{◌≡◌, is_some};
-ghost use Rattle.hibitset_c.specs.KeptSet.{is_seated_at};
+ghost use Rattle.hibitset_c.specs.SetOrSeat.{is_seated_at};
 
-use crate::kept::Kept;
-use crate::kept_handle::KeptHandle;
+use crate::owned_box::OwnedBox;
 use crate::raw_box::RawBox;
 use crate::set::sent;
+use crate::set_or_seat::SetOrSeat;
 use std::alloc::Global;
 
 /// A seat of a shared set as C keeps it, or none.
@@ -16,22 +16,22 @@ use std::alloc::Global;
 /// other call has the seat meanwhile. Other seats of the set may be in calls at the same time.
 #[repr(C)]
 #[derive(Drop)]
-pub struct HeldSeat {
-    pub(crate) handle: KeptHandle,
+pub struct SeatSlot {
+    pub(crate) handle: OwnedBox,
     pub(crate) made: bool,
-    ghost tells: { made ≡ is_some handle.kept },
-    ghost seated: { made ≡ is_seated_at handle.kept },
+    ghost tells: { made ≡ is_some handle.content },
+    ghost seated: { made ≡ is_seated_at handle.content },
 }
 
-impl HeldSeat {
+impl SeatSlot {
     ghost use Rattle.std.specs.Prelude.{true, None, Some};
-    ghost use Rattle.hibitset_c.specs.KeptSet.{is_seated};
+    ghost use Rattle.hibitset_c.specs.SetOrSeat.{is_seated};
 
     // Takes the seat out.
-    pub(crate) fn take(&mut self, alloc: Global) -> Box<Kept, Global>
+    pub(crate) fn take(&mut self, alloc: Global) -> Box<SetOrSeat, Global>
         requires { self.old.made ≡ true }
-        ensures taken { self.old.handle.kept ≡ Some result.value }
-        ensures none { self.new.handle.kept ≡ None }
+        ensures taken { self.old.handle.content ≡ Some result.value }
+        ensures none { self.new.handle.content ≡ None }
     {
         self.made = false;
         self.handle.take(alloc).into_box()
@@ -39,7 +39,7 @@ impl HeldSeat {
 
     // Gives the seat up, and with the last one of a set the set.
     pub(crate) fn release(&mut self, alloc: Global)
-        ensures { self.new.handle.kept ≡ None }
+        ensures { self.new.handle.content ≡ None }
     {
         if self.made {
             drop(self.take(alloc));
@@ -47,18 +47,18 @@ impl HeldSeat {
     }
 
     // Puts a seat in the place of what there is.
-    pub(crate) fn replace(&mut self, alloc: Global, kept: Box<Kept, Global>)
-        requires { is_seated kept.value ≡ true }
-        ensures { self.new.handle.kept ≡ Some kept.value }
+    pub(crate) fn replace(&mut self, alloc: Global, content: Box<SetOrSeat, Global>)
+        requires { is_seated content.value ≡ true }
+        ensures { self.new.handle.content ≡ Some content.value }
     {
         self.release(alloc);
-        self.handle = KeptHandle::of(RawBox::from_box(kept));
+        self.handle = OwnedBox::of(RawBox::from_box(content));
         self.made = true;
     }
 }
 
 // C may hand it on to another thread.
-pub(crate) fn handed_on(seat: HeldSeat) -> HeldSeat
+pub(crate) fn handed_on(seat: SeatSlot) -> SeatSlot
     ensures { result ≡ seat }
 {
     sent(seat)

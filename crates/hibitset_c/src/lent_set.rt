@@ -1,5 +1,5 @@
 //! A set that C lends to be read.
-#![tactic(auto, unfolding(crate::specs::Seen::has, crate::specs::Seen::word_of))]
+#![tactic(auto, unfolding(crate::specs::LentSet::has, crate::specs::LentSet::word_of))]
 
 ghost use Rattle.std.specs.Prelude.{◌≡◌, ℕ, ◌-◌, ◌^◌, ◌≤◌, get_or, length};
 ghost use Rattle.hibitset_base.specs.Words.{SummariesExactEverywhere, word_at};
@@ -15,7 +15,7 @@ use hibitset::{BitSetLike, Index};
 /// those of `hibitset_new`, and that no call changes the set meanwhile.
 #[repr(C)]
 #[derive(Clone, Copy)]
-pub struct Seen<'a> {
+pub struct LentSet<'a> {
     pub layer0: &'a [usize],
     pub layer1: &'a [usize],
     pub layer2: &'a [usize],
@@ -47,8 +47,8 @@ fn word(words: &[usize], position: usize) -> usize
     }
 }
 
-impl<'a> BitSetLike for Seen<'a> {
-    ghost use Rattle.hibitset_c.specs.Seen.{has, word_of, has_is_lawful};
+impl<'a> BitSetLike for LentSet<'a> {
+    ghost use Rattle.hibitset_c.specs.LentSet.{has, word_of, has_is_lawful};
 
     ghost holds = { has };
 

@@ -1,0 +1,16 @@
+use Rattle.std.proofs.Common.{◌≡◌, ◌<◌, IfSome, drop, length, map, slice_index, take}
+use Rattle.std.specs.List.{All}
+use Rattle.hibitset_base.specs.Members.{members_below}
+use Rattle.hibitset_base.specs.Ranked.{counted_set}
+use Rattle.hibitset_base.specs.declared.util.TheConstants.{MAX_EID}
+use Rattle.hibitset_c.specs.LentSet.{has}
+use Rattle.hibitset_c.proofs.lists.hibitset_select_many.Given as goal
+
+abbrev pub invariant-loop-slot : goal.invariant-loop-slot
+invariant-loop-slot l = record {
+  counted : IfSome l.counted (λ ranked. counted_set ranked ≡ l.set);
+  found : All (λ at. at < length (members_below MAX_EID (has l.set))) (take l.slot l.positions);
+  written : take l.slot l.indices ≡ map (λ at. slice_index (members_below MAX_EID (has l.set)) at) (take l.slot l.positions);
+  rest : drop l.slot l.indices ≡ drop l.slot l.fn.indices;
+  length_stays : length l.indices ≡ length l.fn.indices;
+}
