@@ -185,6 +185,14 @@ void hibitset_free(hibitset_t *set);
  * HIBITSET_NO_MEMORY, HIBITSET_OUT_OF_RANGE: `set` is unchanged. */
 HIBITSET_MUST_USE hibitset_status hibitset_with_capacity(hibitset_t *set, uint32_t max);
 
+/* Makes capacity for each index below `max`, at most HIBITSET_MAX_EID, as hibitset_with_capacity does, and keeps the
+ * members and the capacity that there is.
+ * HIBITSET_NO_MEMORY (never if max <= hibitset_capacity), HIBITSET_OUT_OF_RANGE: the capacity is unchanged. */
+HIBITSET_MUST_USE hibitset_status hibitset_reserve(hibitset_t *set, uint32_t max);
+
+/* Returns how many bytes the words of the set take. Its block of memory may be longer, for words to come. */
+size_t hibitset_memory(const hibitset_t *set);
+
 /* Returns a number below which each index can be added without an allocation. */
 static inline size_t hibitset_capacity(const hibitset_t *set) { return 64 * set->layers_[0].len; }
 

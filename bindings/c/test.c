@@ -439,6 +439,7 @@ static void leave_empty(hibitset_t *set, const hibitset_t *other) {
     CHECK(hibitset_flip_range(set, 10, 10) == HIBITSET_OK && hibitset_flip_range(set, 10, 5) == HIBITSET_OK);
     hibitset_remove_range(set, 0, 100);
     hibitset_clear(set);
+    CHECK(hibitset_reserve(set, 0) == HIBITSET_OK && hibitset_memory(set) == 0);
     CHECK(hibitset_or_assign(set, other) == HIBITSET_OK && hibitset_xor_assign(set, other) == HIBITSET_OK);
     hibitset_and_assign(set, other);
     hibitset_andnot_assign(set, other);
@@ -554,6 +555,26 @@ static void version(void) {
     char text[32];
     sprintf(text, "%d.%d.%d", HIBITSET_VERSION_MAJOR, HIBITSET_VERSION_MINOR, HIBITSET_VERSION_PATCH);
     CHECK(strcmp(text, HIBITSET_VERSION) == 0 && strcmp(hibitset_version(), HIBITSET_VERSION) == 0 && hibitset_abi_0 == 0);
+}
+
+/* Capacity that keeps the members, and the bytes of the words. */
+static void reserve(void) {
+    hibitset_t set = hibitset_new();
+    uint32_t index;
+    long before;
+    CHECK(hibitset_reserve(&set, 0) == HIBITSET_OK && hibitset_memory(&set) == 0);
+    CHECK(hibitset_add(&set, 70) == HIBITSET_OK && hibitset_add(&set, 5) == HIBITSET_OK && hibitset_memory(&set) == 40);
+    CHECK(hibitset_reserve(&set, HIBITSET_MAX_EID + 1) == HIBITSET_OUT_OF_RANGE && hibitset_capacity(&set) == 128);
+    allocations_left = 0;
+    CHECK(hibitset_reserve(&set, 128) == HIBITSET_OK && hibitset_reserve(&set, 100000) == HIBITSET_NO_MEMORY);
+    allocations_left = -1;
+    CHECK(hibitset_capacity(&set) == 128 && hibitset_len(&set) == 2);
+    CHECK(hibitset_reserve(&set, 100000) == HIBITSET_OK && hibitset_capacity(&set) == 100032 && hibitset_len(&set) == 2);
+    CHECK(hibitset_contains(&set, 70) && hibitset_contains(&set, 5) && hibitset_memory(&set) == 8 * (1563 + 25 + 1 + 1));
+    before = allocations;
+    for (index = 99999; index > 0; index--) CHECK(!hibitset_failed(hibitset_add(&set, index)));
+    CHECK(hibitset_reserve(&set, 9) == HIBITSET_OK && hibitset_capacity(&set) == 100032 && allocations == before);
+    hibitset_free(&set);
 }
 
 /* Ids by shards, beside C's own operators. */
@@ -823,6 +844,7 @@ int main(void) {
     empty_sets();
     texts();
     version();
+    reserve();
     split_ids();
     null_buffers();
     out_of_range();

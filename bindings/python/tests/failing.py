@@ -32,6 +32,7 @@ ALLOCATE = {
     "deserialize": lambda some: BitSet.deserialize(STREAM),
     "from_words": lambda some: BitSet.from_words(WORDS),
     "with_capacity": lambda some: BitSet.with_capacity(1 << 20),
+    "reserve": lambda some: some.reserve(1 << 20),
     "pickle": lambda some: pickle.loads(pickle.dumps(some, 5)),
     "comparison with a set": lambda some: some <= {5, 6},
 }
@@ -45,10 +46,10 @@ NOTHING = {
     "words": lambda some: some.words().sum(),
     "len": len,
     "rank": lambda some: some.rank(9),
-    "ranks": lambda some: some.ranks([9]),
     "==": lambda some: some == BIG,
     "fingerprint": lambda some: some.fingerprint(),
 }
+SPARED = {"ranks": lambda some: some.ranks([9, 100_000])}  # Without the memory they take longer.
 
 
 def allocations_of(call):
@@ -80,4 +81,9 @@ for each, its_call in ALLOCATE.items():
     fail_each(each, its_call)
 for each, its_call in NOTHING.items():
     assert allocations_of(its_call)[0] == 0, f"{each} allocates"
-print(f"failing.py: {len(ALLOCATE)} calls, each allocation fails in turn; {len(NOTHING)} calls allocate nothing")
+for each, its_call in SPARED.items():
+    for allowed in range(allocations_of(its_call)[0]):
+        LIBRARY.let_pass(allowed)
+        assert its_call(BIG).tolist() == [1, 2], f"{each}: allocation {allowed} fails"
+    LIBRARY.let_pass(-1)
+print(f"failing.py: {len(ALLOCATE)} calls, each allocation fails in turn; {len(NOTHING)} calls allocate nothing, {len(SPARED)} does without")

@@ -56,6 +56,8 @@ MUTANTS = [
     ("a buffer is kept after an error", "words.c", "    if (!begin(&call, words.len)) {\n        PyBuffer_Release(&words.view);", "    if (!begin(&call, words.len)) {", "memory"),
     ("common items are all items", "many.c", "bool is_member = hibitset_contains(other, indices[i]);", "bool is_member = true;", "memory"),
     ("ranks may be short", "order.c", "bool fits = bounds.len <= ranks.len;", "bool fits = true;", "numpy"),
+    ("ids may be left out", "ids.c", "return written == ids->len;", "return true;", "numpy"),
+    ("a base is left out", "ids.c", "start, base, ids.items", "start, 0, ids.items", "numpy"),
     ("a stream of a set that shrank", "streams.c", "status == HIBITSET_OK && taken == *len", "status == HIBITSET_OK", "threads"),
     ("a stream of a set that grew", "streams.c", "if (status == HIBITSET_NO_MEMORY) return none_or_error(status);", "if (hibitset_failed(status)) return none_or_error(status);", "threads"),
     ("a stream may have any key", "streams.c", "bytes.len, keys, &fault", "bytes.len, HIBITSET_ROARING_KEYS, &fault", "streams"),

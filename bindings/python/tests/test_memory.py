@@ -8,7 +8,7 @@ from array import array
 
 import pytest
 
-from hibitset import BitSet
+from hibitset import BitSet, _core
 
 SOME = BitSet([1, 2, 65_539])
 
@@ -167,8 +167,11 @@ def test_buffers_are_given_back():
         lambda: BitSet(numbers), lambda: BitSet(array("I", [1 << 31])), lambda: SOME & set(numbers), lambda: SOME._contains_many(numbers, room),
         lambda: SOME._contains_many(numbers, bytearray(1)), lambda: SOME._contains_many(numbers, 5), lambda: SOME._contains_many(5, room),
         lambda: BitSet()._add_common(SOME, numbers), lambda: viewed._add_common(SOME, numbers), lambda: viewed._add_many(numbers),
-        lambda: SOME._next_many(0, numbers), lambda: SOME._ranks_ascending(numbers, array("L", [0, 0, 0])), lambda: SOME._ranks_ascending(numbers, array("L")),
-        lambda: SOME._ranks_ascending(numbers, numbers), lambda: SOME._ranks_ascending(5, words), lambda: BitSet()._assign_words(words),
+        lambda: BitSet([1])._remove_many(numbers), lambda: viewed._remove_many(numbers), lambda: SOME._next_many_u64(0, 5, words),
+        lambda: SOME._next_many_u64(0, -1, words), lambda: SOME._next_many_u64(0, 5, numbers), lambda: _core.split_ids(words, 9, 5, numbers, numbers),
+        lambda: _core.split_ids(words, 31, 5, numbers, numbers), lambda: _core.split_ids(words, 9, 5, numbers, words), lambda: _core.split_ids(words, 9, 5, words, numbers),
+        lambda: SOME._next_many(0, numbers), lambda: SOME._rank_many(numbers, array("L", [0, 0, 0])), lambda: SOME._rank_many(numbers, array("L")),
+        lambda: SOME._rank_many(numbers, numbers), lambda: SOME._rank_many(5, words), lambda: BitSet()._assign_words(words),
         lambda: viewed._assign_words(words), lambda: SOME._copy_words(words), lambda: SOME._copy_words(numbers), lambda: BitSet.deserialize(bytes_),
         lambda: BitSet.deserialize(bytes_, below=1), lambda: viewed._deserialize(bytes_, 5), lambda: SOME.serialize_into(room), lambda: SOME.serialize_into(bytearray(1)),
         lambda: SOME.serialize_into(bytes_),

@@ -7,7 +7,7 @@ from hypothesis import strategies as st
 
 np = pytest.importorskip("numpy")
 
-from hibitset import MAX_INDEX, BitSet  # noqa: E402
+from hibitset import MAX_INDEX, BitSet, _core  # noqa: E402
 
 lists = st.lists(st.integers(0, 1 << 18), max_size=200)
 
@@ -124,12 +124,33 @@ def test_to_a_buffer_of_the_caller():
 
 def test_short_buffers():
     some, asked = BitSet([1, 2, 3]), np.arange(4, dtype=np.uint32)
-    for call, found in [(some._contains_many, np.zeros(4, bool)), (some._ranks_ascending, np.zeros(4, np.uint64))]:
+    for call, found in [(some._contains_many, np.zeros(4, bool)), (some._rank_many, np.zeros(4, np.uint64))]:
         with pytest.raises(ValueError):
             call(asked, found[:3])
         assert not found.any()
         call(asked, found)
         assert found.tolist() == ([False, True, True, True] if found.dtype == bool else [0, 0, 1, 2])
+
+
+def test_a_list_is_removed():
+    some, asked = BitSet([1, 5, 70_000]), np.array([5, 5, 9, 1 << 31], np.uint32)
+    assert some._remove_many(asked) == 1 and some == {1, 70_000} and some._remove_many(asked) == 0
+    some.difference_update([1, 70_000.0], np.array([-1, 70_001]))
+    assert not some
+
+
+def test_ids():
+    some, ids = BitSet([0, 3, 70_000]), np.zeros(4, np.uint64)
+    assert some._next_many_u64(1, (1 << 64) - 4, ids) == 2 and ids.tolist() == [(1 << 64) - 1, 69_996, 0, 0]
+    asked, highs, lows = np.array([5, (3 << 30) + 7, 1 << 63], np.uint64), np.zeros(3, np.uint32), np.zeros(3, np.uint32)
+    _core.split_ids(asked, 30, 4, highs, lows)
+    assert highs.tolist() == [0, 3, 4] and lows.tolist() == [5, 7, 0]
+    for bits, room in [(31, 3), (30, 2)]:
+        with pytest.raises(ValueError):
+            _core.split_ids(asked, bits, 4, highs, lows[:room])
+    for base in [-1, 1 << 64]:
+        with pytest.raises(OverflowError):
+            some._next_many_u64(0, base, ids)
 
 
 def test_words_are_no_copy():
@@ -139,7 +160,7 @@ def test_words_are_no_copy():
     changes = [
         lambda: some.add(5), lambda: some.add(0), lambda: some.discard(0), some.clear, some.pop, some.pop_last, lambda: some.add_range(0, 5),
         lambda: some.flip_range(0, 5), lambda: some.remove_range(0, 5), lambda: some.update([1]), lambda: some.__iand__(BitSet()),
-        lambda: some.__ior__(some), lambda: some.__init__([5]), lambda: some._assign_words(np.ones(3, np.uint64)), lambda: some._with_capacity(9),
+        lambda: some.__ior__(some), lambda: some.__init__([5]), lambda: some._assign_words(np.ones(3, np.uint64)), lambda: some._with_capacity(9), lambda: some.reserve(9),
         lambda: some._deserialize(some.serialize(), 5),
     ]  # fmt: skip
     for change in changes:

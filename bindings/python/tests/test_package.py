@@ -17,7 +17,7 @@ HERE = Path(__file__).resolve().parent.parent
 LEFT_OUT = {
     r"hibitset_(atomic|seat)_\w+": "threads of Python take turns",
     r"hibitset_sparse_\w+|hibitset_(\w+_)?assign_sparse": "no class has them",
-    r"hibitset_rank_many": "ranks go by ascending bounds",
+    r"hibitset_select_many": "no method asks for a list of positions",
     r"hibitset_clear": "clear frees the memory, as that of set does",
     r"hibitset_iterate": "hibitset_next_many in its place",
     r"hibitset_not_next_many|hibitset_(and|or|xor|andnot)_next_many": "a set of two is made instead",

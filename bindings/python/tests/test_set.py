@@ -229,9 +229,15 @@ def test_ends_of_the_range():
     some.clear()
     assert some.capacity() == 0 and not some
     assert BitSet.with_capacity(1000).capacity() >= 1000
+    some.add(5)
+    some.reserve(1000)
+    some.reserve(9)
+    assert some.capacity() == 1024 and some == {5} and sys.getsizeof(some) == sys.getsizeof(BitSet()) + 8 * (16 + 1 + 1 + 1)
     for bad in [-1, MAX_INDEX + 2]:
         with pytest.raises(OverflowError):
             BitSet.with_capacity(bad)
+        with pytest.raises(OverflowError):
+            some.reserve(bad)
 
 
 @given(indices)

@@ -1,5 +1,6 @@
 mod BelongsToLemmas
 mod BulkLemmas
+mod CapacityLemmas
 mod CombineLemmas
 mod EmptinessLemmas
 mod HandleLemmas

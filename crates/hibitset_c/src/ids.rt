@@ -6,11 +6,13 @@ ghost use Rattle.hibitset_base.specs.Members.{members};
 ghost use Rattle.hibitset_base.specs.declared.util.TheConstants.{MAX_EID};
 ghost use Rattle.hibitset_c.specs.Buffer.{Fills};
 ghost use Rattle.hibitset_c.specs.LentSet.{has};
+ghost use Rattle.hibitset_c.specs.declared.ids.TheConstants.{MAX_BITS};
 
 use crate::fill::fill_above;
 use crate::lent_set::LentSet;
 
-const MAX_BITS: u32 = 30;
+/// Base two logarithm of `MAX_EID`.
+pub const MAX_BITS: u32 = 30;
 
 /// Writes the members from `start` on into the buffer as `hibitset_next_many` does, each plus `base`, modulo 2^64.
 /// Returns how many.
@@ -30,7 +32,7 @@ pub extern "C" fn hibitset_next_many_u64(
 // The shard of an id, or `shards` if it lies past the last one.
 #[inline]
 fn shard_of(id: u64, bits: u32, shards: u32) -> u32
-    requires { bits ≤ 30 }
+    requires { bits ≤ MAX_BITS }
     ensures { result ≡ min (id / 2 ^ bits) shards }
 {
     (id >> bits).min(u64::from(shards)) as u32
@@ -39,7 +41,7 @@ fn shard_of(id: u64, bits: u32, shards: u32) -> u32
 // The index of an id in its shard.
 #[inline]
 fn index_of(id: u64, bits: u32) -> u32
-    requires { bits ≤ 30 }
+    requires { bits ≤ MAX_BITS }
     ensures { result ≡ id % 2 ^ bits }
 {
     (id % (1 << bits)) as u32
@@ -56,9 +58,9 @@ pub extern "C" fn hibitset_split_ids(
     highs: &mut [u32],
     lows: &mut [u32],
 ) -> usize
-    ensures count { bits ≤ 30 → result ≡ min (length ids.now)
+    ensures count { bits ≤ MAX_BITS → result ≡ min (length ids.now)
         (min (length highs.old) (length lows.old)) }
-    ensures refuses { 30 < bits → result ≡ 0 }
+    ensures refuses { MAX_BITS < bits → result ≡ 0 }
     ensures highs { Fills (map (λ id. min (id / 2 ^ bits) shards) (take result ids.now)) highs.old
         result highs.new }
     ensures lows { Fills (map (λ id. id % 2 ^ bits) (take result ids.now)) lows.old result

@@ -18,6 +18,7 @@ pub mod atomic;
 pub mod atomic_set;
 pub mod build;
 pub mod bulk;
+pub mod capacity;
 pub mod change;
 mod collect;
 pub mod combine;

@@ -99,8 +99,10 @@ PyObject *none_or_error(hibitset_status status);
 #define METHOD(name, function, flags, text) {name, (PyCFunction)(void (*)(void))(function), flags, text}
 #define END_OF_METHODS {NULL, NULL, 0, NULL}
 
-extern const PyMethodDef member_methods[], range_methods[], order_methods[], many_methods[], word_methods[],
-    stream_methods[], pair_methods[];
+extern const PyMethodDef member_methods[], range_methods[], order_methods[], many_methods[], id_methods[],
+    word_methods[], stream_methods[], pair_methods[];
+
+PyObject *split_ids(PyObject *module, PyObject *const *arguments, Py_ssize_t count); /* ids.c */
 
 int core_contains(PyObject *self, PyObject *item); /* members.c */
 Py_ssize_t core_length(PyObject *self);            /* order.c */

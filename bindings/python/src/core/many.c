@@ -21,6 +21,23 @@ static PyObject *core_add_many(PyObject *object, PyObject *buffer) {
     return NULL;
 }
 
+/* Removes the indices of a buffer, and returns how many members that takes out. */
+static PyObject *core_remove_many(PyObject *object, PyObject *buffer) {
+    Core *self = (Core *)object;
+    Call call = {.changed = self};
+    Items indices;
+    if (items_of(buffer, 4, false, &indices) < 0) return NULL;
+    if (!begin(&call, indices.len)) {
+        PyBuffer_Release(&indices.view);
+        return NULL;
+    }
+    size_t removed = hibitset_remove_many(&self->set, indices.items, indices.len);
+    call.unchanged = removed == 0;
+    end(&call);
+    PyBuffer_Release(&indices.view);
+    return PyLong_FromSize_t(removed);
+}
+
 /* Adds those indices of a list that are members of another set. `*all` becomes whether all are. */
 static hibitset_status add_members(hibitset_t *set, const hibitset_t *other, const uint32_t *indices, size_t len,
                                    bool *all) {
@@ -89,6 +106,7 @@ static PyObject *core_next_many(PyObject *object, PyObject *const *arguments, Py
 
 const PyMethodDef many_methods[] = {
     METHOD("_add_many", core_add_many, METH_O, NULL),
+    METHOD("_remove_many", core_remove_many, METH_O, NULL),
     METHOD("_add_common", core_add_common, METH_FASTCALL, NULL),
     METHOD("_contains_many", core_contains_many, METH_FASTCALL, NULL),
     METHOD("_next_many", core_next_many, METH_FASTCALL, NULL),

@@ -74,8 +74,8 @@ static const PyMethodDef own_methods[] = {
 /* The methods of all subjects, as one table. */
 static PyMethodDef *joined_methods(void) {
     static PyMethodDef joined[80];
-    const PyMethodDef *subjects[] = {own_methods,  member_methods, range_methods,  order_methods,
-                                     many_methods, word_methods,   stream_methods, pair_methods};
+    const PyMethodDef *subjects[] = {own_methods, member_methods, range_methods,  order_methods, many_methods,
+                                     id_methods,  word_methods,   stream_methods, pair_methods};
     size_t count = 0;
     for (size_t i = 0; i < sizeof subjects / sizeof *subjects; i++) {
         for (const PyMethodDef *method = subjects[i]; method->ml_name != NULL; method++) {
@@ -112,6 +112,7 @@ static bool fill(PyObject *module) {
 
 static PyMethodDef functions[] = {
     METHOD("return_sets_of", return_sets_of, METH_O, NULL),
+    METHOD("split_ids", split_ids, METH_FASTCALL, NULL),
     END_OF_METHODS,
 };
 

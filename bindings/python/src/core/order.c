@@ -110,19 +110,8 @@ static PyObject *core_len_range(PyObject *object, PyObject *const *arguments, Py
     return PyLong_FromSize_t(len);
 }
 
-/* Writes the rank of each of `len` ascending bounds. */
-static void write_ranks(const hibitset_t *set, const uint32_t *bounds, size_t len, uint64_t *ranks) {
-    uint64_t rank = 0;
-    uint32_t before = 0;
-    for (size_t i = 0; i < len; i++) {
-        rank += hibitset_len_range(set, before, bounds[i]);
-        before = bounds[i];
-        ranks[i] = rank;
-    }
-}
-
-/* Writes the ranks of the ascending bounds in one buffer into another. */
-static PyObject *core_ranks_ascending(PyObject *object, PyObject *const *arguments, Py_ssize_t count) {
+/* Writes the ranks of the bounds in one buffer into another. */
+static PyObject *core_rank_many(PyObject *object, PyObject *const *arguments, Py_ssize_t count) {
     Core *self = (Core *)object;
     Call call = {.read = {self}};
     Items bounds, ranks;
@@ -134,7 +123,7 @@ static PyObject *core_ranks_ascending(PyObject *object, PyObject *const *argumen
     bool fits = bounds.len <= ranks.len;
     if (fits) {
         begin_walk_and(&call, bounds.len);
-        write_ranks(&self->set, bounds.items, bounds.len, ranks.items);
+        hibitset_rank_many(&self->set, bounds.items, bounds.len, ranks.items, ranks.len);
         end(&call);
     }
     PyBuffer_Release(&bounds.view);
@@ -184,6 +173,6 @@ const PyMethodDef order_methods[] = {
     METHOD("rank", core_rank, METH_O, rank_text),
     METHOD("_select", core_select, METH_O, NULL),
     METHOD("len_range", core_len_range, METH_FASTCALL, len_range_text),
-    METHOD("_ranks_ascending", core_ranks_ascending, METH_FASTCALL, NULL),
+    METHOD("_rank_many", core_rank_many, METH_FASTCALL, NULL),
     END_OF_METHODS,
 };

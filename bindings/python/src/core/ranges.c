@@ -54,6 +54,27 @@ static PyObject *core_with_capacity(PyObject *object, PyObject *item) {
     return none_or_error(status);
 }
 
+static PyObject *core_reserve(PyObject *object, PyObject *item) {
+    Core *self = (Core *)object;
+    Call call = {.changed = self, .unchanged = true};
+    uint32_t bound;
+    if (bound_of(item, true, &bound) < 0 || !begin_range(&call, 0, bound)) return NULL;
+    hibitset_status status = hibitset_reserve(&self->set, bound);
+    end(&call);
+    return none_or_error(status);
+}
+
+/* Returns how many bytes the words take. */
+static PyObject *core_memory(PyObject *object, PyObject *unused) {
+    Core *self = (Core *)object;
+    Call call = {.read = {self}};
+    (void)unused;
+    begin(&call, 0);
+    size_t memory = hibitset_memory(&self->set);
+    end(&call);
+    return PyLong_FromSize_t(memory);
+}
+
 static PyObject *core_capacity(PyObject *object, PyObject *unused) {
     Core *self = (Core *)object;
     Call call = {.read = {self}};
@@ -86,6 +107,9 @@ PyDoc_STRVAR(remove_range_text, "remove_range($self, start, end, /)\n--\n\n"
 PyDoc_STRVAR(clear_text, "clear($self, /)\n--\n\n"
 "Remove all members and free their memory.");
 
+PyDoc_STRVAR(reserve_text, "reserve($self, end, /)\n--\n\n"
+"Make room, so that the indices below end can be added without an allocation, and keep the members.");
+
 PyDoc_STRVAR(capacity_text, "capacity($self, /)\n--\n\n"
 "Return a number below which each index can be added without an allocation.");
 
@@ -95,6 +119,8 @@ const PyMethodDef range_methods[] = {
     METHOD("remove_range", core_remove_range, METH_FASTCALL, remove_range_text),
     METHOD("clear", core_clear, METH_NOARGS, clear_text),
     METHOD("_with_capacity", core_with_capacity, METH_O, NULL),
+    METHOD("reserve", core_reserve, METH_O, reserve_text),
+    METHOD("_memory", core_memory, METH_NOARGS, NULL),
     METHOD("capacity", core_capacity, METH_NOARGS, capacity_text),
     END_OF_METHODS,
 };

@@ -3,7 +3,7 @@ from __future__ import annotations
 
 import operator
 import pickle
-from collections.abc import Collection, Iterable, MutableSet, Set
+from collections.abc import Callable, Collection, Iterable, MutableSet, Set
 from itertools import islice
 from typing import TYPE_CHECKING, Any, Optional, Self, SupportsIndex, Union, overload
 
@@ -126,13 +126,20 @@ class BitSet(Core):
         """
         if out is not None:
             return out[: self._next_many(start, out)]
-        np = _arrays.numpy()
+        return self._all_from(start, "u4", lambda found: self._next_many(start, found))  # type: ignore[no-any-return]
+
+    def _ids(self, base: int) -> npt.NDArray[np.uint64]:
+        """The members plus a base, ascending."""
+        return self._all_from(0, "u8", lambda found: self._next_many_u64(0, base, found))  # type: ignore[no-any-return]
+
+    def _all_from(self, start: int, dtype: str, write: Callable[[Any], int]) -> Any:
+        """An array of what is written of each member from start on."""
         room, count = 0, 1
         while count > room:  # Another thread may add members meanwhile.
             room = max(room, self.len_range(start, MAX_INDEX + 1))
-            found = np.empty(room + 1, np.uint32)
-            count = self._next_many(start, found)
-        return found[:count]  # type: ignore[no-any-return]
+            found = _arrays.numpy().empty(room + 1, dtype)
+            count = write(found)
+        return found[:count]
 
     def __array__(self, dtype: Any = None, copy: Optional[bool] = None) -> Any:
         """Return what to_numpy returns, for numpy.asarray."""
@@ -204,12 +211,9 @@ class BitSet(Core):
         """
         np = _arrays.numpy()
         bounds = _arrays.bounds_of(ends)
-        order = np.argsort(bounds, axis=None, kind="stable")
-        ascending = np.empty(bounds.size, np.uint64)
-        self._ranks_ascending(bounds.reshape(-1)[order], ascending)
-        found = np.empty_like(ascending)
-        found[order] = ascending
-        return found.reshape(bounds.shape)  # type: ignore[no-any-return]
+        found = np.empty(bounds.shape, np.uint64)
+        self._rank_many(bounds.reshape(-1), found.reshape(-1))
+        return found  # type: ignore[no-any-return]
 
     def index(self, member: int) -> int:
         """Return the position of a member in the ascending list. ValueError if it is none."""
@@ -300,6 +304,18 @@ class BitSet(Core):
                 whole = False
         return made, whole
 
+    def _remove_items(self, items: Any) -> None:
+        """Remove the members that an item is equal to."""
+        if not isinstance(items, (Core, range)):
+            if not isinstance(items, Collection):
+                items = list(items)  # It may be gone through twice.
+            try:
+                self._remove_many(_arrays.indices_of(items))
+                return
+            except (OverflowError, TypeError):
+                pass
+        self._andnot_assign(self._common(items)[0])
+
     # ---- Methods of sets, which take any iterable ----
 
     def update(self, *others: Iterable[SupportsIndex]) -> None:
@@ -315,7 +331,7 @@ class BitSet(Core):
     def difference_update(self, *others: Iterable[Any]) -> None:
         """Remove the members that are in one of the others."""
         for other in others:
-            self._andnot_assign(self._common(other)[0])
+            self._remove_items(other)
 
     def symmetric_difference_update(self, other: Iterable[SupportsIndex]) -> None:
         """Remove the members that are in the other, and add its other items."""
@@ -426,7 +442,7 @@ class BitSet(Core):
     def __isub__(self, other: Set[Any]) -> Self:
         if not isinstance(other, Set):
             return NotImplemented
-        self._andnot_assign(self._common(other)[0])
+        self._remove_items(other)
         return self
 
     def __eq__(self, other: object) -> bool:
@@ -487,8 +503,7 @@ class BitSet(Core):
         return f"<{name} of {len(self)}: {listed}, ..., {self.max()}>"
 
     def __sizeof__(self) -> int:
-        words = self.capacity() // _arrays.BITS_OF_WORD
-        return object.__sizeof__(self) + 8 * (words + words // 63)
+        return object.__sizeof__(self) + self._memory()
 
 
 def _unpickled(cls: type[BitSet], data: Any) -> BitSet:

@@ -13,6 +13,7 @@ import numpy.typing as npt
 from . import folder as folders
 from ._arrays import integers
 from ._bitset import BitSet
+from ._core import split_ids
 
 __all__ = ["IdSet"]
 
@@ -31,13 +32,14 @@ class Parts:
     """A list of integers by shards: the low bits of those in each, and in others how many are no ids."""
 
     def __init__(self, given: Any, bits: int, shards: int) -> None:
-        ids = integers(given).reshape(-1).astype(np.uint64, copy=False)
-        high = np.minimum(ids >> np.uint64(bits), np.uint64(shards)).astype(np.min_scalar_type(shards))
+        ids = np.require(integers(given), "u8", ["C", "A"]).reshape(-1)
+        highs, lows = np.empty(len(ids), np.uint32), np.empty(len(ids), np.uint32)
+        split_ids(ids, bits, shards, highs, lows)
+        highs = highs.astype(np.min_scalar_type(shards))
         # Positions in the list, by shards: what is no id comes last.
-        self.order = np.argsort(high, kind="stable")
-        lows = (ids & np.uint64((1 << bits) - 1)).astype(np.uint32)[self.order]
-        ends = np.bincount(high, minlength=shards + 1).cumsum()
-        *self.lows, last = np.split(lows, ends[:-1])
+        self.order = np.argsort(highs, kind="stable")
+        ends = np.bincount(highs, minlength=shards + 1).cumsum()
+        *self.lows, last = np.split(lows[self.order], ends[:-1])
         self.others = len(last)
 
     def answers(self, by_shard: Sequence[npt.NDArray[np.bool_]]) -> npt.NDArray[np.bool_]:
@@ -59,9 +61,7 @@ def split(given: Any, bits: int, shards: int, first: int = 0) -> list[npt.NDArra
 
 def ids_of(shard: BitSet, high: int, bits: int) -> npt.NDArray[np.uint64]:
     """The ids of the members of a shard."""
-    found: npt.NDArray[np.uint64] = shard.to_numpy().astype(np.uint64)
-    found += np.uint64(high << bits)
-    return found
+    return shard._ids(high << bits)
 
 
 def shard_at(lens: Sequence[int], at: int) -> tuple[int, int]:
