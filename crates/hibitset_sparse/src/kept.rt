@@ -1,7 +1,7 @@
 //! What is left of words and chunks where the indices stay that are in another set, or those that are not.
 ghost use Rattle.std.specs.Prelude.{◌≡◌, ℕ, ◌+◌, ◌*◌, ◌%◌, ◌^◌, ◌<◌, Option, Some, true, false, not};
 ghost use Rattle.hibitset_sparse.specs.Chunk.{chunk_word, has_in};
-ghost use Rattle.hibitset_sparse.specs.Retain.{IsKeptChunk, IsKeptWord, LeavesOf};
+ghost use Rattle.hibitset_sparse.specs.Retain.{IsKeptChunk, IsKeptOfNonzero, IsKeptWord, LeavesOf};
 ghost use Rattle.hibitset_sparse.specs.SparseBitSet.{has};
 ghost use Rattle.hibitset_sparse.specs.Table.{value_at};
 ghost use Rattle.hibitset_sparse.specs.declared.chunk.Chunk.{Chunk};
@@ -97,7 +97,7 @@ impl GroupChange<usize> for ChunkBoth<'_> {
 struct ChunkAlone<'a>(&'a Chunk);
 
 impl GroupChange<usize> for ChunkAlone<'_> {
-    ghost leaves = { λ s. IsKeptWord (λ i. not (has_in s.0.now i)) };
+    ghost leaves = { λ s. IsKeptOfNonzero (λ i. not (has_in s.0.now i)) };
 
     #[inline]
     fn groups(&self) -> usize {
@@ -106,15 +106,55 @@ impl GroupChange<usize> for ChunkAlone<'_> {
 
     #[inline]
     fn retain_group(&self, items: &mut Vec<usize>, q: usize, group: Group, to: usize) -> usize {
-        let kept = BitSetNot(GroupView::of(self.0, q));
+        let other = GroupView::of(self.0, q);
+        if to == group.start && group.word & other.word == 0 {
+            return group.word;
+        }
+        let kept = BitSetNot(other);
         retain_group(items, &GroupPart(&kept), q, group, to)
+    }
+}
+
+/// The words of chunk c, of which the indices stay that are not in another set.
+#[derive(Drop)]
+struct ChunkMinus<'a, B: BitSetLike> {
+    other: &'a B,
+    c: usize,
+    ghost within: { c < PLACES_PER_TABLE },
+}
+
+impl<B: BitSetLike> GroupChange<usize> for ChunkMinus<'_, B> {
+    ghost leaves = { λ s p. IsKeptOfNonzero (λ i. not (B.holds s.other.now i)) (4096 * s.c + p) };
+
+    #[inline]
+    fn groups(&self) -> usize {
+        usize::MAX
+    }
+
+    #[inline]
+    fn retain_group(&self, items: &mut Vec<usize>, q: usize, group: Group, to: usize) -> usize {
+        let places = self.other.layer1(GROUPS_PER_TABLE * self.c + q);
+        if to == group.start && group.word & places == 0 {
+            return group.word;
+        }
+        let kept = BitSetNot(self.other);
+        retain_group(
+            items,
+            &ChunkPart {
+                kept: &kept,
+                c: self.c,
+            },
+            q,
+            group,
+            to,
+        )
     }
 }
 
 // Changes the words of a chunk, and returns whether it has any then.
 fn retain_words<G: GroupChange<usize>>(chunk: &mut Chunk, by: &G) -> bool
     requires nonzero { (p w : ℕ) (left : Option ℕ) → G.leaves by.now p w left
-        → (v : ℕ) → left ≡ Some v → (0 < v) × (v < 2 ^ 64) }
+        → 0 < w → w < 2 ^ 64 → (v : ℕ) → left ≡ Some v → (0 < v) × (v < 2 ^ 64) }
     ensures words { (p : ℕ) → p < PLACES_PER_TABLE → LeavesOf (G.leaves by.now p)
         (value_at chunk.old.words p) (value_at chunk.new.words p) }
     ensures some { result ≡ true → 0 < chunk_word chunk.new 2 0 }
@@ -161,8 +201,13 @@ impl<B: BitSetLike> Change<Chunk> for Alone<'_, B> {
         if self.0.layer2(i) == 0 {
             return value.layer2() != 0;
         }
-        let kept = BitSetNot(self.0);
-        retain_words(value, &ChunkPart { kept: &kept, c: i })
+        retain_words(
+            value,
+            &ChunkMinus {
+                other: self.0,
+                c: i,
+            },
+        )
     }
 }
 
