@@ -14,6 +14,7 @@ use Rattle.hibitset_sparse.specs.Chunk.{has_in, or_zero}
 use Rattle.hibitset_sparse.specs.Chunks.{AreFull, word_in}
 use Rattle.hibitset_sparse.specs.Parts.{item_from}
 use Rattle.hibitset_sparse.specs.Rank.{bit_is_set}
+use Rattle.hibitset_sparse.specs.Replacement.{has_in_or}
 use Rattle.hibitset_sparse.specs.Retain.{IsKeptChunk, IsKeptOfNonzero, IsKeptWord, IsRetained, LeavesOf}
 use Rattle.hibitset_sparse.specs.SparseBitSet.{has, word_of}
 use Rattle.hibitset_sparse.specs.Table.{AreNonzero, value_at}
@@ -294,3 +295,8 @@ set-kept holds old new are i = elim (cases_lt i (2 ^ 30)) [
   | inl low ↦ members-kept holds old.chunks new.chunks are i low
   | inr past ↦ none-past new i past ∙ sym (ap (λ t. t && holds i) (none-past old i past))
 ]
+
+-- what is there of a chunk, or nothing
+pub under-or : (o : Option Chunk) (i : ℕ) → has_under o (i % 262144) ≡ has_in_or o i false
+under-or None i = none-under (i % 262144)
+under-or (Some chunk) i = refl

@@ -1,10 +1,13 @@
 //! What is left of words and chunks where the indices stay that are in another set, or those that are not.
-ghost use Rattle.std.specs.Prelude.{◌≡◌, ℕ, ◌+◌, ◌*◌, ◌%◌, ◌^◌, ◌<◌, Option, Some, true, false, not};
+ghost use Rattle.std.specs.Prelude.{◌≡◌, ℕ, ◌+◌, ◌*◌, ◌/◌, ◌%◌, ◌^◌, ◌<◌, Option, Some, true, false, not};
+ghost use Rattle.hibitset_base.specs.declared.util.TheConstants.{MAX_EID};
 ghost use Rattle.hibitset_sparse.specs.Chunk.{chunk_word, has_in};
+ghost use Rattle.hibitset_sparse.specs.Replacement.{has_in_or};
 ghost use Rattle.hibitset_sparse.specs.Retain.{IsKeptChunk, IsKeptOfNonzero, IsKeptWord, LeavesOf};
 ghost use Rattle.hibitset_sparse.specs.SparseBitSet.{has};
 ghost use Rattle.hibitset_sparse.specs.Table.{value_at};
 ghost use Rattle.hibitset_sparse.specs.declared.chunk.Chunk.{Chunk};
+ghost use Rattle.hibitset_sparse.specs.declared.chunk.TheConstants.{INDICES_PER_CHUNK};
 ghost use Rattle.hibitset_sparse.specs.declared.table.TheConstants.{GROUPS_PER_TABLE, PLACES_PER_TABLE};
 
 use crate::chunk::Chunk;
@@ -271,7 +274,35 @@ impl<C: Change<Chunk>> GroupChange<Chunk> for EachChunk<'_, C> {
     }
 }
 
+// Each chunk that has members, as it is.
+#[derive(Drop)]
+struct WithMembers;
+
+impl Change<Chunk> for WithMembers {
+    ghost leaves = { λ s. IsKeptChunk (λ i. true) };
+
+    #[inline]
+    fn places(&self, _q: usize) -> usize {
+        usize::MAX
+    }
+
+    #[inline]
+    fn change(&self, _i: usize, value: &mut Chunk) -> bool {
+        value.layer2() != 0
+    }
+}
+
 impl SparseBitSet {
+    // The set of the members of chunks. Those without members are not kept. It does not allocate.
+    pub(crate) fn of_chunks(chunks: Table<Chunk>) -> SparseBitSet
+        ensures { (i : ℕ) → i < MAX_EID
+            → has result i ≡ has_in_or (value_at chunks (i / INDICES_PER_CHUNK)) i false }
+    {
+        SparseBitSet {
+            chunks: chunks.retain(&EachChunk(&WithMembers)),
+        }
+    }
+
     // Changes the chunks. None that stays is empty.
     pub(crate) fn retain_chunks<C: Change<Chunk>>(&mut self, by: &C)
         requires full { (c : ℕ) (chunk : Chunk) (left : Option Chunk) → C.leaves by.now c chunk left

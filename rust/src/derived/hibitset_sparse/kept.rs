@@ -227,7 +227,29 @@ impl<C: Change<Chunk>> GroupChange<Chunk> for EachChunk<'_, C> {
     }
 }
 
+// Each chunk that has members, as it is.
+struct WithMembers;
+
+impl Change<Chunk> for WithMembers {
+    #[inline]
+    fn places(&self, _q: usize) -> usize {
+        usize::MAX
+    }
+
+    #[inline]
+    fn change(&self, _i: usize, value: &mut Chunk) -> bool {
+        value.layer2() != 0
+    }
+}
+
 impl SparseBitSet {
+    // The set of the members of chunks. Those without members are not kept. It does not allocate.
+    pub(crate) fn of_chunks(chunks: Table<Chunk>) -> SparseBitSet {
+        SparseBitSet {
+            chunks: chunks.retain(&EachChunk(&WithMembers)),
+        }
+    }
+
     // Changes the chunks. None that stays is empty.
     pub(crate) fn retain_chunks<C: Change<Chunk>>(&mut self, by: &C) {
         let alloc = self.allocator();
