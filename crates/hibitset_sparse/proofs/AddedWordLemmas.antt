@@ -1,32 +1,19 @@
 -- Members of a chunk, and of a set, after the bits of words were added.
-use Rattle.std.proofs.Common.{◌≡◌, ℕ, zero, suc, ◌+◌, ◌-◌, ◌*◌, ◌/◌, ◌%◌, ◌^◌, ◌<◌, ◌≤◌, ◌==◌, ◌||◌, ◌&&◌, true, false, List, get_or, length, take, Option, Some, None, bit_or, refl, sym, ◌∙◌, ap, arith, inl, inr}
-use Rattle.std.specs.Prelude.{◌≢◌, if◌then◌else◌, nat_le, max}
-use Rattle.std.specs.Int.{bit_at}
+use Rattle.std.proofs.Common.{◌≡◌, ℕ, ◌+◌, ◌-◌, ◌*◌, ◌/◌, ◌%◌, ◌^◌, ◌<◌, ◌≤◌, ◌==◌, ◌||◌, ◌&&◌, true, false, List, get_or, length, take, Option, Some, None, bit_or, sym, ◌∙◌, ap, arith, inl, inr}
+use Rattle.std.specs.Prelude.{◌≢◌, if◌then◌else◌, nat_le}
 use Rattle.std.proofs.Math.Bool.{or-false}
 use Rattle.std.proofs.lemmas.Bool.{cases_lt, le-leb, lt-leb}
 use Rattle.std.proofs.lemmas.List.{get_or-take, get_or_past, length-take-le}
-use Rattle.std.proofs.lemmas.Nat.Bits.{bit_at_or, bit_at-lt, bit_at-zero}
+use Rattle.std.proofs.lemmas.Nat.Bits.{bit_at-zero}
 use Rattle.hibitset_base.specs.Decisions.{eq_other, eq_same, same_or_not}
 use Rattle.hibitset_sparse.specs.AddedWords.{is_in_word, is_in_words}
 use Rattle.hibitset_sparse.specs.Chunk.{has_in, or_zero}
+use Rattle.hibitset_sparse.specs.Merge.{or_bits}
 use Rattle.hibitset_sparse.specs.Rank.{bit_is_set}
 use Rattle.hibitset_sparse.specs.declared.chunk.Chunk.{Chunk}
 use Rattle.hibitset_sparse.proofs.ChunkLemmas.{has_at, other-word, same-word}
 use Rattle.hibitset_sparse.proofs.PackedArrayLemmas.{zero-is-clear}
 use Rattle.hibitset_sparse.proofs.SetLemmas.{has_under, set-added-by}
-
--- a bit of two words put together
-pub or-set : (x y b : ℕ) → bit_is_set (bit_or x y) b ≡ (bit_is_set x b || bit_is_set y b)
-or-set x y b = ap (λ n. n == 1) (bit_at_or x y b) ∙ by (bit_at x b) (bit_at y b) (bit_at-lt x b) (bit_at-lt y b)
-  where
-    by : (m n : ℕ) → m < 2 → n < 2 → (max m n == 1) ≡ ((m == 1) || (n == 1))
-    by zero zero low_m low_n = refl
-    by zero (suc zero) low_m low_n = refl
-    by (suc zero) zero low_m low_n = refl
-    by (suc zero) (suc zero) low_m low_n = refl
-    by (suc (suc m)) n low_m low_n = absurd (omega arith)
-    by zero (suc (suc n)) low_m low_n = absurd (omega arith)
-    by (suc zero) (suc (suc n)) low_m low_n = absurd (omega arith)
 
 -- no bit of 0 is set
 pub none-set : (b : ℕ) → bit_is_set 0 b ≡ false
@@ -56,7 +43,7 @@ module _ (old new : ℕ → Option ℕ) (i v w : ℕ) where
 
 -- the bits of a word that was there, and others
 pub bits-written : (o : Option ℕ) (word w : ℕ) → o ≡ Some word → (b : ℕ) → bit_is_set (bit_or word w) b ≡ (bit_is_set (or_zero o) b || bit_is_set w b)
-bits-written o word w is b = or-set word w b ∙ ap (λ x. bit_is_set (or_zero x) b || bit_is_set w b) (sym is)
+bits-written o word w is b = or_bits word w b ∙ ap (λ x. bit_is_set (or_zero x) b || bit_is_set w b) (sym is)
 
 -- the bits of a word that was not
 pub bits-inserted : (o : Option ℕ) (w : ℕ) → o ≡ None → (b : ℕ) → bit_is_set w b ≡ (bit_is_set (or_zero o) b || bit_is_set w b)

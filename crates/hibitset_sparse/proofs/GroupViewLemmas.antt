@@ -1,18 +1,21 @@
 -- The words of one group, as those of a set of its own.
 use Rattle.hibitset_sparse.proofs.AppendLemmas.{no-item}
-use Rattle.std.proofs.Common.{◌≡◌, ℕ, suc, ◌+◌, ◌*◌, ◌/◌, ◌%◌, ◌<◌, ◌≤◌, true, false, nat_lt, List, length, Option, Some, None, sym, ◌∙◌, ap, arith, inl, inr}
+use Rattle.std.proofs.Common.{◌≡◌, ℕ, suc, ◌+◌, ◌*◌, ◌/◌, ◌%◌, ◌<◌, ◌≤◌, true, false, nat_lt, List, length, Option, Some, None, refl, sym, ◌∙◌, ap, arith, inl, inr}
+use Rattle.std.specs.Int.{bit_at}
 use Rattle.std.specs.Prelude.{if◌then◌else◌, option_and_then}
 use Rattle.std.specs.Int.RustNames.{count_ones}
 use Rattle.std.specs.List.{slice_get}
 use Rattle.std.proofs.lemmas.Nat.{ones_le_self}
-use Rattle.hibitset_sparse.specs.Decisions.{lt_yes}
+use Rattle.hibitset_sparse.specs.Decisions.{lt_no, lt_yes}
 use Rattle.hibitset_sparse.specs.Chunk.{or_zero}
 use Rattle.hibitset_sparse.specs.Layout.{word_or_none, AreLaidOut, value_by_group, value_of_place}
 use Rattle.hibitset_sparse.specs.Parts.{item_from}
 use Rattle.hibitset_sparse.specs.Rank.{bit_is_set, rank_in}
-use Rattle.std.proofs.lemmas.Bool.{cases_Bool}
+use Rattle.std.proofs.lemmas.Bool.{cases_Bool, cases_lt}
 use Rattle.std.proofs.lemmas.Option.{slice_get_past}
-use Rattle.hibitset_sparse.proofs.PackedArrayLemmas.{value-on, value-off}
+use Rattle.hibitset_sparse.proofs.PackedArrayLemmas.{value-on, value-off, zero-is-clear}
+use Rattle.hibitset_sparse.specs.GroupView.{view_has, view_word}
+use Rattle.hibitset_sparse.specs.declared.group_view.GroupView.{GroupView}
 use Rattle.hibitset_sparse.specs.declared.group.Group.{Group}
 use Rattle.hibitset_sparse.proofs.LayoutLemmas.{before-more, before-upto}
 
@@ -74,3 +77,17 @@ module _ (items : List ℕ) (start word i : ℕ) where
         rw yes (sym (ap or_zero (value-on (λ k. slice_get items (start + k)) word i on ∙ slice_get_past items (start + rank_in word i) past)))
     | inr off ↦ read-off small off
   ]
+
+-- the word of a bit that is clear is 0
+pub view-clear : (view : GroupView) (b : ℕ) → bit_at view.word b ≡ 0 → view_word view 0 b ≡ 0
+view-clear view b off = elim (cases_lt b 64) [
+  | inl small ↦ sym (read-off view.items.now view.start view.word b small (zero-is-clear view.word b off))
+  | inr past ↦ (let no : nat_lt b 64 ≡ false = lt_no b 64 past in rw no refl)
+]
+
+-- the members of a word
+pub view-bits : (view : GroupView) (p b : ℕ) → p < 64 → b < 64 → bit_is_set (view_word view 0 p) b ≡ view_has view (64 * p + b)
+view-bits view p b low small =
+    let row : (64 * p + b) / 64 ≡ p = omega (arith, small) in
+    let bit : (64 * p + b) % 64 ≡ b = omega (arith, small) in
+    rw (row, bit) refl

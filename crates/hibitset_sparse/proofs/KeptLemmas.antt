@@ -1,10 +1,10 @@
 -- What is left of words, chunks and sets where the indices stay that are in another set.
 use Rattle.std.proofs.Common.{◌≡◌, ℕ, ◌+◌, ◌*◌, ◌/◌, ◌%◌, ◌^◌, ◌<◌, ◌==◌, ◌&&◌, not, Bool, true, false, List, Option, Some, None, refl, sym, ◌∙◌, ap, subst, arith, inl, inr}
 use Rattle.std.specs.Int.{bit_at}
-use Rattle.std.specs.Prelude.{bit_and}
+use Rattle.std.specs.Prelude.{bit_and, slice_get}
 use Rattle.std.proofs.Math.Bool.{and-false}
 use Rattle.std.proofs.lemmas.Bool.{cases_lt, false≢true}
-use Rattle.std.proofs.lemmas.Nat.Bits.{bit_at-zero, bit_at_and}
+use Rattle.std.proofs.lemmas.Nat.Bits.{bit_at-lt, bit_at-zero, bit_at_and}
 use Rattle.std.proofs.lemmas.Option.{none-some, same_Some}
 use Rattle.hibitset_base.specs.Decisions.{eq_other, eq_same, same_or_not}
 use Rattle.hibitset_base.specs.Sets.{IsLawful}
@@ -14,7 +14,8 @@ use Rattle.hibitset_sparse.specs.Chunk.{has_in, or_zero}
 use Rattle.hibitset_sparse.specs.Chunks.{AreFull, word_in}
 use Rattle.hibitset_sparse.specs.Parts.{item_from}
 use Rattle.hibitset_sparse.specs.Rank.{bit_is_set}
-use Rattle.hibitset_sparse.specs.Retain.{IsKeptChunk, IsKeptWord, IsRetained, LeavesOf}
+use Rattle.hibitset_sparse.specs.Replacement.{has_in_or}
+use Rattle.hibitset_sparse.specs.Retain.{IsKeptChunk, IsKeptOfNonzero, IsKeptWord, IsRetained, LeavesOf}
 use Rattle.hibitset_sparse.specs.SparseBitSet.{has, word_of}
 use Rattle.hibitset_sparse.specs.Table.{AreNonzero, value_at}
 use Rattle.hibitset_sparse.specs.declared.chunk.Chunk.{Chunk}
@@ -23,7 +24,7 @@ use Rattle.hibitset_sparse.specs.declared.table.Table.{Table}
 use Rattle.hibitset_sparse.proofs.AddedWordLemmas.{none-set}
 use Rattle.hibitset_sparse.proofs.AssignLemmas.{none-past}
 use Rattle.hibitset_sparse.proofs.LawfulWordLemmas.{clear-in_chunk, clear-in_group, holds-by_word}
-use Rattle.hibitset_sparse.proofs.PackedArrayLemmas.{one-is-set, zero-is-clear}
+use Rattle.hibitset_sparse.proofs.PackedArrayLemmas.{one-is-set, value-off, zero-is-clear}
 use Rattle.hibitset_sparse.proofs.SetLemmas.{has_under, holds-under, none-under, root-none}
 use Rattle.hibitset_sparse.proofs.WordLemmas.{bit_cases}
 
@@ -112,6 +113,13 @@ module _ (holds : ℕ → Bool) (word : ℕ → ℕ → ℕ) (lawful : IsLawful 
       let none : word 0 b ≡ 0 = rw place at (clear-in_group holds word lawful 0 b (omega arith) few off) in
       word-none (λ j. holds (j % 4096)) (64 * q + b) x (λ a less. ap holds (omega (arith, few, less)) ∙ none-of_zero b (omega (arith, few)) none a less)
 
+  -- nor under a clear bit of a group
+  pub none-in_word : (c q b a : ℕ) → c < 4096 → q < 64 → b < 64 → a < 64 → bit_at (word 1 (64 * c + q)) b ≡ 0 → holds (64 * (4096 * c + (64 * q + b)) + a) ≡ false
+  none-in_word c q b a low small few less off =
+      let place : 64 * (64 * c + q) + b ≡ 4096 * c + (64 * q + b) = omega arith in
+      let none : word 0 (4096 * c + (64 * q + b)) ≡ 0 = rw place at (clear-in_group holds word lawful (64 * c + q) b (omega (arith, low, small)) few off) in
+      none-of_zero (4096 * c + (64 * q + b)) (omega (arith, low, small, few)) none a less
+
   pub view-word : (i w : ℕ) → i < 4096 → w ≡ word 0 (i % 64) → (b : ℕ) → b < 64 → bit_is_set w b ≡ holds ((64 * i + b) % 4096)
   view-word i w low is b small = members-of_word (i % 64) w (omega arith) is b small ∙ ap holds (omega (arith, small))
 
@@ -139,14 +147,63 @@ retained-as T first second word start to kept old new weaker is = record {
     by b small (Some x) left = weaker b x (item_from new to kept b) small left
 
 -- no word that is left is 0
-pub kept-nonzero : (leaves : ℕ → ℕ → Option ℕ → Type 0) (old new : Table ℕ)
-    → ((p w : ℕ) (left : Option ℕ) → leaves p w left → (v : ℕ) → left ≡ Some v → (0 < v) × (v < 2 ^ 64))
+pub kept-nonzero : (leaves : ℕ → ℕ → Option ℕ → Type 0) (old new : Table ℕ) → AreNonzero old
+    → ((p w : ℕ) (left : Option ℕ) → leaves p w left → 0 < w → w < 2 ^ 64 → (v : ℕ) → left ≡ Some v → (0 < v) × (v < 2 ^ 64))
     → ((p : ℕ) → p < 4096 → LeavesOf (leaves p) (value_at old p) (value_at new p)) → AreNonzero new
-kept-nonzero leaves old new nonzero are p v low is = by (value_at old p) (are p low)
+kept-nonzero leaves old new whole nonzero are p v low is = by (value_at old p) refl (are p low)
   where
-    by : (o : Option ℕ) → LeavesOf (leaves p) o (value_at new p) → (0 < v) × (v < 2 ^ 64)
-    by None none = absurd (none-some v (sym none ∙ is))
-    by (Some w) left = nonzero p w (value_at new p) left v is
+    by : (o : Option ℕ) → value_at old p ≡ o → LeavesOf (leaves p) o (value_at new p) → (0 < v) × (v < 2 ^ 64)
+    by None e none = absurd (none-some v (sym none ∙ is))
+    by (Some w) e left = let n = whole p w low e in nonzero p w (value_at new p) left n.0 n.1 v is
+
+-- the words of a chunk are not 0
+pub of-nonzero : (leaves : ℕ → ℕ → Option ℕ → Type 0) (old : Chunk) (new : Table ℕ)
+    → ((p : ℕ) → p < 4096 → LeavesOf (λ w o. 0 < w → w < 2 ^ 64 → leaves p w o) (value_at old.words p) (value_at new p))
+    → (p : ℕ) → p < 4096 → LeavesOf (leaves p) (value_at old.words p) (value_at new p)
+of-nonzero leaves old new are p low = by (value_at old.words p) refl (are p low)
+  where
+    by : (o : Option ℕ) → value_at old.words p ≡ o → LeavesOf (λ w o. 0 < w → w < 2 ^ 64 → leaves p w o) o (value_at new p)
+        → LeavesOf (leaves p) o (value_at new p)
+    by None e none = none
+    by (Some w) e left = let n = old.nonzero p w low e in left n.0 n.1
+
+all-stay : (s t : Bool) → t ≡ true → s ≡ (s && t)
+all-stay true t on = sym on
+all-stay false t on = refl
+
+-- No word of a group loses a bit, so all stay where they lie.
+pub none-taken : (holds : ℕ → Bool) (place : ℕ → ℕ) (word start to : ℕ) (items : List ℕ) → to ≡ start
+    → ((b a : ℕ) → b < 64 → a < 64 → bit_at word b ≡ 1 → holds (64 * place b + a) ≡ true)
+    → IsRetained (λ b. IsKeptOfNonzero holds (place b)) word start to word items items
+none-taken holds place word start to items to-is all = record {
+  left = λ b small. elim (bit_cases word b) [
+    | inl on ↦ subst (λ t. LeavesOf (IsKeptOfNonzero holds (place b)) (item_from items start word b) (item_from items t word b)) (sym to-is)
+        (by b small on (item_from items start word b))
+    | inr off ↦ subst (λ o. LeavesOf (IsKeptOfNonzero holds (place b)) o (item_from items to word b)) (sym (none b off start)) (none b off to)
+  ];
+  fewer = omega arith;
+  before = λ k low. refl;
+  behind = λ k low. refl;
+  length = refl;
+}
+  where
+    none : (b : ℕ) → bit_at word b ≡ 0 → (s : ℕ) → item_from items s word b ≡ None
+    none b off s = value-off (λ k. slice_get items (s + k)) word b (zero-is-clear word b off)
+
+    by : (b : ℕ) → b < 64 → bit_at word b ≡ 1 → (o : Option ℕ) → LeavesOf (IsKeptOfNonzero holds (place b)) o o
+    by b small on None = refl
+    by b small on (Some x) = λ some fits. record {
+      bits = λ a few. all-stay (bit_is_set x a) (holds (64 * place b + a)) (all b a small few on);
+      nonzero = λ v same. let e : x ≡ v = same_Some x v same in (omega (arith, e, some), omega (arith, e, fits));
+    }
+
+-- a bit of one of two words that have none in common is clear in the other
+pub apart : (v w b : ℕ) → bit_and v w ≡ 0 → bit_at v b ≡ 1 → bit_at w b ≡ 0
+apart v w b none on =
+    let both = bit_at_and v w b in
+    let zero_bit : bit_at (bit_and v w) b ≡ 0 = ap (λ x. bit_at x b) none ∙ bit_at-zero b in
+    let small = bit_at-lt w b in
+    omega (arith, both, zero_bit, on, small)
 
 -- the words of a chunk
 module _ (holds : ℕ → Bool) (first : ℕ) (old new : Chunk)
@@ -238,3 +295,8 @@ set-kept holds old new are i = elim (cases_lt i (2 ^ 30)) [
   | inl low ↦ members-kept holds old.chunks new.chunks are i low
   | inr past ↦ none-past new i past ∙ sym (ap (λ t. t && holds i) (none-past old i past))
 ]
+
+-- what is there of a chunk, or nothing
+pub under-or : (o : Option Chunk) (i : ℕ) → has_under o (i % 262144) ≡ has_in_or o i false
+under-or None i = none-under (i % 262144)
+under-or (Some chunk) i = refl

@@ -4,6 +4,7 @@ pub mod PackedArrayLemmas
 pub mod LayoutLemmas
 pub mod WordLemmas
 pub mod AppendLemmas
+pub mod CursorLemmas
 pub mod LawfulWordLemmas
 pub mod GroupViewLemmas
 pub mod RetainLemmas

@@ -1,17 +1,21 @@
 -- Two chunks put together, group by group.
-use Rattle.std.proofs.Common.{◌≡◌, ℕ, ◌+◌, ◌*◌, ◌/◌, ◌%◌, ◌<◌, Bool, false, Option, None, Some, sym, ◌∙◌, ap, arith}
+use Rattle.std.proofs.Common.{◌≡◌, ℕ, suc, ◌+◌, ◌*◌, ◌/◌, ◌%◌, ◌<◌, ◌≤◌, Bool, false, length, Option, None, Some, sym, ◌∙◌, ap, arith}
 use Rattle.std.specs.Prelude.{option_and_then}
 use Rattle.std.specs.Int.{bit_at}
+use Rattle.std.specs.Int.RustNames.{count_ones}
 use Rattle.std.proofs.lemmas.Nat.Bits.{bit_at-zero}
 use Rattle.hibitset_base.specs.Words.{holds_at}
 use Rattle.hibitset_sparse.specs.Chunk.{has_in, or_zero}
 use Rattle.hibitset_sparse.specs.Chunks.{word_in}
-use Rattle.hibitset_sparse.specs.Layout.{value_by_group}
+use Rattle.hibitset_sparse.specs.Layout.{value_by_group, values_before}
 use Rattle.hibitset_sparse.specs.Merge.{CoversTest, IsWordOf}
 use Rattle.hibitset_sparse.specs.Rank.{bit_is_set}
-use Rattle.hibitset_sparse.specs.Table.{value_at}
+use Rattle.hibitset_sparse.specs.PackedArray.{value_in}
+use Rattle.hibitset_sparse.specs.Table.{group_word, value_at}
 use Rattle.hibitset_sparse.specs.declared.chunk.Chunk.{Chunk}
 use Rattle.hibitset_sparse.specs.declared.table.Table.{Table}
+use Rattle.hibitset_sparse.proofs.AppendLemmas.{TakesLowest, left-above}
+use Rattle.hibitset_sparse.proofs.LayoutLemmas.{before-more, before-upto}
 use Rattle.hibitset_sparse.proofs.PackedArrayLemmas.{zero-is-clear}
 use Rattle.hibitset_sparse.proofs.SetLemmas.{has_under, holds-under, none-under}
 use Rattle.hibitset_sparse.proofs.WordLemmas.{array-none}
@@ -60,3 +64,46 @@ module _ (chunks : Table Chunk) (c i : ℕ) (low : i < 262144) where
 
   pub in-none : value_at chunks c ≡ None → false ≡ holds_at (word_in chunks) (262144 * c + i)
   in-none is = sym (in-place None is ∙ none-under i)
+
+-- Of the words of two chunks no more are there than lie in groups below `next`. The groups that are left are all from
+-- there on.
+pub record AreFew (own other : Chunk) (left count : ℕ) : Type 0 where
+  pub next : ℕ
+  pub from : (d : ℕ) → d < 64 → bit_at left d ≡ 1 → next ≤ d
+  pub few : count ≤ values_before (value_in own.words.groups) next + values_before (value_in other.words.groups) next
+
+module _ (own other : Chunk) where
+  pub few-first : (left count : ℕ) → count ≡ 0 → AreFew own other left count
+  few-first left count none = record { next = 0; from = λ d small on. omega arith; few = omega (arith, none) }
+
+  module _ (left rest q x y count : ℕ) (takes : TakesLowest left rest q) (was : AreFew own other left count) (x-is : x ≡ group_word own.words q)
+      (y-is : y ≡ group_word other.words q) where
+    few-here : count + (count_ones x + count_ones y) ≤ values_before (value_in own.words.groups) (suc q) + values_before (value_in other.words.groups) (suc q)
+    few-here =
+        let order = was.from q takes.below takes.stood in
+        let first = before-upto (value_in own.words.groups) was.next q order in
+        let second = before-upto (value_in other.words.groups) was.next q order in
+        let more = before-more (value_in own.words.groups) q in
+        let more2 = before-more (value_in other.words.groups) q in
+        let ones : count_ones x ≡ count_ones (group_word own.words q) = ap count_ones x-is in
+        let ones2 : count_ones y ≡ count_ones (group_word other.words q) = ap count_ones y-is in
+        let few = was.few in
+        omega (arith, first, second, more, more2, ones, ones2, few)
+
+    -- so there is room for those of the next group
+    pub few-room : count + (count_ones x + count_ones y) ≤ length own.words.items.items + length other.words.items.items
+    few-room =
+        let small = takes.below in
+        let here = few-here in
+        let first = before-upto (value_in own.words.groups) (suc q) 64 (omega (arith, small)) in
+        let second = before-upto (value_in other.words.groups) (suc q) 64 (omega (arith, small)) in
+        let all = own.words.laid_out.all in
+        let all2 = other.words.laid_out.all in
+        omega (arith, here, first, second, all, all2)
+
+    pub few-next : (new : ℕ) → new ≤ count + (count_ones x + count_ones y) → AreFew own other rest new
+    few-next new upto = record {
+      next = suc q;
+      from = λ d small on. let above = left-above left rest q d takes small on in let more = above.0 in omega (arith, more);
+      few = (let here = few-here in omega (arith, here, upto));
+    }

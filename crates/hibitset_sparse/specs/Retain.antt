@@ -26,6 +26,10 @@ pub record IsKeptWord (holds : ℕ → Bool) (p word : ℕ) (left : Option ℕ) 
   pub bits : (b : ℕ) → b < 64 → bit_is_set (or_zero left) b ≡ (bit_is_set word b && holds (64 * p + b))
   pub nonzero : (w : ℕ) → left ≡ Some w → (0 < w) × (w < 2 ^ 64)
 
+-- What is left of a word that is not 0.
+abbrev pub IsKeptOfNonzero : (ℕ → Bool) → ℕ → ℕ → Option ℕ → Type 0
+IsKeptOfNonzero holds p word left = 0 < word → word < 2 ^ 64 → IsKeptWord holds p word left
+
 -- What is left of chunk c where the indices stay that are in a set: an empty one is taken out.
 pub record IsKeptChunk (holds : ℕ → Bool) (c : ℕ) (chunk : Chunk) (left : Option Chunk) : Type 0 where
   pub members : (x : Chunk) (i : ℕ) → left ≡ Some x → i < INDICES_PER_CHUNK → has_in x i ≡ (has_in chunk i && holds (INDICES_PER_CHUNK * c + i))

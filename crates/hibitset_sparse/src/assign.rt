@@ -27,9 +27,8 @@ impl SparseBitSet {
     pub fn from_set<B: BitSetLike>(alloc: Global, other: &B) -> Result<SparseBitSet, AllocError>
         ensures { IfOk result (λ set. (i : ℕ) → has set i ≡ is_member (B.holds other.now) i) }
     {
-        let mut set = SparseBitSet::new(alloc);
-        set.bitor_assign(other)?;
-        Ok(set)
+        let chunks = chunks_of(alloc, other, other)?;
+        Ok(SparseBitSet::of_chunks(chunks))
     }
 
     /// Adds the members of any other set.

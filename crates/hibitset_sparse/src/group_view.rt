@@ -20,12 +20,14 @@ pub(crate) struct GroupView<'a> {
 impl<'a> GroupView<'a> {
     ghost use Rattle.hibitset_sparse.specs.Chunk.{has_in};
     ghost use Rattle.hibitset_sparse.specs.GroupView.{view_has};
+    ghost use Rattle.hibitset_sparse.specs.Table.{group_word};
 
     /// Group q of a chunk.
     #[inline]
     pub(crate) fn of(chunk: &'a Chunk, q: usize) -> GroupView<'a>
         requires { q < 64 }
-        ensures { (i : ℕ) → i < 4096 → view_has result i ≡ has_in chunk.now (4096 * q + i) }
+        ensures members { (i : ℕ) → i < 4096 → view_has result i ≡ has_in chunk.now (4096 * q + i) }
+        ensures word { result.word ≡ group_word chunk.now.words q }
     {
         let items = chunk.words.items.as_slice();
         let Some(group) = chunk.words.groups.get(q) else {

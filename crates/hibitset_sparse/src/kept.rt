@@ -1,10 +1,13 @@
 //! What is left of words and chunks if the indices stay that are in another set, or those that are not.
-ghost use Rattle.std.specs.Prelude.{◌≡◌, ℕ, ◌+◌, ◌*◌, ◌%◌, ◌^◌, ◌<◌, Option, Some, true, false, not};
+ghost use Rattle.std.specs.Prelude.{◌≡◌, ℕ, ◌+◌, ◌*◌, ◌/◌, ◌%◌, ◌^◌, ◌<◌, Option, Some, true, false, not};
+ghost use Rattle.hibitset_base.specs.declared.util.TheConstants.{MAX_EID};
 ghost use Rattle.hibitset_sparse.specs.Chunk.{chunk_word, has_in};
-ghost use Rattle.hibitset_sparse.specs.Retain.{IsKeptChunk, IsKeptWord, LeavesOf};
+ghost use Rattle.hibitset_sparse.specs.Replacement.{has_in_or};
+ghost use Rattle.hibitset_sparse.specs.Retain.{IsKeptChunk, IsKeptOfNonzero, IsKeptWord, LeavesOf};
 ghost use Rattle.hibitset_sparse.specs.SparseBitSet.{has};
 ghost use Rattle.hibitset_sparse.specs.Table.{value_at};
 ghost use Rattle.hibitset_sparse.specs.declared.chunk.Chunk.{Chunk};
+ghost use Rattle.hibitset_sparse.specs.declared.chunk.TheConstants.{INDICES_PER_CHUNK};
 ghost use Rattle.hibitset_sparse.specs.declared.table.TheConstants.{GROUPS_PER_TABLE, PLACES_PER_TABLE};
 
 use crate::chunk::Chunk;
@@ -97,7 +100,7 @@ impl GroupChange<usize> for ChunkBoth<'_> {
 struct ChunkAlone<'a>(&'a Chunk);
 
 impl GroupChange<usize> for ChunkAlone<'_> {
-    ghost leaves = { λ s. IsKeptWord (λ i. not (has_in s.0.now i)) };
+    ghost leaves = { λ s. IsKeptOfNonzero (λ i. not (has_in s.0.now i)) };
 
     #[inline]
     fn groups(&self) -> usize {
@@ -106,15 +109,55 @@ impl GroupChange<usize> for ChunkAlone<'_> {
 
     #[inline]
     fn retain_group(&self, items: &mut Vec<usize>, q: usize, group: Group, to: usize) -> usize {
-        let kept = BitSetNot(GroupView::of(self.0, q));
+        let other = GroupView::of(self.0, q);
+        if to == group.start && group.word & other.word == 0 {
+            return group.word;
+        }
+        let kept = BitSetNot(other);
         retain_group(items, &GroupPart(&kept), q, group, to)
+    }
+}
+
+/// The words of chunk c, of which the indices stay that are not in another set.
+#[derive(Drop)]
+struct ChunkMinus<'a, B: BitSetLike> {
+    other: &'a B,
+    c: usize,
+    ghost within: { c < PLACES_PER_TABLE },
+}
+
+impl<B: BitSetLike> GroupChange<usize> for ChunkMinus<'_, B> {
+    ghost leaves = { λ s p. IsKeptOfNonzero (λ i. not (B.holds s.other.now i)) (4096 * s.c + p) };
+
+    #[inline]
+    fn groups(&self) -> usize {
+        usize::MAX
+    }
+
+    #[inline]
+    fn retain_group(&self, items: &mut Vec<usize>, q: usize, group: Group, to: usize) -> usize {
+        let places = self.other.layer1(GROUPS_PER_TABLE * self.c + q);
+        if to == group.start && group.word & places == 0 {
+            return group.word;
+        }
+        let kept = BitSetNot(self.other);
+        retain_group(
+            items,
+            &ChunkPart {
+                kept: &kept,
+                c: self.c,
+            },
+            q,
+            group,
+            to,
+        )
     }
 }
 
 // Changes the words of a chunk, and returns whether it has any then.
 fn retain_words<G: GroupChange<usize>>(chunk: &mut Chunk, by: &G) -> bool
     requires nonzero { (p w : ℕ) (left : Option ℕ) → G.leaves by.now p w left
-        → (v : ℕ) → left ≡ Some v → (0 < v) × (v < 2 ^ 64) }
+        → 0 < w → w < 2 ^ 64 → (v : ℕ) → left ≡ Some v → (0 < v) × (v < 2 ^ 64) }
     ensures words { (p : ℕ) → p < PLACES_PER_TABLE → LeavesOf (G.leaves by.now p)
         (value_at chunk.old.words p) (value_at chunk.new.words p) }
     ensures some { result ≡ true → 0 < chunk_word chunk.new 2 0 }
@@ -161,8 +204,13 @@ impl<B: BitSetLike> Change<Chunk> for Alone<'_, B> {
         if self.0.layer2(i) == 0 {
             return value.layer2() != 0;
         }
-        let kept = BitSetNot(self.0);
-        retain_words(value, &ChunkPart { kept: &kept, c: i })
+        retain_words(
+            value,
+            &ChunkMinus {
+                other: self.0,
+                c: i,
+            },
+        )
     }
 }
 
@@ -226,7 +274,35 @@ impl<C: Change<Chunk>> GroupChange<Chunk> for EachChunk<'_, C> {
     }
 }
 
+// Each chunk that has members, as it is.
+#[derive(Drop)]
+struct WithMembers;
+
+impl Change<Chunk> for WithMembers {
+    ghost leaves = { λ s. IsKeptChunk (λ i. true) };
+
+    #[inline]
+    fn places(&self, _q: usize) -> usize {
+        usize::MAX
+    }
+
+    #[inline]
+    fn change(&self, _i: usize, value: &mut Chunk) -> bool {
+        value.layer2() != 0
+    }
+}
+
 impl SparseBitSet {
+    // The set of the members of chunks. Those without members are not kept. It does not allocate.
+    pub(crate) fn of_chunks(chunks: Table<Chunk>) -> SparseBitSet
+        ensures { (i : ℕ) → i < MAX_EID
+            → has result i ≡ has_in_or (value_at chunks (i / INDICES_PER_CHUNK)) i false }
+    {
+        SparseBitSet {
+            chunks: chunks.retain(&EachChunk(&WithMembers)),
+        }
+    }
+
     // Changes the chunks. None that stays is empty.
     pub(crate) fn retain_chunks<C: Change<Chunk>>(&mut self, by: &C)
         requires full { (c : ℕ) (chunk : Chunk) (left : Option Chunk) → C.leaves by.now c chunk left

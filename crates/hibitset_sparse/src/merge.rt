@@ -1,30 +1,33 @@
 //! Two sparse sets put together, chunk beside chunk.
-ghost use Rattle.std.specs.Prelude.{◌≡◌, ◌≢◌, ℕ, ◌+◌, ◌*◌, ◌/◌, ◌%◌, ◌<◌, Bool, false, refl, ◌||◌, [], IfOk, IsOk, OnOk, OnErr};
+ghost use Rattle.std.specs.Prelude.{◌≡◌, ◌≢◌, ℕ, ◌+◌, ◌*◌, ◌/◌, ◌%◌, ◌<◌, ◌≤◌, Bool, false, refl, ◌||◌, bit_or, bit_xor, [], length, vec_capacity, IfOk, IsOk, OnOk, OnErr};
+ghost use Rattle.std.specs.Int.{bit_at};
+ghost use Rattle.std.specs.Int.RustNames.{count_ones};
 ghost use Rattle.hibitset_base.specs.Connectives.{IsDifference, IsIntersection, IsSymmetricDifference, IsUnion};
 ghost use Rattle.hibitset_base.specs.Members.{members_below};
 ghost use Rattle.hibitset_base.specs.Virtual.{differ};
 ghost use Rattle.hibitset_base.specs.declared.util.TheConstants.{MAX_EID};
 ghost use Rattle.hibitset_sparse.specs.Chunk.{has_in, or_zero};
-ghost use Rattle.hibitset_sparse.specs.GroupView.{view_has};
+ghost use Rattle.hibitset_sparse.specs.GroupView.{view_has, view_word};
 ghost use Rattle.hibitset_sparse.specs.Layout.{value_of_place};
-ghost use Rattle.hibitset_sparse.specs.Merge.{CoversTest, IsWordOf};
+ghost use Rattle.hibitset_sparse.specs.Merge.{CoversTest, IsWordOf, or_bits, xor_bits};
 ghost use Rattle.hibitset_sparse.specs.PackedArray.{value_in};
-ghost use Rattle.hibitset_sparse.specs.Parts.{IsMadeUpTo};
+ghost use Rattle.hibitset_sparse.specs.Parts.{AreWordsFrom, BeginsWith, IsMadeUpTo};
+ghost use Rattle.hibitset_sparse.specs.Rank.{bit_is_set, rank_in};
 ghost use Rattle.hibitset_sparse.specs.SparseBitSet.{has};
 ghost use Rattle.hibitset_sparse.specs.declared.table.TheConstants.{PLACES_PER_TABLE};
 ghost use Rattle.hibitset_sparse.specs.declared.chunk.TheConstants.{INDICES_PER_CHUNK};
 
 use crate::chunk::Chunk;
-use crate::gather::{ChunkSource, chunks_from, push_group};
+use crate::gather::{ChunkSource, chunks_from};
 use crate::group::Group;
 use crate::group_view::GroupView;
 use crate::kept::{AloneSparse, BothSparse};
 use crate::packed_array::PackedArray;
-use crate::rank::take_lowest;
+use crate::rank::{is_set, take_lowest};
 use crate::set::SparseBitSet;
 use crate::table::{GROUPS_PER_TABLE, PLACES_PER_TABLE, Table};
+use hibitset_base::bits::with_bit;
 use hibitset_base::like::BitSetLike;
-use hibitset_base::virt::{BitSetOr, BitSetXor};
 use std::alloc::{AllocError, Global};
 
 /// A way to put two sets together, index by index.
@@ -36,26 +39,18 @@ trait Merge: Drop {
     fn merged_bits(own: usize, other: usize) -> usize
         ensures { CoversTest test own other result };
 
-    /// How many words there may be, so that capacity for them is reserved at once.
-    fn most_words(own: usize, other: usize) -> usize;
+    // What two words give, bit by bit.
+    ghost merged: { ℕ → ℕ → ℕ };
 
-    /// Appends group q, made of a group of each, if no group is there from q on.
-    fn push_merged(
-        groups: &mut PackedArray<Group>,
-        items: &mut Vec<usize>,
-        own: &GroupView<'_>,
-        other: &GroupView<'_>,
-        q: usize,
-    ) -> Result<(), AllocError>
-        requires group { q < GROUPS_PER_TABLE }
-        requires made { IsMadeUpTo q (value_in groups.old) items.old.items }
-        ensures made { OnOk result (IsMadeUpTo (q + 1) (value_in groups.new) items.new.items) }
-        ensures pushed { OnOk result ((p : ℕ) → p < PLACES_PER_TABLE → p / 64 ≡ q
-            → IsWordOf test (view_has own.now) (view_has other.now) (64 * (p % 64))
-            (or_zero (value_of_place (value_in groups.new) items.new.items p))) }
-        ensures others { OnOk result ((p : ℕ) → p < PLACES_PER_TABLE → p / 64 ≢ q
-            → value_of_place (value_in groups.new) items.new.items p
-            ≡ value_of_place (value_in groups.old) items.old.items p) };
+    /// The word that two words give.
+    fn merged_word(own: usize, other: usize) -> usize
+        ensures { result ≡ merged own other };
+
+    // Two words that are 0 give one that is 0.
+    ghost nothing: { merged 0 0 ≡ 0 };
+
+    // The bits of the word that two words give are those of the test.
+    ghost bits: { (v w b : ℕ) → bit_is_set (merged v w) b ≡ test (bit_is_set v b) (bit_is_set w b) };
 
     // Of what is in the other alone, all is there.
     ghost other_alone: { (b : Bool) → test false b ≡ b };
@@ -68,6 +63,12 @@ struct Union;
 impl Merge for Union {
     ghost test = { λ a b. a || b };
 
+    ghost merged = { bit_or };
+
+    ghost nothing = { refl };
+
+    ghost bits = { or_bits };
+
     ghost other_alone = { λ b. refl };
 
     #[inline]
@@ -76,19 +77,8 @@ impl Merge for Union {
     }
 
     #[inline]
-    fn most_words(own: usize, other: usize) -> usize {
-        own.saturating_add(other)
-    }
-
-    #[inline]
-    fn push_merged(
-        groups: &mut PackedArray<Group>,
-        items: &mut Vec<usize>,
-        own: &GroupView<'_>,
-        other: &GroupView<'_>,
-        q: usize,
-    ) -> Result<(), AllocError> {
-        push_group(groups, items, &BitSetOr(own, other), 0, q)
+    fn merged_word(own: usize, other: usize) -> usize {
+        own | other
     }
 }
 
@@ -99,6 +89,12 @@ struct SymmetricDifference;
 impl Merge for SymmetricDifference {
     ghost test = { λ a b. differ a b };
 
+    ghost merged = { bit_xor };
+
+    ghost nothing = { refl };
+
+    ghost bits = { xor_bits };
+
     ghost other_alone = { λ b. refl };
 
     #[inline]
@@ -107,20 +103,86 @@ impl Merge for SymmetricDifference {
     }
 
     #[inline]
-    fn most_words(own: usize, other: usize) -> usize {
-        own.saturating_add(other)
+    fn merged_word(own: usize, other: usize) -> usize {
+        own ^ other
     }
+}
 
-    #[inline]
-    fn push_merged(
-        groups: &mut PackedArray<Group>,
-        items: &mut Vec<usize>,
-        own: &GroupView<'_>,
-        other: &GroupView<'_>,
-        q: usize,
-    ) -> Result<(), AllocError> {
-        push_group(groups, items, &BitSetXor(own, other), 0, q)
+// The word of a bit of a group, which lies at `at` if the bit is set: then `at` moves behind it.
+#[inline]
+fn take_word(view: &GroupView<'_>, bit: usize, at: &mut usize) -> usize
+    requires bit { bit < 64 }
+    requires place { at.old ≡ view.now.start + rank_in view.now.word bit }
+    ensures word { result ≡ view_word view.now 0 bit }
+    ensures place { at.new ≡ at.old + bit_at view.now.word bit }
+{
+    if !is_set(view.word, bit) {
+        return 0;
     }
+    let word = view.items[*at];
+    *at += 1;
+    word
+}
+
+// Appends the nonzero words that two groups give, and returns which of the 64 they are, as bits.
+#[inline]
+fn push_words<M: Merge>(items: &mut Vec<usize>, own: &GroupView<'_>, other: &GroupView<'_>) -> usize
+    requires room { length items.old.items + (count_ones own.now.word + count_ones other.now.word)
+        ≤ vec_capacity items.old }
+    ensures before { BeginsWith items.old.items items.new.items }
+    ensures pushed { AreWordsFrom (length items.old.items) result items.new.items
+        (λ b. M.merged (view_word own.now 0 b) (view_word other.now 0 b)) }
+    ensures few { length items.new.items ≤ length items.old.items
+        + (count_ones own.now.word + count_ones other.now.word) }
+    ensures capacity { vec_capacity items.new ≡ vec_capacity items.old }
+{
+    let mut left = own.word | other.word;
+    let mut own_at = own.start;
+    let mut other_at = other.start;
+    let mut bits = 0;
+    'places: while left != 0 {
+        let bit = take_lowest(&mut left);
+        let first = take_word(own, bit, &mut own_at);
+        let second = take_word(other, bit, &mut other_at);
+        let word = M::merged_word(first, second);
+        if word != 0 {
+            items.push_reserved(word);
+            bits = with_bit(bits, bit, true);
+        }
+    }
+    bits
+}
+
+// Appends group q, made of a group of each, where no group is there from q on.
+#[inline]
+fn push_merged<M: Merge>(
+    groups: &mut PackedArray<Group>,
+    items: &mut Vec<usize>,
+    own: &GroupView<'_>,
+    other: &GroupView<'_>,
+    q: usize,
+) -> Result<(), AllocError>
+    requires group { q < GROUPS_PER_TABLE }
+    requires made { IsMadeUpTo q (value_in groups.old) items.old.items }
+    requires room { length items.old.items + (count_ones own.now.word + count_ones other.now.word)
+        ≤ vec_capacity items.old }
+    ensures made { OnOk result (IsMadeUpTo (q + 1) (value_in groups.new) items.new.items) }
+    ensures pushed { OnOk result ((p : ℕ) → p < PLACES_PER_TABLE → p / 64 ≡ q
+        → IsWordOf M.test (view_has own.now) (view_has other.now) (64 * (p % 64))
+        (or_zero (value_of_place (value_in groups.new) items.new.items p))) }
+    ensures others { OnOk result ((p : ℕ) → p < PLACES_PER_TABLE → p / 64 ≢ q
+        → value_of_place (value_in groups.new) items.new.items p
+        ≡ value_of_place (value_in groups.old) items.old.items p) }
+    ensures few { OnOk result (length items.new.items ≤ length items.old.items
+        + (count_ones own.now.word + count_ones other.now.word)) }
+    ensures capacity { OnOk result (vec_capacity items.new ≡ vec_capacity items.old) }
+{
+    let start = items.len();
+    let word = push_words::<M>(items, own, other);
+    if word == 0 {
+        return Ok(());
+    }
+    groups.push(q, Group { word, start })
 }
 
 // A chunk made of two.
@@ -132,12 +194,12 @@ fn merge_chunks<M: Merge>(alloc: Global, own: &Chunk, other: &Chunk) -> Result<C
     let mut items = Vec::new(alloc);
     let mut left = M::merged_bits(own.layer2(), other.layer2());
     groups.reserve(left.count_ones() as usize)?;
-    items.reserve(M::most_words(own.words.items.len(), other.words.items.len()))?;
+    items.reserve(own.words.items.len() + other.words.items.len())?;
     'groups: while left != 0 {
         let q = take_lowest(&mut left);
         let of_own = GroupView::of(own, q);
         let of_other = GroupView::of(other, q);
-        M::push_merged(&mut groups, &mut items, &of_own, &of_other, q)?;
+        push_merged::<M>(&mut groups, &mut items, &of_own, &of_other, q)?;
     }
     Ok(Chunk {
         words: Table { groups, items },

@@ -160,7 +160,7 @@ fn copy_of(alloc: Global, set: &SparseBitSet) -> Result<SparseBitSet, AllocError
     SparseBitSet::from_set(alloc, set)
 }
 
-// allocates: 8, 768 bytes: hibitset_sparse::SparseBitSet::from_set
+// allocates: 6, 480 bytes: hibitset_sparse::SparseBitSet::from_set
 #[test]
 fn from_set(rt: HostRuntime) -> Result<(), Fail> {
     let set = sparse_of(rt.alloc(), &[5, 70, 5_000, FAR])?;

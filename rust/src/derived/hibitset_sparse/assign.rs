@@ -30,9 +30,8 @@ impl SparseBitSet {
     /// ensures { IfOk result (λ set. (i : ℕ) → has set i ≡ is_member (B.holds other.now) i) }
     /// ```
     pub fn from_set<B: BitSetLike>(alloc: Global, other: &B) -> Result<SparseBitSet, AllocError> {
-        let mut set = SparseBitSet::new(alloc);
-        set.bitor_assign(other)?;
-        Ok(set)
+        let chunks = chunks_of(alloc, other, other)?;
+        Ok(SparseBitSet::of_chunks(chunks))
     }
 
     /// Adds the members of any other set.

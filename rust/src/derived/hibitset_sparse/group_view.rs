@@ -25,7 +25,8 @@ impl<'a> GroupView<'a> {
     ///
     /// ```text
     /// requires { q < 64 }
-    /// ensures { (i : ℕ) → i < 4096 → view_has result i ≡ has_in chunk.now (4096 * q + i) }
+    /// ensures members { (i : ℕ) → i < 4096 → view_has result i ≡ has_in chunk.now (4096 * q + i) }
+    /// ensures word { result.word ≡ group_word chunk.now.words q }
     /// ```
     #[inline]
     pub(crate) fn of(chunk: &'a Chunk, q: usize) -> GroupView<'a> {

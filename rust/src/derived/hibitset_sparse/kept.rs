@@ -88,8 +88,44 @@ impl GroupChange<usize> for ChunkAlone<'_> {
 
     #[inline]
     fn retain_group(&self, items: &mut Vec<usize>, q: usize, group: Group, to: usize) -> usize {
-        let kept = BitSetNot(GroupView::of(self.0, q));
+        let other = GroupView::of(self.0, q);
+        if to == group.start && group.word & other.word == 0 {
+            return group.word;
+        }
+        let kept = BitSetNot(other);
         retain_group(items, &GroupPart(&kept), q, group, to)
+    }
+}
+
+/// The words of chunk c, of which the indices stay that are not in another set.
+struct ChunkMinus<'a, B: BitSetLike> {
+    other: &'a B,
+    c: usize,
+}
+
+impl<B: BitSetLike> GroupChange<usize> for ChunkMinus<'_, B> {
+    #[inline]
+    fn groups(&self) -> usize {
+        usize::MAX
+    }
+
+    #[inline]
+    fn retain_group(&self, items: &mut Vec<usize>, q: usize, group: Group, to: usize) -> usize {
+        let places = self.other.layer1(GROUPS_PER_TABLE * self.c + q);
+        if to == group.start && group.word & places == 0 {
+            return group.word;
+        }
+        let kept = BitSetNot(self.other);
+        retain_group(
+            items,
+            &ChunkPart {
+                kept: &kept,
+                c: self.c,
+            },
+            q,
+            group,
+            to,
+        )
     }
 }
 
@@ -130,8 +166,13 @@ impl<B: BitSetLike> Change<Chunk> for Alone<'_, B> {
         if self.0.layer2(i) == 0 {
             return value.layer2() != 0;
         }
-        let kept = BitSetNot(self.0);
-        retain_words(value, &ChunkPart { kept: &kept, c: i })
+        retain_words(
+            value,
+            &ChunkMinus {
+                other: self.0,
+                c: i,
+            },
+        )
     }
 }
 
@@ -186,7 +227,29 @@ impl<C: Change<Chunk>> GroupChange<Chunk> for EachChunk<'_, C> {
     }
 }
 
+// Each chunk that has members, as it is.
+struct WithMembers;
+
+impl Change<Chunk> for WithMembers {
+    #[inline]
+    fn places(&self, _q: usize) -> usize {
+        usize::MAX
+    }
+
+    #[inline]
+    fn change(&self, _i: usize, value: &mut Chunk) -> bool {
+        value.layer2() != 0
+    }
+}
+
 impl SparseBitSet {
+    // The set of the members of chunks. Those without members are not kept. It does not allocate.
+    pub(crate) fn of_chunks(chunks: Table<Chunk>) -> SparseBitSet {
+        SparseBitSet {
+            chunks: chunks.retain(&EachChunk(&WithMembers)),
+        }
+    }
+
     // Changes the chunks. None that stays is empty.
     pub(crate) fn retain_chunks<C: Change<Chunk>>(&mut self, by: &C) {
         let alloc = self.allocator();

@@ -5,16 +5,16 @@
 use crate::support::rattle_std::prelude::*;
 
 use crate::derived::hibitset_sparse::chunk::Chunk;
-use crate::derived::hibitset_sparse::gather::{ChunkSource, chunks_from, push_group};
+use crate::derived::hibitset_sparse::gather::{ChunkSource, chunks_from};
 use crate::derived::hibitset_sparse::group::Group;
 use crate::derived::hibitset_sparse::group_view::GroupView;
 use crate::derived::hibitset_sparse::kept::{AloneSparse, BothSparse};
 use crate::derived::hibitset_sparse::packed_array::PackedArray;
-use crate::derived::hibitset_sparse::rank::take_lowest;
+use crate::derived::hibitset_sparse::rank::{is_set, take_lowest};
 use crate::derived::hibitset_sparse::set::SparseBitSet;
 use crate::derived::hibitset_sparse::table::{GROUPS_PER_TABLE, PLACES_PER_TABLE, Table};
+use crate::derived::hibitset_base::bits::with_bit;
 use crate::derived::hibitset_base::like::BitSetLike;
-use crate::derived::hibitset_base::virt::{BitSetOr, BitSetXor};
 use crate::support::rattle_std::alloc::{AllocError, Global};
 
 /// A way to put two sets together, index by index.
@@ -28,31 +28,14 @@ trait Merge {
     /// ```
     fn merged_bits(own: usize, other: usize) -> usize;
 
-    /// How many words there may be, so that capacity for them is reserved at once.
-    fn most_words(own: usize, other: usize) -> usize;
-
-    /// Appends group q, made of a group of each, if no group is there from q on.
+    /// The word that two words give.
     ///
     /// # Contract
     ///
     /// ```text
-    /// requires group { q < GROUPS_PER_TABLE }
-    /// requires made { IsMadeUpTo q (value_in groups.old) items.old.items }
-    /// ensures made { OnOk result (IsMadeUpTo (q + 1) (value_in groups.new) items.new.items) }
-    /// ensures pushed { OnOk result ((p : ℕ) → p < PLACES_PER_TABLE → p / 64 ≡ q
-    ///     → IsWordOf test (view_has own.now) (view_has other.now) (64 * (p % 64))
-    ///     (or_zero (value_of_place (value_in groups.new) items.new.items p))) }
-    /// ensures others { OnOk result ((p : ℕ) → p < PLACES_PER_TABLE → p / 64 ≢ q
-    ///     → value_of_place (value_in groups.new) items.new.items p
-    ///     ≡ value_of_place (value_in groups.old) items.old.items p) }
+    /// ensures { result ≡ merged own other }
     /// ```
-    fn push_merged(
-        groups: &mut PackedArray<Group>,
-        items: &mut Vec<usize>,
-        own: &GroupView<'_>,
-        other: &GroupView<'_>,
-        q: usize,
-    ) -> Result<(), AllocError>;
+    fn merged_word(own: usize, other: usize) -> usize;
 }
 
 /// What is in one or both.
@@ -65,19 +48,8 @@ impl Merge for Union {
     }
 
     #[inline]
-    fn most_words(own: usize, other: usize) -> usize {
-        own.saturating_add(other)
-    }
-
-    #[inline]
-    fn push_merged(
-        groups: &mut PackedArray<Group>,
-        items: &mut Vec<usize>,
-        own: &GroupView<'_>,
-        other: &GroupView<'_>,
-        q: usize,
-    ) -> Result<(), AllocError> {
-        push_group(groups, items, &BitSetOr(own, other), 0, q)
+    fn merged_word(own: usize, other: usize) -> usize {
+        own | other
     }
 }
 
@@ -91,20 +63,57 @@ impl Merge for SymmetricDifference {
     }
 
     #[inline]
-    fn most_words(own: usize, other: usize) -> usize {
-        own.saturating_add(other)
+    fn merged_word(own: usize, other: usize) -> usize {
+        own ^ other
     }
+}
 
-    #[inline]
-    fn push_merged(
-        groups: &mut PackedArray<Group>,
-        items: &mut Vec<usize>,
-        own: &GroupView<'_>,
-        other: &GroupView<'_>,
-        q: usize,
-    ) -> Result<(), AllocError> {
-        push_group(groups, items, &BitSetXor(own, other), 0, q)
+// The word of a bit of a group, which lies at `at` if the bit is set: then `at` moves behind it.
+#[inline]
+fn take_word(view: &GroupView<'_>, bit: usize, at: &mut usize) -> usize {
+    if !is_set(view.word, bit) {
+        return 0;
     }
+    let word = view.items[*at];
+    *at += 1;
+    word
+}
+
+// Appends the nonzero words that two groups give, and returns which of the 64 they are, as bits.
+#[inline]
+fn push_words<M: Merge>(items: &mut Vec<usize>, own: &GroupView<'_>, other: &GroupView<'_>) -> usize {
+    let mut left = own.word | other.word;
+    let mut own_at = own.start;
+    let mut other_at = other.start;
+    let mut bits = 0;
+    'places: while left != 0 {
+        let bit = take_lowest(&mut left);
+        let first = take_word(own, bit, &mut own_at);
+        let second = take_word(other, bit, &mut other_at);
+        let word = M::merged_word(first, second);
+        if word != 0 {
+            items.push_reserved(word);
+            bits = with_bit(bits, bit, true);
+        }
+    }
+    bits
+}
+
+// Appends group q, made of a group of each, where no group is there from q on.
+#[inline]
+fn push_merged<M: Merge>(
+    groups: &mut PackedArray<Group>,
+    items: &mut Vec<usize>,
+    own: &GroupView<'_>,
+    other: &GroupView<'_>,
+    q: usize,
+) -> Result<(), AllocError> {
+    let start = items.len();
+    let word = push_words::<M>(items, own, other);
+    if word == 0 {
+        return Ok(());
+    }
+    groups.push(q, Group { word, start })
 }
 
 // A chunk made of two.
@@ -113,12 +122,12 @@ fn merge_chunks<M: Merge>(alloc: Global, own: &Chunk, other: &Chunk) -> Result<C
     let mut items = Vec::new(alloc);
     let mut left = M::merged_bits(own.layer2(), other.layer2());
     groups.reserve(left.count_ones() as usize)?;
-    items.reserve(M::most_words(own.words.items.len(), other.words.items.len()))?;
+    items.reserve(own.words.items.len() + other.words.items.len())?;
     'groups: while left != 0 {
         let q = take_lowest(&mut left);
         let of_own = GroupView::of(own, q);
         let of_other = GroupView::of(other, q);
-        M::push_merged(&mut groups, &mut items, &of_own, &of_other, q)?;
+        push_merged::<M>(&mut groups, &mut items, &of_own, &of_other, q)?;
     }
     Ok(Chunk {
         words: Table { groups, items },

@@ -1,6 +1,7 @@
 use Rattle.std.proofs.Common.{◌+◌, ◌*◌, ◌&&◌, not, sym, ◌∙◌, ap, arith}
 use Rattle.hibitset_sparse.specs.Chunk.{has_in}
-use Rattle.hibitset_sparse.proofs.KeptLemmas.{all-kept, chunk-gone, chunk-kept, index-kept, ne-false, ne-true, none-under_zero}
+use Rattle.hibitset_sparse.proofs.KeptLemmas.{all-kept, chunk-gone, chunk-kept, index-kept, ne-false, ne-true, none-under_zero, of-nonzero}
+use Rattle.hibitset_sparse.specs.Retain.{IsKeptWord}
 use Rattle.hibitset_sparse.proofs.kept.AloneChangeChunk.change.Goals as goal
 
 pub returns-then-layer2-eq0-clause-stays : goal.returns-then-layer2-eq0-clause-stays
@@ -19,12 +20,16 @@ returns-then-layer2-eq0-clause-goes g c = λ no. chunk-gone (λ j. not (g.B.BitS
 
 pub returns-clause-stays : goal.returns-clause-stays
 returns-clause-stays g c = λ yes. chunk-kept (λ j. not (g.B.BitSetLike.holds c.args.self.now.0.now j)) c.args.i c.args.value.now c.retain_words.new.chunk
-    (λ r small. index-kept (λ j. not (g.B.BitSetLike.holds c.args.self.now.0.now j)) (4096 * c.args.i) c.args.value.now c.retain_words.new.chunk c.retain_words.ensures.words r small
+    (λ r small. index-kept (λ j. not (g.B.BitSetLike.holds c.args.self.now.0.now j)) (4096 * c.args.i) c.args.value.now c.retain_words.new.chunk
+    (of-nonzero (λ p. IsKeptWord (λ j. not (g.B.BitSetLike.holds c.args.self.now.0.now j)) (4096 * c.args.i + p)) c.args.value.now c.retain_words.new.chunk.words
+    c.retain_words.ensures.words) r small
     ∙ ap (λ j. has_in c.args.value.now r && not (g.B.BitSetLike.holds c.args.self.now.0.now j)) (omega arith))
     (c.retain_words.ensures.some yes)
 
 pub returns-clause-goes : goal.returns-clause-goes
 returns-clause-goes g c = λ no. chunk-gone (λ j. not (g.B.BitSetLike.holds c.args.self.now.0.now j)) c.args.i c.args.value.now c.retain_words.new.chunk
-    (λ r small. index-kept (λ j. not (g.B.BitSetLike.holds c.args.self.now.0.now j)) (4096 * c.args.i) c.args.value.now c.retain_words.new.chunk c.retain_words.ensures.words r small
+    (λ r small. index-kept (λ j. not (g.B.BitSetLike.holds c.args.self.now.0.now j)) (4096 * c.args.i) c.args.value.now c.retain_words.new.chunk
+    (of-nonzero (λ p. IsKeptWord (λ j. not (g.B.BitSetLike.holds c.args.self.now.0.now j)) (4096 * c.args.i + p)) c.args.value.now c.retain_words.new.chunk.words
+    c.retain_words.ensures.words) r small
     ∙ ap (λ j. has_in c.args.value.now r && not (g.B.BitSetLike.holds c.args.self.now.0.now j)) (omega arith))
     (c.retain_words.ensures.none no)

@@ -6,5 +6,5 @@ use Rattle.hibitset_sparse.proofs.kept.ChunkBothGroupChangeUsize.retain_group.Go
 
 pub returns : goal.returns
 returns c = retained-as ℕ _ _ c.args.group.word c.args.group.start c.args.to _ c.args.items.now.items _
-    (λ b x o small. word-same (λ j. view_has c.of-kept.result (j % 4096)) (has_in c.args.self.now.0.now) (64 * c.args.q + b) x o (λ a few. ap (view_has c.of-kept.result) (omega (arith, small, few)) ∙ (c.of-kept.ensures (64 * b + a) (omega (arith, small, few)) ∙ ap (has_in c.args.self.now.0.now) (omega (arith, small, few)))))
+    (λ b x o small. word-same (λ j. view_has c.of-kept.result (j % 4096)) (has_in c.args.self.now.0.now) (64 * c.args.q + b) x o (λ a few. ap (view_has c.of-kept.result) (omega (arith, small, few)) ∙ (c.of-kept.ensures.members (64 * b + a) (omega (arith, small, few)) ∙ ap (has_in c.args.self.now.0.now) (omega (arith, small, few)))))
     c.retain_group.ensures
