@@ -13,7 +13,7 @@ use hibitset_sparse::SparseBitSet;
 use std::alloc::{AllocError, Global};
 
 // The first and the last index of words, groups, chunks, and of the set.
-const BORDERS: [Index; 12] = [
+const BORDERS: [Index; 13] = [
     0,
     63,
     64,
@@ -22,6 +22,7 @@ const BORDERS: [Index; 12] = [
     262_143,
     262_144,
     524_287,
+    524_288,
     16_777_215,
     16_777_216,
     1_073_479_680,
@@ -48,6 +49,11 @@ fn dense_of(alloc: Global, ids: &[Index]) -> Result<BitSet, AllocError> {
         }
     }
     Ok(set)
+}
+
+// The sparse set and the dense set of these indices.
+fn both_of(alloc: Global, ids: &[Index]) -> Result<(SparseBitSet, BitSet), AllocError> {
+    Ok((sparse_of(alloc, ids)?, dense_of(alloc, ids)?))
 }
 
 // The words on the way to an index, from the top on.

@@ -1,6 +1,6 @@
 //! Assignments to a sparse set, beside the same ones to a dense set.
-use crate::tests::{agree, dense_of, has_exactly, is_empty_at, sparse_of};
-use hibitset::{BitSet, BitSetAll, BitSetLike, BitSetRange, Index};
+use crate::tests::{agree, agree_at, both_of, dense_of, sparse_of};
+use hibitset::{BitSetLike, BitSetRange, Index};
 use hibitset_sparse::SparseBitSet;
 use std::alloc::{AllocError, Global};
 use std::test::Fail;
@@ -15,17 +15,35 @@ const THEIRS: [Index; 10] = [
     3, 65, 71, 4_096, 262_144, 270_000, 786_432, 786_500, 16_777_217, 33_554_432,
 ];
 
+// The words of sets are compared on the way to these indices: one in each group and chunk that a row has.
+const PLACES: [Index; 15] = [
+    3,
+    64,
+    4_096,
+    262_144,
+    270_000,
+    524_288,
+    600_000,
+    786_432,
+    800_000,
+    16_777_216,
+    16_800_000,
+    20_000_000,
+    33_554_432,
+    1_073_479_680,
+    1_073_741_823,
+];
+
 // Returns whether unions with another set agree.
 fn unite_alike<B: BitSetLike>(
     alloc: Global,
     ours: &[Index],
     other: &B,
 ) -> Result<bool, AllocError> {
-    let mut sparse = sparse_of(alloc, ours)?;
-    let mut dense = dense_of(alloc, ours)?;
+    let (mut sparse, mut dense) = both_of(alloc, ours)?;
     sparse.bitor_assign(other)?;
     dense.bitor_assign(other)?;
-    Ok(agree(alloc, &sparse, &dense, ours)? && agree(alloc, &sparse, &dense, &THEIRS)?)
+    agree(alloc, &sparse, &dense, &PLACES)
 }
 
 // Returns whether symmetric differences with another set agree.
@@ -34,11 +52,10 @@ fn differ_alike<B: BitSetLike>(
     ours: &[Index],
     other: &B,
 ) -> Result<bool, AllocError> {
-    let mut sparse = sparse_of(alloc, ours)?;
-    let mut dense = dense_of(alloc, ours)?;
+    let (mut sparse, mut dense) = both_of(alloc, ours)?;
     sparse.bitxor_assign(other)?;
     dense.bitxor_assign(other)?;
-    Ok(agree(alloc, &sparse, &dense, ours)? && agree(alloc, &sparse, &dense, &THEIRS)?)
+    agree(alloc, &sparse, &dense, &PLACES)
 }
 
 // Returns whether intersections with another set agree.
@@ -47,11 +64,10 @@ fn intersect_alike<B: BitSetLike>(
     ours: &[Index],
     other: &B,
 ) -> Result<bool, AllocError> {
-    let mut sparse = sparse_of(alloc, ours)?;
-    let mut dense = dense_of(alloc, ours)?;
+    let (mut sparse, mut dense) = both_of(alloc, ours)?;
     sparse &= other;
     dense &= other;
-    agree(alloc, &sparse, &dense, ours)
+    agree(alloc, &sparse, &dense, &PLACES)
 }
 
 // Returns whether differences agree, by `-=` and by `subtract_assign`.
@@ -60,13 +76,12 @@ fn subtract_alike<B: BitSetLike>(
     ours: &[Index],
     other: &B,
 ) -> Result<bool, AllocError> {
-    let mut sparse = sparse_of(alloc, ours)?;
+    let (mut sparse, mut dense) = both_of(alloc, ours)?;
     let mut again = sparse_of(alloc, ours)?;
-    let mut dense = dense_of(alloc, ours)?;
     sparse -= other;
     again.subtract_assign(other);
     dense -= other;
-    Ok(agree(alloc, &sparse, &dense, ours)? && agree(alloc, &again, &dense, ours)?)
+    Ok(agree_at(&again, &dense, &PLACES) && agree(alloc, &sparse, &dense, &PLACES)?)
 }
 
 // Returns whether all assignments by another set agree.
@@ -83,144 +98,89 @@ fn assign_alike<B: BitSetLike>(
     )
 }
 
+// Returns whether assignments agree by a dense set, and by a sparse copy of it.
+fn assign_stored_alike(
+    alloc: Global,
+    ours: &[Index],
+    theirs: &[Index],
+) -> Result<bool, AllocError> {
+    let dense = dense_of(alloc, theirs)?;
+    let copy = SparseBitSet::from_set(alloc, &dense)?;
+    Ok(assign_alike(alloc, ours, &dense)? && assign_alike(alloc, ours, &copy)?)
+}
+
+// Chunks of the other set lie before, between and after those of the set. A chunk that becomes empty is gone, and the
+// others stay.
 #[test]
-fn by_a_sparse_set(rt: HostRuntime) -> Result<(), Fail> {
-    let other = sparse_of(rt.alloc(), &THEIRS)?;
-    assert!(rt; assign_alike(rt.alloc(), &OURS, &other)?);
-    assert!(rt; assign_alike(rt.alloc(), &[], &other)?);
+fn by_stored_sets(rt: HostRuntime) -> Result<(), Fail> {
+    let rows: [(&[Index], &[Index]); 7] = [
+        (&OURS, &THEIRS),
+        (&[], &THEIRS),
+        (&OURS, &[]),
+        (&OURS, &OURS),
+        (
+            &[262_144, 262_145, 800_000, 20_000_000],
+            &[5, 600_000, 16_800_000, 33_554_432],
+        ),
+        (&[5, 262_144, 262_145, 16_777_216], &[262_144, 262_145]),
+        (&[5, 16_777_216], &[5, 262_144]),
+    ];
+    for (ours, theirs) in rows {
+        assert!(rt; assign_stored_alike(rt.alloc(), ours, theirs)?);
+    }
     Ok(())
 }
 
+// Returns whether assignments agree by an intersection and by a symmetric difference of two sets.
+fn assign_both_alike(
+    alloc: Global,
+    ours: &[Index],
+    a: &[Index],
+    b: &[Index],
+) -> Result<bool, AllocError> {
+    let a = sparse_of(alloc, a)?;
+    let b = sparse_of(alloc, b)?;
+    Ok(assign_alike(alloc, ours, &(&a & &b))? && assign_alike(alloc, ours, &(&a ^ &b))?)
+}
+
+// The intersections have bits over words that are zero, and so over chunks without members; the last is a phantom.
 #[test]
-fn by_a_dense_set(rt: HostRuntime) -> Result<(), Fail> {
-    let other = dense_of(rt.alloc(), &THEIRS)?;
-    assert!(rt; assign_alike(rt.alloc(), &OURS, &other)?);
+fn by_virtual_sets(rt: HostRuntime) -> Result<(), Fail> {
+    let a = [5, 4_096, 262_144].as_slice();
+    let b = [6, 4_097, 262_145].as_slice();
+    let rows: [(&[Index], &[Index], &[Index]); 4] = [
+        (&OURS, &OURS, &THEIRS),
+        (&[3, 5, 524_288, 16_777_216], &OURS, &THEIRS),
+        (&[], a, b),
+        (&[5, 262_145], a, b),
+    ];
+    for (ours, a, b) in rows {
+        assert!(rt; assign_both_alike(rt.alloc(), ours, a, b)?);
+    }
     Ok(())
 }
 
-// The intersection has bits over words that are zero, and so over chunks without members.
-#[test]
-fn by_a_virtual_set(rt: HostRuntime) -> Result<(), Fail> {
-    let a = sparse_of(rt.alloc(), &OURS)?;
-    let b = sparse_of(rt.alloc(), &THEIRS)?;
-    assert!(rt; assign_alike(rt.alloc(), &[3, 5, 524_288, 16_777_216], &(&a & &b))?);
-    assert!(rt; assign_alike(rt.alloc(), &OURS, &(&a ^ &b))?);
-    Ok(())
+// Returns whether what leaves full chunks alone, or empties them, agrees.
+fn complement_alike(alloc: Global, theirs: &[Index]) -> Result<bool, AllocError> {
+    let theirs = sparse_of(alloc, theirs)?;
+    let other = !&theirs;
+    Ok(intersect_alike(alloc, &OURS, &other)? && subtract_alike(alloc, &OURS, &other)?)
 }
 
 #[test]
-fn by_a_phantom(rt: HostRuntime) -> Result<(), Fail> {
-    let a = sparse_of(rt.alloc(), &[5, 4_096, 262_144])?;
-    let b = sparse_of(rt.alloc(), &[6, 4_097, 262_145])?;
-    assert!(rt; assign_alike(rt.alloc(), &[], &(&a & &b))?);
-    assert!(rt; assign_alike(rt.alloc(), &[5, 262_145], &(&a & &b))?);
-    Ok(())
-}
-
-// Chunks that are full, and that the assignments leave alone or empty.
-#[test]
-fn by_a_complement(rt: HostRuntime) -> Result<(), Fail> {
-    let other = sparse_of(rt.alloc(), &THEIRS)?;
-    assert!(rt; intersect_alike(rt.alloc(), &OURS, &!&other)?);
-    assert!(rt; subtract_alike(rt.alloc(), &OURS, &!&other)?);
-    assert!(rt; intersect_alike(rt.alloc(), &OURS, &BitSetAll)?);
-    assert!(rt; subtract_alike(rt.alloc(), &OURS, &BitSetAll)?);
-    Ok(())
-}
-
-#[test]
-fn by_a_range(rt: HostRuntime) -> Result<(), Fail> {
+fn by_complements_and_ranges(rt: HostRuntime) -> Result<(), Fail> {
+    for theirs in [THEIRS.as_slice(), &[]] {
+        assert!(rt; complement_alike(rt.alloc(), theirs)?);
+    }
     for (start, end) in [(60, 66), (65, 300_000), (262_144, 524_288), (9, 9)] {
-        let range = BitSetRange { start, end };
-        assert!(rt;
-            assign_alike(rt.alloc(), &OURS, &range)?,
-            "{}, {}",
-            start,
-            end
-        );
+        assert!(rt; assign_alike(rt.alloc(), &OURS, &BitSetRange { start, end })?);
     }
     Ok(())
 }
 
 #[test]
-fn by_an_empty_set(rt: HostRuntime) -> Result<(), Fail> {
-    let none = SparseBitSet::new(rt.alloc());
-    assert!(rt; assign_alike(rt.alloc(), &OURS, &none)?);
-    assert!(rt; assign_alike(rt.alloc(), &[], &none)?);
-    assert!(rt; assign_alike(rt.alloc(), &OURS, &BitSet::new(rt.alloc()))?);
-    Ok(())
-}
-
-// Chunks of the other set lie before, between and after those of the set.
-#[test]
-fn by_a_set_in_other_chunks(rt: HostRuntime) -> Result<(), Fail> {
-    let other = sparse_of(rt.alloc(), &[5, 600_000, 16_800_000, 33_554_432])?;
-    assert!(rt; assign_alike(rt.alloc(), &[262_144, 262_145, 800_000, 20_000_000], &other)?);
-    Ok(())
-}
-
-#[test]
-fn by_a_copy(rt: HostRuntime) -> Result<(), Fail> {
-    let set = sparse_of(rt.alloc(), &OURS)?;
-    let copy = SparseBitSet::from_set(rt.alloc(), &set)?;
-    assert!(rt; agree(rt.alloc(), &copy, &set, &OURS)?);
-    assert!(rt; assign_alike(rt.alloc(), &OURS, &copy)?);
-    Ok(())
-}
-
-#[test]
 fn by_a_set_in_the_last_chunk(rt: HostRuntime) -> Result<(), Fail> {
-    let alloc = rt.alloc();
-    let last = sparse_of(alloc, &[1_073_479_680, 1_073_741_823])?;
-    let mut set = sparse_of(alloc, &[5, 1_073_741_823])?;
-    set.bitor_assign(&last)?;
-    assert!(rt; has_exactly(alloc, &set, &[5, 1_073_479_680, 1_073_741_823])?);
-    set &= &last;
-    assert!(rt; agree(alloc, &set, &last, &[5, 1_073_479_680, 1_073_741_823])?);
-    set.bitxor_assign(&sparse_of(alloc, &[5, 1_073_741_823])?)?;
-    assert!(rt; has_exactly(alloc, &set, &[5, 1_073_479_680])?);
-    set -= &last;
-    assert!(rt; has_exactly(alloc, &set, &[5])?);
-    Ok(())
-}
-
-// A copy shares nothing with the set that it was made of.
-#[test]
-fn a_copy_is_a_set_of_its_own(rt: HostRuntime) -> Result<(), Fail> {
-    let dense = dense_of(rt.alloc(), &THEIRS)?;
-    let set = SparseBitSet::from_set(rt.alloc(), &dense)?;
-    let mut copy = SparseBitSet::from_set(rt.alloc(), &set)?;
-    assert!(rt; copy.remove(3) && !copy.add(4)?);
-    assert!(rt; agree(rt.alloc(), &set, &dense, &THEIRS)?);
-    assert!(rt; !copy.contains(3) && copy.contains(4) && copy.len() == set.len());
-    Ok(())
-}
-
-#[test]
-fn what_a_set_loses_is_gone(rt: HostRuntime) -> Result<(), Fail> {
-    let copy = sparse_of(rt.alloc(), &OURS)?;
-    let mut flipped = sparse_of(rt.alloc(), &OURS)?;
-    flipped.bitxor_assign(&copy)?;
-    assert!(rt; is_empty_at(&flipped, &OURS));
-    let mut lost = sparse_of(rt.alloc(), &OURS)?;
-    lost -= &copy;
-    assert!(rt; is_empty_at(&lost, &OURS));
-    let mut kept = sparse_of(rt.alloc(), &OURS)?;
-    kept &= &SparseBitSet::new(rt.alloc());
-    assert!(rt; is_empty_at(&kept, &OURS));
-    Ok(())
-}
-
-// A chunk that loses its members is gone, and the others stay.
-#[test]
-fn a_chunk_that_becomes_empty_is_gone(rt: HostRuntime) -> Result<(), Fail> {
-    let mut set = sparse_of(rt.alloc(), &[5, 262_144, 262_145, 16_777_216])?;
-    set -= &sparse_of(rt.alloc(), &[262_144, 262_145])?;
-    assert!(rt; set.layer4() == 3 && set.layer3(0) == 1 && set.layer2(1) == 0);
-    set &= &sparse_of(rt.alloc(), &[5, 262_144])?;
-    assert!(rt; set.layer4() == 1 && set.layer3(1) == 0 && set.layer2(64) == 0);
-    set.bitxor_assign(&sparse_of(rt.alloc(), &[5, 16_777_300])?)?;
-    assert!(rt; set.layer4() == 2 && set.layer3(0) == 0 && set.layer3(1) == 1);
-    assert!(rt; has_exactly(rt.alloc(), &set, &[16_777_300])?);
+    let last = sparse_of(rt.alloc(), &[1_073_479_680, 1_073_741_823])?;
+    assert!(rt; assign_alike(rt.alloc(), &[5, 1_073_741_823], &last)?);
     Ok(())
 }

@@ -1,34 +1,41 @@
 //! The first and the last places of tables, full tables, and parts of a set that are emptied and filled again.
-use crate::tests::{BORDERS, agree, agree_at, dense_of, has_exactly, is_empty_at, sparse_of};
+use crate::tests::{
+    BORDERS, agree, agree_at, both_of, dense_of, has_exactly, is_empty_at, sparse_of,
+};
 use hibitset::{BitSet, BitSetLike, Index, MAX_EID};
 use hibitset_sparse::SparseBitSet;
 use std::alloc::{AllocError, Global};
 use std::test::Fail;
 
+// Takes an index out, once and once more, and returns whether it was there the first time, and nothing is left then.
+fn loses(set: &mut SparseBitSet, id: Index) -> bool {
+    set.remove(id) && !set.remove(id) && is_empty_at(set, &BORDERS)
+}
+
 // Returns whether a set of one index has that one alone, and nothing after it is taken out.
 fn has_one_alone(alloc: Global, id: Index) -> Result<bool, AllocError> {
-    let mut set = sparse_of(alloc, &[id])?;
-    let alone = agree(alloc, &set, &dense_of(alloc, &[id])?, &BORDERS)?;
+    let (mut set, dense) = both_of(alloc, &[id])?;
     let is_there = set.first() == Some(id) && set.last() == Some(id);
-    let is_gone = set.remove(id) && !set.remove(id) && is_empty_at(&set, &BORDERS);
-    Ok(alone && is_there && is_gone)
+    Ok(is_there && agree(alloc, &set, &dense, &BORDERS)? && loses(&mut set, id))
+}
+
+// Returns whether these indices are not there, and so can't be taken out.
+fn lacks(set: &mut SparseBitSet, ids: &[Index]) -> bool {
+    for id in ids {
+        if set.contains(*id) || set.remove(*id) {
+            return false;
+        }
+    }
+    true
 }
 
 #[test]
 fn each_border_alone(rt: HostRuntime) -> Result<(), Fail> {
     for id in BORDERS {
-        assert!(rt; has_one_alone(rt.alloc(), id)?, "{}", id);
+        assert!(rt; has_one_alone(rt.alloc(), id)?);
     }
-    Ok(())
-}
-
-#[test]
-fn indices_out_of_range_are_not_there(rt: HostRuntime) -> Result<(), Fail> {
-    let mut set = sparse_of(rt.alloc(), &[0, 1_073_741_823])?;
-    for id in [1_073_741_824, 2_147_483_648, Index::MAX] {
-        assert!(rt; !set.contains(id) && !set.remove(id));
-    }
-    assert!(rt; has_exactly(rt.alloc(), &set, &[0, 1_073_741_823])?);
+    let mut set = sparse_of(rt.alloc(), &BORDERS)?;
+    assert!(rt; lacks(&mut set, &[1_073_741_824, 2_147_483_648, Index::MAX]));
     Ok(())
 }
 
@@ -92,21 +99,21 @@ fn change_in_orders(
     Ok(have_grown && agree_full && have_shrunk && is_empty_at(&sparse, &BORDERS))
 }
 
+// Words of a chunk, and chunks of a set.
 #[test]
-fn words_in_any_order(rt: HostRuntime) -> Result<(), Fail> {
+fn places_in_any_order(rt: HostRuntime) -> Result<(), Fail> {
     for added in [&UPWARD, &DOWNWARD, &OUTWARD] {
         for removed in [&UPWARD, &DOWNWARD, &OUTWARD] {
             assert!(rt; change_in_orders(rt.alloc(), 64, added, removed)?);
         }
     }
-    Ok(())
-}
-
-#[test]
-fn chunks_in_any_order(rt: HostRuntime) -> Result<(), Fail> {
-    assert!(rt; change_in_orders(rt.alloc(), 262_144, &UPWARD, &DOWNWARD)?);
-    assert!(rt; change_in_orders(rt.alloc(), 262_144, &DOWNWARD, &OUTWARD)?);
-    assert!(rt; change_in_orders(rt.alloc(), 262_144, &OUTWARD, &UPWARD)?);
+    for (added, removed) in [
+        (&UPWARD, &DOWNWARD),
+        (&DOWNWARD, &OUTWARD),
+        (&OUTWARD, &UPWARD),
+    ] {
+        assert!(rt; change_in_orders(rt.alloc(), 262_144, added, removed)?);
+    }
     Ok(())
 }
 
@@ -159,29 +166,36 @@ fn is_emptied_at_last(set: &mut SparseBitSet, ids: &[Index]) -> bool {
     is_empty_at(set, ids)
 }
 
-#[test]
-fn a_chunk_of_all_its_words(rt: HostRuntime) -> Result<(), Fail> {
-    let ids = one_at_each_place(rt.alloc(), 262_144, 64)?;
-    let mut set = SparseBitSet::new(rt.alloc());
-    add_downward(&mut set, &ids)?;
-    assert!(rt; has_exactly(rt.alloc(), &set, &ids)?);
-    assert!(rt; set.layer2(1) == usize::MAX && set.layer1(64) == usize::MAX);
-    assert!(rt; set.layer1(127) == usize::MAX && set.layer1(128) == 0 && set.layer2(2) == 0);
-    assert!(rt; leaves_all_but_three(rt.alloc(), &mut set, &ids)?);
-    assert!(rt; is_emptied_at_last(&mut set, &ids));
-    Ok(())
+// A set of these indices, of which the last one is added first.
+fn filled(alloc: Global, ids: &[Index]) -> Result<SparseBitSet, AllocError> {
+    let mut set = SparseBitSet::new(alloc);
+    add_downward(&mut set, ids)?;
+    Ok(set)
 }
 
+// Returns whether a set agrees with the dense one of these indices.
+fn is_full(alloc: Global, set: &SparseBitSet, ids: &[Index]) -> Result<bool, AllocError> {
+    let dense = dense_of(alloc, ids)?;
+    Ok(agree_at(set, &dense, &BORDERS) && agree(alloc, set, &dense, ids)?)
+}
+
+// Returns whether a set of an index under each place is full, and emptied place by place.
+fn is_filled_and_emptied(alloc: Global, first: Index, step: Index) -> Result<bool, AllocError> {
+    let ids = one_at_each_place(alloc, first, step)?;
+    let mut set = filled(alloc, &ids)?;
+    Ok(
+        is_full(alloc, &set, &ids)?
+            && leaves_all_but_three(alloc, &mut set, &ids)?
+            && is_emptied_at_last(&mut set, &ids),
+    )
+}
+
+// A chunk of all its words, and a set of all its chunks.
 #[test]
-fn a_set_of_all_its_chunks(rt: HostRuntime) -> Result<(), Fail> {
-    let ids = one_at_each_place(rt.alloc(), 262_143, 262_144)?;
-    let mut set = SparseBitSet::new(rt.alloc());
-    add_downward(&mut set, &ids)?;
-    assert!(rt; has_exactly(rt.alloc(), &set, &ids)?);
-    assert!(rt; set.layer4() == usize::MAX && set.layer3(0) == usize::MAX);
-    assert!(rt; set.layer3(63) == usize::MAX && set.layer2(4_095) == 1 << 63);
-    assert!(rt; leaves_all_but_three(rt.alloc(), &mut set, &ids)?);
-    assert!(rt; is_emptied_at_last(&mut set, &ids));
+fn all_places_of_a_table(rt: HostRuntime) -> Result<(), Fail> {
+    for (first, step) in [(262_144, 64), (262_143, 262_144)] {
+        assert!(rt; is_filled_and_emptied(rt.alloc(), first, step)?);
+    }
     Ok(())
 }
 
@@ -195,43 +209,60 @@ fn remove_all(set: &mut SparseBitSet, ids: &[Index]) -> bool {
     true
 }
 
-// Returns whether a set that has `kept` has them alone each time that other indices were added and taken out.
-fn is_filled_again(alloc: Global, kept: &[Index], others: &[Index]) -> Result<bool, AllocError> {
-    let mut set = sparse_of(alloc, kept)?;
-    let without = dense_of(alloc, kept)?;
-    let mut with = dense_of(alloc, kept)?;
-    with.bitor_assign(&dense_of(alloc, others)?)?;
-    for _ in 0..2u32 {
-        add_downward(&mut set, others)?;
-        if !agree(alloc, &set, &with, others)? || !remove_all(&mut set, others) {
-            return Ok(false);
-        }
-        if !agree(alloc, &set, &without, others)? {
-            return Ok(false);
+// The dense set of both lists.
+fn dense_of_both(alloc: Global, ids: &[Index], others: &[Index]) -> Result<BitSet, AllocError> {
+    let mut set = dense_of(alloc, ids)?;
+    for id in others {
+        if (*id as usize) < MAX_EID {
+            set.add(*id)?;
         }
     }
-    Ok(true)
+    Ok(set)
 }
 
-#[test]
-fn a_group_is_filled_again(rt: HostRuntime) -> Result<(), Fail> {
-    let kept = [0, 16_384, 20_479, 24_576, 262_143];
-    let others = [20_480, 20_543, 20_544, 22_000, 24_511, 24_575];
-    assert!(rt; is_filled_again(rt.alloc(), &kept, &others)?);
-    Ok(())
+// Adds indices to a set and takes them out, and returns whether it agrees with the dense sets with and without them.
+fn is_filled_and_as_before(
+    alloc: Global,
+    set: &mut SparseBitSet,
+    with: &BitSet,
+    without: &BitSet,
+    others: &[Index],
+) -> Result<bool, AllocError> {
+    add_downward(set, others)?;
+    Ok(
+        agree(alloc, set, with, others)?
+            && remove_all(set, others)
+            && agree(alloc, set, without, others)?,
+    )
 }
 
-#[test]
-fn a_chunk_is_filled_again(rt: HostRuntime) -> Result<(), Fail> {
-    let kept = [0, 262_143, 524_288, 16_777_216];
-    let others = [262_144, 262_208, 266_240, 400_000, 524_287];
-    assert!(rt; is_filled_again(rt.alloc(), &kept, &others)?);
-    Ok(())
+// Returns whether a set that has `kept` has them alone each time that other indices were added and taken out.
+fn is_filled_again(alloc: Global, kept: &[Index], others: &[Index]) -> Result<bool, AllocError> {
+    let (mut set, without) = both_of(alloc, kept)?;
+    let with = dense_of_both(alloc, kept, others)?;
+    Ok(
+        is_filled_and_as_before(alloc, &mut set, &with, &without, others)?
+            && is_filled_and_as_before(alloc, &mut set, &with, &without, others)?,
+    )
 }
 
+// A group, a chunk, and the whole set.
 #[test]
-fn a_set_is_filled_again(rt: HostRuntime) -> Result<(), Fail> {
-    assert!(rt; is_filled_again(rt.alloc(), &[], &BORDERS)?);
+fn what_was_emptied_is_filled_again(rt: HostRuntime) -> Result<(), Fail> {
+    let rows: [(&[Index], &[Index]); 3] = [
+        (
+            &[0, 16_384, 20_479, 24_576, 262_143],
+            &[20_480, 20_543, 20_544, 22_000, 24_511, 24_575],
+        ),
+        (
+            &[0, 262_143, 524_288, 16_777_216],
+            &[262_144, 262_208, 266_240, 400_000, 524_287],
+        ),
+        (&[], &BORDERS),
+    ];
+    for (kept, others) in rows {
+        assert!(rt; is_filled_again(rt.alloc(), kept, others)?);
+    }
     Ok(())
 }
 

@@ -16,96 +16,134 @@ const REFUSED: BuildError = BuildError::OutOfRange {
     index: 1_073_741_824,
 };
 
-// Returns whether there was an error, and the one that the third item makes. If an allocation failed, so does this.
-fn is_refused<T: Drop>(made: Result<T, BuildError>) -> Result<bool, AllocError> {
-    match made {
-        Ok(_) => Ok(false),
-        Err(BuildError::Memory { place: _ }) => Err(AllocError),
-        Err(error) => Ok(error == REFUSED),
-    }
+fn of_slice(alloc: Global, items: &[Index]) -> Result<SparseBitSet, BuildError> {
+    SparseBitSet::from_slice(alloc, items)
 }
 
-// Returns whether a set has the members of the dense set that is made of some items.
-fn is_made_of(alloc: Global, set: &SparseBitSet, items: &[Index]) -> Result<bool, AllocError> {
-    agree(alloc, set, &dense_of(alloc, items)?, items)
+fn of_indices(alloc: Global, items: &[Index]) -> Result<SparseBitSet, BuildError> {
+    SparseBitSet::from_indices(alloc, items.iter().copied())
+}
+
+fn of_index_refs(alloc: Global, items: &[Index]) -> Result<SparseBitSet, BuildError> {
+    SparseBitSet::from_index_refs(alloc, items)
+}
+
+// Returns whether what was made has the members of a dense set, or none was made, for the item that is out of range. If
+// an allocation failed, so does this.
+fn is_made(
+    alloc: Global,
+    made: Result<SparseBitSet, BuildError>,
+    items: &[Index],
+    are_in_range: bool,
+) -> Result<bool, AllocError> {
+    match made {
+        Ok(set) => Ok(are_in_range && agree(alloc, &set, &dense_of(alloc, items)?, items)?),
+        Err(BuildError::Memory { place: _ }) => Err(AllocError),
+        Err(error) => Ok(!are_in_range && error == REFUSED),
+    }
 }
 
 #[test]
 fn made_of_items(rt: HostRuntime) -> Result<(), Fail> {
-    let set = SparseBitSet::from_slice(rt.alloc(), &ITEMS)?;
-    assert!(rt; is_made_of(rt.alloc(), &set, &ITEMS)?);
-    let set = SparseBitSet::from_indices(rt.alloc(), ITEMS.iter().copied())?;
-    assert!(rt; is_made_of(rt.alloc(), &set, &ITEMS)?);
-    let set = SparseBitSet::from_index_refs(rt.alloc(), &ITEMS)?;
-    assert!(rt; is_made_of(rt.alloc(), &set, &ITEMS)?);
+    let alloc = rt.alloc();
+    let rows: [(&[Index], bool); 3] = [(&ITEMS, true), (&[], true), (&PAST_THE_RANGE, false)];
+    for (items, are_in_range) in rows {
+        assert!(rt; is_made(alloc, of_slice(alloc, items), items, are_in_range)?);
+        assert!(rt; is_made(alloc, of_indices(alloc, items), items, are_in_range)?);
+        assert!(rt; is_made(alloc, of_index_refs(alloc, items), items, are_in_range)?);
+    }
     Ok(())
 }
 
-#[test]
-fn made_of_no_items(rt: HostRuntime) -> Result<(), Fail> {
-    assert!(rt; SparseBitSet::from_slice(rt.alloc(), &[])?.is_empty());
-    assert!(rt; SparseBitSet::from_indices(rt.alloc(), 5..5)?.is_empty());
-    Ok(())
+fn of_dense(alloc: Global, set: &BitSet) -> Result<SparseBitSet, BuildError> {
+    SparseBitSet::from_indices(alloc, set)
+}
+
+fn dense_of_sparse(alloc: Global, set: &SparseBitSet) -> Result<BitSet, BuildError> {
+    BitSet::from_indices(alloc, set)
 }
 
 #[test]
 fn made_of_the_members_of_another(rt: HostRuntime) -> Result<(), Fail> {
     let dense = dense_of(rt.alloc(), &ITEMS)?;
-    let sparse = SparseBitSet::from_indices(rt.alloc(), &dense)?;
-    assert!(rt; is_made_of(rt.alloc(), &sparse, &ITEMS)?);
-    let again = BitSet::from_indices(rt.alloc(), &sparse)?;
-    assert!(rt; again == dense);
+    let sparse = of_dense(rt.alloc(), &dense)?;
+    assert!(rt; agree(rt.alloc(), &sparse, &dense, &ITEMS)?);
+    assert!(rt; dense_of_sparse(rt.alloc(), &sparse)? == dense);
     Ok(())
+}
+
+fn extend_slice(set: &mut SparseBitSet, items: &[Index]) -> Result<(), BuildError> {
+    set.extend_from_slice(items)
+}
+
+fn extend_range(set: &mut SparseBitSet, start: Index, end: Index) -> Result<(), BuildError> {
+    set.extend_indices(start..end)
+}
+
+fn extend_refs(set: &mut SparseBitSet, items: &[Index]) -> Result<(), BuildError> {
+    set.extend_index_refs(items)
 }
 
 #[test]
 fn extended_by_items(rt: HostRuntime) -> Result<(), Fail> {
     let mut set = sparse_of(rt.alloc(), &[3, 300_000])?;
-    set.extend_from_slice(&[9, 3, 9])?;
-    set.extend_from_slice(&[])?;
-    set.extend_indices(262_143..262_145)?;
-    set.extend_index_refs(&[3, 1_073_741_823])?;
+    extend_slice(&mut set, &[9, 3, 9])?;
+    extend_slice(&mut set, &[])?;
+    extend_range(&mut set, 262_143, 262_145)?;
+    extend_refs(&mut set, &[3, 1_073_741_823])?;
     let wanted = [3, 9, 262_143, 262_144, 300_000, 1_073_741_823];
     assert!(rt; has_exactly(rt.alloc(), &set, &wanted)?);
     Ok(())
 }
 
-#[test]
-fn no_set_is_made_of_items_past_the_range(rt: HostRuntime) -> Result<(), Fail> {
-    let alloc = rt.alloc();
-    let items = PAST_THE_RANGE.iter().copied();
-    assert!(rt; is_refused(SparseBitSet::from_slice(alloc, &PAST_THE_RANGE))?);
-    assert!(rt; is_refused(SparseBitSet::from_indices(alloc, items))?);
-    assert!(rt; is_refused(SparseBitSet::from_index_refs(alloc, &PAST_THE_RANGE))?);
-    Ok(())
+// Returns whether extending stopped at the third item, and the set has those before it.
+fn has_stopped(
+    alloc: Global,
+    set: &SparseBitSet,
+    stopped: Result<(), BuildError>,
+) -> Result<bool, AllocError> {
+    match stopped {
+        Ok(()) => Ok(false),
+        Err(BuildError::Memory { place: _ }) => Err(AllocError),
+        Err(error) => Ok(error == REFUSED && has_exactly(alloc, set, &[3, 9, 300_000])?),
+    }
 }
 
-#[test]
-fn items_before_one_past_the_range_are_in(rt: HostRuntime) -> Result<(), Fail> {
-    let mut set = sparse_of(rt.alloc(), &[300_000])?;
-    assert!(rt; is_refused(set.extend_from_slice(&PAST_THE_RANGE))?);
-    assert!(rt; has_exactly(rt.alloc(), &set, &[3, 9, 300_000])?);
-    Ok(())
+fn slice_stops(alloc: Global) -> Result<bool, AllocError> {
+    let mut set = sparse_of(alloc, &[300_000])?;
+    let stopped = set.extend_from_slice(&PAST_THE_RANGE);
+    has_stopped(alloc, &set, stopped)
+}
+
+fn indices_stop(alloc: Global) -> Result<bool, AllocError> {
+    let mut set = sparse_of(alloc, &[300_000])?;
+    let mut left = PAST_THE_RANGE.iter().copied();
+    let stopped = set.extend_indices(&mut left);
+    Ok(has_stopped(alloc, &set, stopped)? && left.next() == Some(4))
+}
+
+fn index_refs_stop(alloc: Global) -> Result<bool, AllocError> {
+    let mut set = sparse_of(alloc, &[300_000])?;
+    let mut left = PAST_THE_RANGE.iter();
+    let stopped = set.extend_index_refs(&mut left);
+    Ok(has_stopped(alloc, &set, stopped)? && left.next() == Some(&4))
 }
 
 // After a refusal, an iterator goes on after the item that was refused.
 #[test]
 fn no_item_is_drawn_after_one_past_the_range(rt: HostRuntime) -> Result<(), Fail> {
-    let mut set = SparseBitSet::new(rt.alloc());
-    let mut left = PAST_THE_RANGE.iter().copied();
-    assert!(rt; is_refused(set.extend_indices(&mut left))?);
-    assert!(rt; left.next() == Some(4) && has_exactly(rt.alloc(), &set, &[3, 9])?);
-    let mut left = PAST_THE_RANGE.iter();
-    assert!(rt; is_refused(set.extend_index_refs(&mut left))?);
-    assert!(rt; left.next() == Some(&4) && has_exactly(rt.alloc(), &set, &[3, 9])?);
+    assert!(rt; slice_stops(rt.alloc())?);
+    assert!(rt; indices_stop(rt.alloc())?);
+    assert!(rt; index_refs_stop(rt.alloc())?);
     Ok(())
 }
 
 #[test]
 fn debug_lists_the_members(rt: HostRuntime) -> Result<(), Fail> {
-    let set = sparse_of(rt.alloc(), &[70_000, 5])?;
-    assert!(rt; format!(in rt.alloc(); "{set:?}")?.as_str() == "{5, 70000}");
-    let none = SparseBitSet::new(rt.alloc());
-    assert!(rt; format!(in rt.alloc(); "{none:?}")?.as_str() == "{}");
+    let rows: [(&[Index], &str); 2] = [(&[70_000, 5], "{5, 70000}"), (&[], "{}")];
+    for (ids, text) in rows {
+        let set = sparse_of(rt.alloc(), ids)?;
+        assert!(rt; format!(in rt.alloc(); "{set:?}")?.as_str() == text);
+    }
     Ok(())
 }

@@ -1,6 +1,7 @@
 //! Mixtures of changes from a seed, each made in a sparse set and in a dense one.
 use crate::tests::lists::{index_of, next};
-use crate::tests::{agree, dense_of, same_members, sparse_of, way};
+use crate::tests::ranges::{add_both, flip_both, remove_both};
+use crate::tests::{agree, agree_at, both_of, same_members, way};
 use hibitset::{BitSet, BitSetLike, DrainableBitSet, Index, MAX_EID};
 use hibitset_sparse::SparseBitSet;
 use std::alloc::{AllocError, Global};
@@ -46,19 +47,20 @@ fn single_changes_agree(
     same_members(alloc, &sparse, &dense)
 }
 
+// Near each other, and far apart.
 #[test]
-fn single_changes_near_each_other(rt: HostRuntime) -> Result<(), Fail> {
-    assert!(rt; single_changes_agree(rt.alloc(), 1, 70, 1)?);
-    assert!(rt; single_changes_agree(rt.alloc(), 2, 9_000, 1)?);
-    assert!(rt; single_changes_agree(rt.alloc(), 3, 700, 749)?);
-    Ok(())
-}
-
-#[test]
-fn single_changes_far_apart(rt: HostRuntime) -> Result<(), Fail> {
-    assert!(rt; single_changes_agree(rt.alloc(), 4, 3, 536_870_911)?);
-    assert!(rt; single_changes_agree(rt.alloc(), 5, 500, 2_147_483)?);
-    assert!(rt; single_changes_agree(rt.alloc(), 6, 128, 262_144)?);
+fn single_changes(rt: HostRuntime) -> Result<(), Fail> {
+    let rows = [
+        (1, 70, 1),
+        (2, 9_000, 1),
+        (3, 700, 749),
+        (4, 3, 536_870_911),
+        (5, 500, 2_147_483),
+        (6, 128, 262_144),
+    ];
+    for (seed, count, step) in rows {
+        assert!(rt; single_changes_agree(rt.alloc(), seed, count, step)?);
+    }
     Ok(())
 }
 
@@ -71,24 +73,15 @@ fn change_range_alike(
     start: Index,
     end: Index,
 ) -> Result<bool, AllocError> {
-    if (end as usize) > MAX_EID {
-        return Ok(false);
-    }
-    match seed >> 30 {
-        0 => {
-            sparse.add_range(start, end)?;
-            dense.add_range(start, end)?;
-        }
-        1 => {
-            sparse.flip_range(start, end)?;
-            dense.flip_range(start, end)?;
-        }
+    let is_in_range = match seed >> 30 {
+        0 => add_both(sparse, dense, start, end)?,
+        1 => flip_both(sparse, dense, start, end)?,
         _ => {
-            sparse.remove_range(start, end);
-            dense.remove_range(start, end);
+            remove_both(sparse, dense, start, end);
+            true
         }
-    }
-    Ok(way(sparse, start) == way(dense, start) && way(sparse, end) == way(dense, end))
+    };
+    Ok(is_in_range && agree_at(sparse, dense, &[start, end]))
 }
 
 // Returns whether two sets agree through 60 changes of ranges below `bound`.
@@ -119,25 +112,42 @@ fn range_changes_agree(
 
 #[test]
 fn changes_of_ranges(rt: HostRuntime) -> Result<(), Fail> {
-    assert!(rt; range_changes_agree(rt.alloc(), 7, 1_000, 300)?);
-    assert!(rt; range_changes_agree(rt.alloc(), 8, 30_000, 9_000)?);
-    assert!(rt; range_changes_agree(rt.alloc(), 9, 900_000, 400_000)?);
+    for (seed, bound, longest) in [(7, 1_000, 300), (8, 30_000, 9_000), (9, 900_000, 400_000)] {
+        assert!(rt; range_changes_agree(rt.alloc(), seed, bound, longest)?);
+    }
     Ok(())
+}
+
+// Takes the first and the last member out of both sets, and returns whether they are the same.
+fn pop_alike(sparse: &mut SparseBitSet, dense: &mut BitSet) -> bool {
+    sparse.pop_first() == dense.pop_first() && sparse.pop_last() == dense.pop_last()
+}
+
+// Keeps what 3 does not divide, in both sets.
+fn retain_alike(sparse: &mut SparseBitSet, dense: &mut BitSet) {
+    sparse.retain(|i| i % 3 != 0);
+    dense.retain(|i| i % 3 != 0);
+}
+
+// Empties both sets by a drain, and returns whether it gives the same of both.
+fn drain_alike(
+    alloc: Global,
+    sparse: &mut SparseBitSet,
+    dense: &mut BitSet,
+) -> Result<bool, AllocError> {
+    let drained: Vec<Index> = sparse.drain().collect(alloc)?;
+    let wanted: Vec<Index> = dense.drain().collect(alloc)?;
+    Ok(drained == wanted && sparse.is_empty())
 }
 
 // Returns whether two sets agree where members are taken out first, last, by a condition, and by a drain.
 fn are_taken_alike(alloc: Global, ids: &[Index]) -> Result<bool, AllocError> {
-    let mut sparse = sparse_of(alloc, ids)?;
-    let mut dense = dense_of(alloc, ids)?;
-    let ends = sparse.pop_first() == dense.pop_first() && sparse.pop_last() == dense.pop_last();
-    let popped = agree(alloc, &sparse, &dense, ids)?;
-    sparse.retain(|i| i % 3 != 0);
-    dense.retain(|i| i % 3 != 0);
+    let (mut sparse, mut dense) = both_of(alloc, ids)?;
+    let popped = pop_alike(&mut sparse, &mut dense) && agree(alloc, &sparse, &dense, ids)?;
+    retain_alike(&mut sparse, &mut dense);
     let retained = agree(alloc, &sparse, &dense, ids)?;
-    let drained: Vec<Index> = sparse.drain().collect(alloc)?;
-    let wanted: Vec<Index> = dense.drain().collect(alloc)?;
-    let emptied = agree(alloc, &sparse, &dense, ids)? && sparse.is_empty();
-    Ok(ends && popped && retained && drained == wanted && emptied)
+    let drained = drain_alike(alloc, &mut sparse, &mut dense)?;
+    Ok(popped && retained && drained && agree_at(&sparse, &dense, ids))
 }
 
 #[test]
@@ -149,7 +159,7 @@ fn members_are_taken_out_alike(rt: HostRuntime) -> Result<(), Fail> {
         &[0, 1, 4_096, 4_097, 8_192, 1_000_000, 1_000_001, 16_777_216],
     ];
     for ids in rows {
-        assert!(rt; are_taken_alike(rt.alloc(), ids)?, "{:?}", ids);
+        assert!(rt; are_taken_alike(rt.alloc(), ids)?);
     }
     Ok(())
 }

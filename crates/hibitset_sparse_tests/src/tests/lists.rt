@@ -37,22 +37,27 @@ fn sorted(alloc: Global, ids: &[Index]) -> Result<Vec<Index>, AllocError> {
     Ok(list)
 }
 
-// Returns whether a set of indices from a seed has those that are drawn.
-fn has_the_drawn(alloc: Global, seed: u32, bound: Index, count: usize) -> Result<bool, AllocError> {
+// A set of indices from a seed, and the sorted list of these.
+fn drawn_set(
+    alloc: Global,
+    seed: u32,
+    bound: Index,
+    count: usize,
+) -> Result<(SparseBitSet, Vec<Index>), AllocError> {
     let ids = drawn(alloc, seed, bound, count)?;
-    let set = sparse_of(alloc, &ids)?;
-    let list = sorted(alloc, &ids)?;
-    let walked: Vec<Index> = (&set).iter().collect(alloc)?;
-    Ok(walked == list && set.len() == list.len() && has_exactly(alloc, &set, &list)?)
+    Ok((sparse_of(alloc, &ids)?, sorted(alloc, &ids)?))
 }
 
-#[test]
-fn a_set_has_what_is_added(rt: HostRuntime) -> Result<(), Fail> {
-    assert!(rt; has_the_drawn(rt.alloc(), 1, MAX_EID as Index, 1_000)?);
-    assert!(rt; has_the_drawn(rt.alloc(), 2, 300_000, 5_000)?);
-    assert!(rt; has_the_drawn(rt.alloc(), 3, 5_000, 3_000)?);
-    assert!(rt; has_the_drawn(rt.alloc(), 4, 70, 100)?);
-    Ok(())
+// The members that a walk gives.
+fn walked(alloc: Global, set: &SparseBitSet) -> Result<Vec<Index>, AllocError> {
+    set.iter().collect(alloc)
+}
+
+// Returns whether a set of indices from a seed has those that are drawn.
+fn has_the_drawn(alloc: Global, seed: u32, bound: Index, count: usize) -> Result<bool, AllocError> {
+    let (set, list) = drawn_set(alloc, seed, bound, count)?;
+    let is_counted = set.len() == list.len();
+    Ok(is_counted && has_exactly(alloc, &set, &list)? && walked(alloc, &set)? == list)
 }
 
 // Takes every second member of a list out, the first one first, and returns those that are to be left, or none where a
@@ -77,94 +82,110 @@ fn halved(
 
 // Returns whether a set has every second member after the others were taken out.
 fn has_half(alloc: Global, seed: u32, bound: Index, count: usize) -> Result<bool, AllocError> {
-    let ids = drawn(alloc, seed, bound, count)?;
-    let mut set = sparse_of(alloc, &ids)?;
-    let list = sorted(alloc, &ids)?;
+    let (mut set, list) = drawn_set(alloc, seed, bound, count)?;
     match halved(alloc, &mut set, &list)? {
         Some(left) => has_exactly(alloc, &set, &left),
         None => Ok(false),
     }
 }
 
-#[test]
-fn removals_leave_the_others(rt: HostRuntime) -> Result<(), Fail> {
-    assert!(rt; has_half(rt.alloc(), 1, MAX_EID as Index, 1_000)?);
-    assert!(rt; has_half(rt.alloc(), 2, 300_000, 5_000)?);
-    assert!(rt; has_half(rt.alloc(), 3, 5_000, 3_000)?);
-    Ok(())
-}
-
-// Returns whether the intersection of two sets, the first without the second, and the union are those of lists.
-fn combine_as_lists(alloc: Global, bound: Index, count: usize) -> Result<bool, AllocError> {
-    let ids = drawn(alloc, 11, bound, count)?;
-    let a = sparse_of(alloc, &ids)?;
-    let b = sparse_of(alloc, &drawn(alloc, 12, bound, count)?)?;
+// The members of a list that a set has, and those that it lacks.
+fn parted(
+    alloc: Global,
+    list: &[Index],
+    set: &SparseBitSet,
+) -> Result<(Vec<Index>, Vec<Index>), AllocError> {
     let mut common = Vec::new(alloc);
     let mut alone = Vec::new(alloc);
-    for id in &sorted(alloc, &ids)? {
-        if b.contains(*id) {
+    for id in list {
+        if set.contains(*id) {
             common.push(*id)?;
         } else {
             alone.push(*id)?;
         }
     }
+    Ok((common, alone))
+}
+
+// Returns whether the union of two sets has so many members more than the second.
+fn adds(a: &SparseBitSet, b: &SparseBitSet, more: usize) -> bool {
+    BitSetOr(a, b).len() == b.len().wrapping_add(more)
+}
+
+// Returns whether the intersection of two sets, the first without the second, and the union are those of lists.
+fn combine_as_lists(alloc: Global, bound: Index, count: usize) -> Result<bool, AllocError> {
+    let (a, list) = drawn_set(alloc, 11, bound, count)?;
+    let (b, _) = drawn_set(alloc, 12, bound, count)?;
+    let (common, alone) = parted(alloc, &list, &b)?;
     Ok(
         has_exactly(alloc, &BitSetAnd(&a, &b), &common)?
             && has_exactly(alloc, &BitSetAnd(&a, BitSetNot(&b)), &alone)?
-            && BitSetOr(&a, &b).len() == b.len().wrapping_add(alone.len()),
+            && adds(&a, &b, alone.len()),
     )
-}
-
-#[test]
-fn virtual_sets_combine_as_lists(rt: HostRuntime) -> Result<(), Fail> {
-    assert!(rt; combine_as_lists(rt.alloc(), MAX_EID as Index, 500)?);
-    assert!(rt; combine_as_lists(rt.alloc(), 100_000, 5_000)?);
-    Ok(())
 }
 
 // Returns whether each member's rank and the member of each rank are those of a list.
-fn ranks_as_a_list(alloc: Global, bound: Index, count: usize) -> Result<bool, AllocError> {
-    let ids = drawn(alloc, 13, bound, count)?;
-    let set = sparse_of(alloc, &ids)?;
-    let list = sorted(alloc, &ids)?;
+fn ranks_are_places(set: &SparseBitSet, list: &[Index]) -> bool {
     for (place, id) in list.iter().enumerate() {
         if set.rank(*id) != place || set.select(place) != Some(*id) {
-            return Ok(false);
+            return false;
         }
     }
-    Ok(
-        set.select(list.len()).is_none()
-            && set.select(usize::MAX).is_none()
-            && set.last() == list.last().copied()
-            && set.first() == list.first().copied(),
-    )
+    set.select(list.len()).is_none() && set.select(usize::MAX).is_none()
 }
 
-#[test]
-fn ranks_are_places_in_a_list(rt: HostRuntime) -> Result<(), Fail> {
-    assert!(rt; ranks_as_a_list(rt.alloc(), MAX_EID as Index, 200)?);
-    assert!(rt; ranks_as_a_list(rt.alloc(), 20_000, 2_000)?);
-    Ok(())
+// Returns whether a set from a seed has ranks and ends as a list.
+fn ranks_as_a_list(alloc: Global, bound: Index, count: usize) -> Result<bool, AllocError> {
+    let (set, list) = drawn_set(alloc, 13, bound, count)?;
+    let are_ends = set.last() == list.last().copied() && set.first() == list.first().copied();
+    Ok(are_ends && ranks_are_places(&set, &list))
 }
 
-// Returns whether a set without its even members gives the odd ones, by a drain that empties it.
-fn drains_as_a_list(alloc: Global, bound: Index, count: usize) -> Result<bool, AllocError> {
-    let ids = drawn(alloc, 14, bound, count)?;
-    let mut set = sparse_of(alloc, &ids)?;
+// The odd ones of a list.
+fn odd_of(alloc: Global, list: &[Index]) -> Result<Vec<Index>, AllocError> {
     let mut odd = Vec::new(alloc);
-    for id in &sorted(alloc, &ids)? {
+    for id in list {
         if *id % 2 == 1 {
             odd.push(*id)?;
         }
     }
+    Ok(odd)
+}
+
+// Takes the even members out of a set, and then the others by a drain, which are returned.
+fn drained_odd(alloc: Global, set: &mut SparseBitSet) -> Result<Vec<Index>, AllocError> {
     set.retain(|i| i % 2 == 1);
-    let drained: Vec<Index> = set.drain().collect(alloc)?;
-    Ok(drained == odd && set.is_empty())
+    set.drain().collect(alloc)
+}
+
+// Returns whether a set without its even members gives the odd ones, by a drain that empties it.
+fn drains_as_a_list(alloc: Global, bound: Index, count: usize) -> Result<bool, AllocError> {
+    let (mut set, list) = drawn_set(alloc, 14, bound, count)?;
+    let drained = drained_odd(alloc, &mut set)?;
+    Ok(drained == odd_of(alloc, &list)? && set.is_empty())
 }
 
 #[test]
-fn a_drain_gives_what_is_retained(rt: HostRuntime) -> Result<(), Fail> {
-    assert!(rt; drains_as_a_list(rt.alloc(), MAX_EID as Index, 500)?);
-    assert!(rt; drains_as_a_list(rt.alloc(), 20_000, 3_000)?);
+fn a_set_has_what_is_added_and_not_removed(rt: HostRuntime) -> Result<(), Fail> {
+    let rows = [
+        (1, MAX_EID as Index, 1_000),
+        (2, 300_000, 5_000),
+        (3, 5_000, 3_000),
+        (4, 70, 100),
+    ];
+    for (seed, bound, count) in rows {
+        assert!(rt; has_the_drawn(rt.alloc(), seed, bound, count)?);
+        assert!(rt; has_half(rt.alloc(), seed, bound, count)?);
+    }
+    Ok(())
+}
+
+#[test]
+fn sets_answer_as_lists(rt: HostRuntime) -> Result<(), Fail> {
+    for (bound, count) in [(MAX_EID as Index, 500), (100_000, 5_000), (20_000, 2_000)] {
+        assert!(rt; combine_as_lists(rt.alloc(), bound, count)?);
+        assert!(rt; ranks_as_a_list(rt.alloc(), bound, count)?);
+        assert!(rt; drains_as_a_list(rt.alloc(), bound, count)?);
+    }
     Ok(())
 }
