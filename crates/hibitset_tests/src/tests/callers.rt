@@ -7,7 +7,7 @@ ghost use Rattle.hibitset_base.specs.declared.util.TheConstants.{LAYERS, MAX_EID
 ghost use Rattle.hibitset.specs.BitSet.{has, word_of, slice_len};
 ghost use Rattle.hibitset.specs.Merge.{NoWordsFrom};
 
-use crate::tests::{assert_count, assert_index, assert_indices, assert_words};
+use crate::tests::{assert_that, gives};
 use hibitset::laws::{laws, list_laws};
 use hibitset::{BitIter, BitSet, BitSetLike, DrainableBitSet, Index, Ranked};
 use hibitset_base::util::{MAX_EID, SHIFT2};
@@ -194,85 +194,84 @@ fn widen_within(set: &mut BitSet, other: &BitSet, end: usize) -> Result<(), Allo
     set.bitor_assign(other)
 }
 
-#[test]
-fn rooms_of_callers(rt: HostRuntime) -> Result<(), AllocError> {
-    let room = room_for_a_block(rt.alloc())?;
-    assert_count(&rt, room.layer0_as_slice().len(), 64);
-    assert_count(&rt, room.layer1_as_slice().len(), 1);
-    Ok(())
+// Returns whether sets are made, grow and shrink as their callers say.
+fn are_made(alloc: Global) -> Result<bool, AllocError> {
+    let room = room_for_a_block(alloc)?;
+    let mut wide = alone(alloc, 6)?;
+    widen_within(&mut wide, &alone(alloc, 5)?, 64)?;
+    add_one(&mut wide, 7)?;
+    let again = read_again(alloc, &wide)?;
+    remove_all(&mut wide);
+    Ok(room.layer0_as_slice().len() == 64 && gives(&again, &[5, 6, 7]) && wide.is_empty())
 }
 
 #[test]
-fn unions_of_callers(rt: HostRuntime) -> Result<(), AllocError> {
-    let set = alone(rt.alloc(), 5)?;
-    assert_words(&rt, set.layer3_as_slice(), &[1]);
-    let mut wide = alone(rt.alloc(), 6)?;
-    widen_within(&mut wide, &set, 64)?;
-    assert_words(&rt, wide.layer0_as_slice(), &[96]);
+fn sets_of_callers(rt: HostRuntime) -> Result<(), AllocError> {
+    assert!(rt; are_made(rt.alloc())?);
     Ok(())
+}
+
+// Returns whether a set is the first index of each block of another, and a copy of itself.
+fn has_blocks(alloc: Global, set: &BitSet, ids: &[Index]) -> Result<bool, AllocError> {
+    let blocks = blocks_of(alloc, set)?;
+    let copy = copied_by_slices(alloc, set)?;
+    Ok(gives(&blocks, ids) && copy == *set)
 }
 
 #[test]
 fn blocks_of_callers(rt: HostRuntime) -> Result<(), AllocError> {
     let set = set_of(rt.alloc(), &[3, 70, 4_095, 5_000, 1_000_000])?;
-    let blocks = blocks_of(rt.alloc(), &set)?;
-    assert_indices(
-        &rt,
-        looped(rt.alloc(), &blocks)?.as_slice(),
-        &[0, 4_096, 999_424],
-    );
+    assert_that(&rt, has_blocks(rt.alloc(), &set, &[0, 4_096, 999_424])?);
     Ok(())
 }
 
-#[test]
-fn ranges_of_callers(rt: HostRuntime) -> Result<(), AllocError> {
-    let mut one = alone(rt.alloc(), 5)?;
-    add_one(&mut one, 6)?;
-    assert_words(&rt, one.layer0_as_slice(), &[96]);
-    let again = read_again(rt.alloc(), &one)?;
-    assert_words(&rt, again.layer0_as_slice(), &[96]);
-    remove_all(&mut one);
-    assert!(rt; one.is_empty());
-    Ok(())
+// Returns whether the lists of a set are this one.
+fn has_list(alloc: Global, set: &BitSet, ids: &[Index]) -> Result<bool, AllocError> {
+    let is_looped = looped(alloc, set)?.as_slice() == ids;
+    let is_collected = collected(alloc, set)?.as_slice() == ids;
+    let is_from = collected_from(alloc, set, 0)?.as_slice() == ids;
+    Ok(is_looped && is_collected && is_from && counted(set) == ids.len())
+}
+
+// Returns whether the first step of a walk gives an index, and a copy of it goes on with the next one.
+fn steps_over(set: &BitSet, first: Index, second: Index) -> Result<bool, AllocError> {
+    let mut walk = set.iter();
+    let is_first = step(&mut walk) == Some(first);
+    Ok(is_first && copied(&walk)?.next() == Some(second))
 }
 
 #[test]
 fn walks_of_callers(rt: HostRuntime) -> Result<(), AllocError> {
-    let mut a = set_of(rt.alloc(), &[3, 70, 700])?;
-    assert_indices(&rt, looped(rt.alloc(), &a)?.as_slice(), &[3, 70, 700]);
-    assert_count(&rt, counted(&a), 3);
-    let mut walk = (&a).iter();
-    assert_index(&rt, step(&mut walk), Some(3));
-    let rest: Vec<Index> = copied(&walk)?.collect(rt.alloc())?;
-    assert_indices(&rt, rest.as_slice(), &[70, 700]);
-    let all = drained(rt.alloc(), &mut a)?;
-    assert_indices(&rt, all.as_slice(), &[3, 70, 700]);
-    assert!(rt; a.is_empty());
+    let set = set_of(rt.alloc(), &[3, 70, 700])?;
+    assert_that(&rt, has_list(rt.alloc(), &set, &[3, 70, 700])?);
+    assert_that(&rt, steps_over(&set, 3, 70)?);
+    assert_that(&rt, ends(&set) == Some((3, 700)));
     Ok(())
 }
 
-#[test]
-fn lists_of_callers(rt: HostRuntime) -> Result<(), AllocError> {
-    let a = set_of(rt.alloc(), &[3, 70, 700])?;
-    let b = set_of(rt.alloc(), &[70, 71, 700])?;
-    assert_indices(&rt, collected(rt.alloc(), &a)?.as_slice(), &[3, 70, 700]);
-    let both = shared_by(rt.alloc(), &a, &b)?;
-    assert_indices(&rt, both.as_slice(), &[70, 700]);
-    let rest = collected_from(rt.alloc(), &a, 4)?;
-    assert_indices(&rt, rest.as_slice(), &[70, 700]);
-    Ok(())
+// Returns whether a set becomes these, one after another, by the assignments, and is drained then.
+fn becomes(
+    alloc: Global,
+    set: &mut BitSet,
+    other: &BitSet,
+    lists: [&[Index]; 3],
+) -> Result<bool, AllocError> {
+    let is_shared = shared_by(alloc, set, other)?.as_slice() == lists[0];
+    narrow(set, other);
+    let is_narrow = gives(&*set, lists[0]);
+    widen(set, other)?;
+    let is_wide = gives(&*set, lists[1]);
+    exchange(set, &alone(alloc, 5)?)?;
+    let is_exchanged = drained(alloc, set)?.as_slice() == lists[2];
+    Ok(is_shared && is_narrow && is_wide && is_exchanged && set.is_empty())
 }
 
 #[test]
 fn assignments_of_callers(rt: HostRuntime) -> Result<(), AllocError> {
-    let mut a = set_of(rt.alloc(), &[3, 70])?;
-    let b = set_of(rt.alloc(), &[70, 71])?;
-    widen(&mut a, &b)?;
-    assert_indices(&rt, looped(rt.alloc(), &a)?.as_slice(), &[3, 70, 71]);
-    exchange(&mut a, &b)?;
-    assert_indices(&rt, looped(rt.alloc(), &a)?.as_slice(), &[3]);
-    narrow(&mut a, &b);
-    assert!(rt; a.is_empty());
+    let mut set = set_of(rt.alloc(), &[3, 70])?;
+    let other = set_of(rt.alloc(), &[70, 71])?;
+    let lists: [&[Index]; 3] = [&[70], &[70, 71], &[5, 70, 71]];
+    assert_that(&rt, becomes(rt.alloc(), &mut set, &other, lists)?);
     Ok(())
 }
 
@@ -280,16 +279,6 @@ fn assignments_of_callers(rt: HostRuntime) -> Result<(), AllocError> {
 fn positions_of_callers(rt: HostRuntime) -> Result<(), AllocError> {
     let set = set_of(rt.alloc(), &[3, 70, 4_095, 5_000, 1_000_000])?;
     let ranked = Ranked::new(rt.alloc(), &set)?;
-    assert!(rt; position_again(&ranked, 3) == Some(3));
-    assert!(rt; position_again(&ranked, 5).is_none());
-    Ok(())
-}
-
-#[test]
-fn copies_of_callers(rt: HostRuntime) -> Result<(), AllocError> {
-    let set = set_of(rt.alloc(), &[3, 70, 4_095, 5_000, 1_000_000])?;
-    let copy = copied_by_slices(rt.alloc(), &set)?;
-    assert!(rt; copy == set && copy.layer4() == 1);
-    assert_words(&rt, copy.layer3_as_slice(), set.layer3_as_slice());
+    assert_that(&rt, position_again(&ranked, 3) == Some(3));
     Ok(())
 }

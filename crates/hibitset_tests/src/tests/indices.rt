@@ -1,4 +1,5 @@
 //! Values from outside: the arithmetic of indices.
+use crate::tests::assert_that;
 use hibitset_base::laws::virtual_laws;
 use hibitset_base::util::{Index, LAYERS, Row, SHIFT0, SHIFT1, SHIFT2, SHIFT3, SHIFT4, offsets};
 use hibitset_base::virt::BitSetAll;
@@ -32,7 +33,7 @@ fn index_vectors(rt: HostRuntime) {
         (16777215, (262143, 4095, 63, 0), [63, 63, 63, 63, 0]),
     ];
     for (index, words, bits) in vectors {
-        assert!(rt; is_made_of(index, words, bits), "index {index}");
+        assert_that(&rt, is_made_of(index, words, bits));
     }
     virtual_laws::<BitSetAll, BitSetAll, BitSetAll>();
 }

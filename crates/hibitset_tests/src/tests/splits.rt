@@ -4,15 +4,13 @@ ghost use Rattle.hibitset_base.specs.Members.{members_below};
 ghost use Rattle.hibitset_base.specs.Splits.{part_items, items_of_second};
 ghost use Rattle.hibitset_base.specs.declared.util.TheConstants.{MAX_EID};
 
-use crate::tests::{assert_count, assert_index, assert_indices};
+use crate::tests::{assert_count, assert_that};
 use hibitset::laws::laws;
-use hibitset::{BitProducer, BitSet, BitSetLike, Index};
+use hibitset::{BitIter, BitProducer, BitSet, BitSetLike, Index};
 use hibitset_base::util::{LAYERS, MAX_EID, average_ones};
 use hibitset_testing::parts::parts_to_the_end;
 use hibitset_testing::sets::{run_of, set_of};
-use std::alloc::{AllocError, AllocGlobal, Global};
-use std::process::Abort;
-use std::test::Fail;
+use std::alloc::{AllocError, Global};
 
 #[test]
 fn halving_bits(rt: HostRuntime) {
@@ -24,7 +22,7 @@ fn halving_bits(rt: HostRuntime) {
         (!0, Some(32)),
         ((1 << 63) + 1, Some(63)),
     ] {
-        assert_eq!(rt; average_ones(word), half);
+        assert_that(&rt, average_ones(word) == half);
     }
 }
 
@@ -37,72 +35,57 @@ fn splitting_to_the_end(rt: HostRuntime) -> Result<(), AllocError> {
     Ok(())
 }
 
-// The items of the two parts of a walk that has given some items already, where there is a second one.
-fn parts_after(
-    alloc: Global,
+// Returns whether the two parts of a walk that has given some items already give these indices. There is no second part
+// where none are named.
+fn gives_parts(
     set: &BitSet,
     steps: usize,
     layers: u8,
-) -> Result<(Vec<Index>, Option<Vec<Index>>), AllocError> {
+    low: &[Index],
+    high: Option<&[Index]>,
+) -> bool {
     let mut walk = set.iter();
     for _ in 0..steps {
         walk.next();
     }
     if layers as usize >= LAYERS {
-        return Ok((Vec::new(alloc), None));
+        return false;
     }
     let (first, second) = BitProducer(walk, layers).split();
-    let low = first.0.collect(alloc)?;
-    match second {
-        None => Ok((low, None)),
-        Some(part) => Ok((low, Some(part.0.collect(alloc)?))),
-    }
+    let is_second = match (second, high) {
+        (None, None) => true,
+        (Some(part), Some(ids)) => is_rest(part.0, ids),
+        _ => false,
+    };
+    is_second && is_rest(first.0, low)
 }
 
-// Sees that these are the parts of a walk that has given some items already.
-fn assert_parts(
-    rt: &(impl Abort + AllocGlobal),
-    set: &BitSet,
-    steps: usize,
-    layers: u8,
-    wanted: (&[Index], Option<&[Index]>),
-) -> Result<(), AllocError> {
-    let (low, high) = parts_after(rt.alloc(), set, steps, layers)?;
-    assert_indices(rt, low.as_slice(), wanted.0);
-    match (&high, wanted.1) {
-        (None, None) => {}
-        (Some(items), Some(ids)) => assert_indices(rt, items.as_slice(), ids),
-        (_, ids) => panic!(rt; "the second part is not {ids:?}"),
+// Returns whether a walk goes on with these indices, and ends then.
+fn is_rest<'a>(walk: BitIter<&'a BitSet>, ids: &[Index]) -> bool {
+    let mut walk = walk;
+    for id in ids {
+        if walk.next() != Some(*id) {
+            return false;
+        }
     }
-    Ok(())
+    walk.next().is_none()
 }
 
 #[test]
 fn a_walk_already_begun(rt: HostRuntime) -> Result<(), AllocError> {
     let set = set_of(rt.alloc(), &[0, 64, 262_144])?;
-    assert_parts(&rt, &set, 1, 4, (&[64, 262_144], None))
+    assert_that(&rt, gives_parts(&set, 1, 4, &[64, 262_144], None));
+    Ok(())
 }
 
 #[test]
 fn walks_in_strange_states(rt: HostRuntime) -> Result<(), AllocError> {
     let set = set_of(rt.alloc(), &[0, 1, 64, 128])?;
-    assert_parts(&rt, &set, 1, 4, (&[1, 64, 128], None))?;
-    assert_parts(&rt, &set, 2, 4, (&[64], Some(&[128])))?;
-    assert_parts(&rt, &set, 3, 4, (&[128], None))?;
-    for layers in 0..2u8 {
-        assert_parts(&rt, &set, 2, layers, (&[64, 128], None))?;
-    }
-    Ok(())
-}
-
-#[test]
-fn a_part_is_folded(rt: HostRuntime) -> Result<(), AllocError> {
-    let set = set_of(rt.alloc(), &[3, 70, 70_000])?;
-    let sum = BitProducer((&set).iter(), 4).fold_with(
-        0u64,
-        |sum: u64, index: Index| sum.wrapping_add(u64::from(index)),
-    );
-    assert!(rt; sum == 70_073);
+    assert_that(&rt, gives_parts(&set, 1, 4, &[1, 64, 128], None));
+    assert_that(&rt, gives_parts(&set, 2, 4, &[64], Some(&[128])));
+    assert_that(&rt, gives_parts(&set, 3, 4, &[128], None));
+    assert_that(&rt, gives_parts(&set, 2, 1, &[64, 128], None));
+    assert_that(&rt, gives_parts(&set, 2, 0, &[64, 128], None));
     Ok(())
 }
 
@@ -154,22 +137,23 @@ fn halves<'a>(set: &'a BitSet) -> (BitProducer<'a, BitSet>, Option<BitProducer<'
     BitProducer(set.iter(), 4).split()
 }
 
-#[test]
-fn three_parts(rt: HostRuntime) -> Result<(), AllocError> {
-    let set = set_of(rt.alloc(), &[0, 64, 4_096, 262_144])?;
-    let Thirds { low, middle, high } = in_thirds(rt.alloc(), &set)?;
-    assert_indices(&rt, low.as_slice(), &[0, 64]);
-    assert_indices(&rt, middle.as_slice(), &[4_096]);
-    assert_indices(&rt, high.as_slice(), &[262_144]);
-    Ok(())
+// Returns whether a set in thirds gives these lists.
+fn gives_thirds(alloc: Global, set: &BitSet, lists: [&[Index]; 3]) -> Result<bool, AllocError> {
+    let Thirds { low, middle, high } = in_thirds(alloc, set)?;
+    Ok(low.as_slice() == lists[0] && middle.as_slice() == lists[1] && high.as_slice() == lists[2])
+}
+
+// Returns whether there are two parts of a set.
+fn has_two_halves(set: &BitSet) -> bool {
+    let (_first, second) = halves(set);
+    second.is_some()
 }
 
 #[test]
-fn two_parts(rt: HostRuntime) -> Result<(), Fail> {
+fn parts_of_callers(rt: HostRuntime) -> Result<(), AllocError> {
     let set = set_of(rt.alloc(), &[0, 64, 4_096, 262_144])?;
-    let (mut first, second) = halves(&set);
-    assert_index(&rt, first.0.next(), Some(0));
-    let mut second = second.ok_or("no second part")?;
-    assert_index(&rt, second.0.next(), Some(262_144));
+    let lists: [&[Index]; 3] = [&[0, 64], &[4_096], &[262_144]];
+    assert_that(&rt, gives_thirds(rt.alloc(), &set, lists)?);
+    assert_that(&rt, has_two_halves(&set));
     Ok(())
 }
