@@ -1,4 +1,4 @@
-//! Sets that keep their words. A test is one call of a function that many tests share, with what is to stand then.
+//! Sets that keep their words. Most tests are one call of a function that several share, with what is to stand then.
 use crate::tests::{Drawn, ask, assert_has, assert_indices, assert_way, is_refused_there, say};
 use hibitset::{BitSet, BitSetLike, BuildError, Index, MAX_EID, Ranked};
 use hibitset_testing::sets::{copied_by_slices, set_of};
@@ -407,7 +407,7 @@ enum Extending {
     Slice,
 }
 
-// How a set took the items, and the one that is left then; of a slice the one after that for which an allocation failed.
+// How a set took the items, and the one that is left; of a slice the one after that for which an allocation failed.
 fn extended_by(set: &mut BitSet, extending: Extending) -> Drawn<()> {
     if extending == Extending::Slice {
         return (set.extend_from_slice(&ITEMS), Some(7));
@@ -488,7 +488,7 @@ fn list_of(alloc: Global, set: &BitSet) -> Result<Vec<Index>, AllocError> {
     set.to_vec(alloc)
 }
 
-// The list of a set, if there was memory for the set, which then is made and perhaps made again.
+// The list of a set, made again where it was refused.
 fn list_again(
     rt: &(impl Abort + Print + AllocGlobal),
     set: &BitSet,
@@ -507,8 +507,8 @@ fn to_vec(rt: HostRuntime) -> Result<(), AllocError> {
     Ok(())
 }
 
-// Sees that the list of a set has so many indices, as its set has, from 0 to this last one, and this capacity, where it
-// is known.
+// Sees that the list of a set, if there was memory for that, has so many indices as the set, from 0 to this last one,
+// and this capacity, where it is known.
 fn assert_lists(
     rt: &(impl Abort + Print + AllocGlobal),
     set: Result<BitSet, AllocError>,

@@ -1,4 +1,4 @@
-//! Sparse sets. A test is one call of a function that many tests share, with what is to stand then.
+//! Sparse sets. Most tests are one call of a function that several share, with what is to stand then.
 use crate::tests::{
     Drawn, ask, assert_has, assert_indices, assert_way, is_refused_there, say, way,
 };
@@ -25,8 +25,8 @@ fn sparse_of(alloc: Global, ids: &[Index]) -> Result<SparseBitSet, AllocError> {
     Ok(set)
 }
 
-// A call that adds to a set what it does not have: an index, the last word of a chunk and the first of the next one, each
-// with one index, 19,999,999 and 20,000,000, or members of another set.
+// A call that adds to a set what it does not have: an index, the last word of a chunk and the first of the next one,
+// each with one index, 19,999,999 and 20,000,000, or members of another set.
 #[derive(Clone, Copy)]
 enum Call {
     Add(Index),
@@ -53,8 +53,8 @@ fn is_refused(set: &mut SparseBitSet, other: &SparseBitSet, call: Call) -> bool 
     }
 }
 
-// What a call does to a set, with another set: what the set has before, after it was refused, and after the call was made.
-// Refused, the words on the way to an index are these, if any.
+// What a call does to a set, with another set: what the set has before, after it was refused, and after the call was
+// made. Refused, the words on the way to an index are these, if any.
 #[derive(Clone, Copy)]
 struct Growth<'a> {
     call: Call,
@@ -406,7 +406,7 @@ enum Extending {
     Slice,
 }
 
-// How a set took the items, and the one that is left then; of a slice the one after that for which an allocation failed.
+// How a set took the items, and the one that is left; of a slice the one after that for which an allocation failed.
 fn extended_by(set: &mut SparseBitSet, extending: Extending) -> Drawn<()> {
     if extending == Extending::Slice {
         return (set.extend_from_slice(&ITEMS), Some(7));
