@@ -1,6 +1,9 @@
 """What the runs of one test came to: which allocations of its call failed, and whether that is what is wanted."""
 from .lines import Wanted
 
+# What a test prints that got no memory before its first request: its error as it is, or in a `Fail`.
+NO_MEMORY = ("Error: AllocError\n", "error: AllocError\n", "error: AllocFailed ")
+
 
 class Failed(Exception):
     """What is not as it should be."""
@@ -19,7 +22,7 @@ class Turns:
 
     def judge(self, number, said, errors):
         """Takes what the test said, and how it failed, where the allocation of this number failed."""
-        if not said and errors.startswith(("error: AllocError\n", "error: AllocFailed ")):
+        if not said and errors.startswith(NO_MEMORY):
             return  # before the first
         parts = 2 if self.wanted.is_none else 3
         if errors or len(said) != parts or not set(said) <= {"passed", "refused"} or said.count("refused") > 1:

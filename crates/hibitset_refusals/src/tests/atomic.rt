@@ -1,4 +1,4 @@
-//! Sets that threads add to. A call that a test makes is in a function of its own, which makes no other request.
+//! Sets that threads add to. A test of building or extending is one call of a function that several share.
 ghost use Rattle.std.specs.Prelude.{◌≡◌, ◌<◌, IfOk, IfErr};
 ghost use Rattle.hibitset_atomic.specs.Seats.{BelongsTo, weight_of};
 ghost use Rattle.hibitset_atomic.specs.declared.atomic.TheConstants.{ATOMIC_MAX_EID};
@@ -9,12 +9,12 @@ use crate::tests::{
 };
 use hibitset::{AtomicBitSet, BuildError, Index, Seat, SharedBitSet};
 use std::alloc::{AllocError, AllocGlobal, Global};
+use std::io::Print;
 use std::process::Abort;
-use std::test::Fail;
 
 // allocates: 4, 41_984 bytes: hibitset_atomic::AtomicBitSet::new
 #[test]
-fn new(rt: HostRuntime) -> Result<(), Fail> {
+fn new(rt: HostRuntime) -> Result<(), AllocError> {
     let set = retried!(&rt, AtomicBitSet::new(rt.alloc()));
     assert_has(&rt, &set, &[]);
     Ok(())
@@ -28,13 +28,13 @@ fn added(set: &mut AtomicBitSet, id: Index) -> Result<bool, AllocError>
 
 // allocates: 1, 2_048 bytes: hibitset_atomic::AtomicBitSet::add
 #[test]
-fn add(rt: HostRuntime) -> Result<(), Fail> {
+fn add(rt: HostRuntime) -> Result<(), AllocError> {
     let mut set = atomic_of(rt.alloc(), &[5])?;
-    ask(&rt)?;
+    ask(&rt);
     assert!(rt; added(&mut set, 4095) == Ok(false));
     let first = added(&mut set, 4096);
-    say(&rt, first.is_err())?;
-    ask(&rt)?;
+    say(&rt, first.is_err());
+    ask(&rt);
     if first.is_err() {
         assert_way(&rt, &set, &[5, 4095], 4096, [1, 1, 1, 0, 0]);
         assert!(rt; added(&mut set, 4096) == Ok(false));
@@ -63,54 +63,54 @@ fn of_items(alloc: Global, items: &[Index], by_reference: bool) -> Drawn<AtomicB
     )
 }
 
-// Sees that a set has `SPREAD`, or that an allocation failed; then it is made again.
-fn assert_spread(
-    rt: &(impl Abort + AllocGlobal),
-    built: Drawn<AtomicBitSet>,
-    by_reference: bool,
-) -> Result<(), BuildError> {
-    if let Err(error) = &built.0 {
-        assert!(rt; is_building_refused(*error, built.1));
+// How a set is made of `SPREAD`, or extended by it.
+#[derive(Clone, Copy, PartialEq)]
+enum By {
+    Indices,
+    References,
+    Slice,
+}
+
+// What is made of `SPREAD`, and the item that is left then; of a slice it is not known.
+fn of_spread(alloc: Global, by: By) -> Drawn<AtomicBitSet> {
+    if by == By::Slice {
+        return (AtomicBitSet::from_slice(alloc, &SPREAD), None);
     }
-    let set = or_again!(built.0, of_items(rt.alloc(), &SPREAD, by_reference).0);
-    assert_has(
-        rt,
-        &set,
-        &[6, 7, 8, 9, 10, 11, 5_000_000, 9_000_000, 13_000_000],
-    );
+    of_items(alloc, &SPREAD, by == By::References)
+}
+
+fn assert_has_spread(rt: &impl Abort, set: &AtomicBitSet) {
+    let members = [6, 7, 8, 9, 10, 11, 5_000_000, 9_000_000, 13_000_000];
+    assert_has(rt, set, &members);
+}
+
+// Sees that a set of `SPREAD` is made, or that an allocation failed; then it is made again.
+fn assert_spread(rt: &(impl Abort + Print + AllocGlobal), by: By) -> Result<(), BuildError> {
+    let (built, next) = tried!(rt, of_spread(rt.alloc(), by), |it| it.0.is_err());
+    if let Err(error) = &built {
+        assert!(rt; by == By::Slice || is_building_refused(*error, next));
+    }
+    let set = or_again!(built, of_spread(rt.alloc(), by).0);
+    assert_has_spread(rt, &set);
     Ok(())
 }
 
 // allocates: 7, 49_152 bytes: hibitset_atomic::AtomicBitSet::from_indices, hibitset_base::from_indices
 #[test]
-fn from_indices(rt: HostRuntime) -> Result<(), Fail> {
-    let built = tried!(
-        &rt,
-        of_items(rt.alloc(), &SPREAD, false),
-        |it| it.0.is_err()
-    );
-    assert_spread(&rt, built, false)?;
-    Ok(())
+fn from_indices(rt: HostRuntime) -> Result<(), BuildError> {
+    assert_spread(&rt, By::Indices)
 }
 
 // allocates: 7, 49_152 bytes: hibitset_atomic::AtomicBitSet::from_index_refs, hibitset_base::from_index_refs
 #[test]
-fn from_index_refs(rt: HostRuntime) -> Result<(), Fail> {
-    let built = tried!(&rt, of_items(rt.alloc(), &SPREAD, true), |it| it.0.is_err());
-    assert_spread(&rt, built, true)?;
-    Ok(())
+fn from_index_refs(rt: HostRuntime) -> Result<(), BuildError> {
+    assert_spread(&rt, By::References)
 }
 
 // allocates: 7, 49_152 bytes: hibitset_atomic::AtomicBitSet::from_slice, hibitset_base::from_slice
 #[test]
-fn from_slice(rt: HostRuntime) -> Result<(), Fail> {
-    let set = retried!(&rt, AtomicBitSet::from_slice(rt.alloc(), &SPREAD));
-    assert_has(
-        &rt,
-        &set,
-        &[6, 7, 8, 9, 10, 11, 5_000_000, 9_000_000, 13_000_000],
-    );
-    Ok(())
+fn from_slice(rt: HostRuntime) -> Result<(), BuildError> {
+    assert_spread(&rt, By::Slice)
 }
 
 const ONE_FITS: [Index; 3] = [7, 16_777_216, 8];
@@ -123,43 +123,36 @@ fn fails_at_first(built: &Drawn<AtomicBitSet>) -> bool {
     }
 }
 
-// Sees that no set was made of `ONE_FITS`, and what is left of it: if an allocation failed all, or all after the first
+// Sees that no set is made of `ONE_FITS`, and what is left of it: if an allocation failed all, or all after the first
 // item, and else all after the one out of range.
-fn assert_one_fits(rt: &impl Abort, built: &Drawn<AtomicBitSet>) {
+fn assert_one_fits(rt: &(impl Abort + Print + AllocGlobal), by_reference: bool) {
+    let built = tried!(
+        rt,
+        of_items(rt.alloc(), &ONE_FITS, by_reference),
+        |it| fails_at_first(&it)
+    );
     let after_out_of_range = built.1 == Some(8);
     assert!(rt; built.0.is_err() && built.1.is_some());
-    assert!(rt; fails_at_first(built) != after_out_of_range);
+    assert!(rt; fails_at_first(&built) != after_out_of_range);
 }
 
 // allocates: 5, 43_008 bytes: hibitset_atomic::AtomicBitSet::from_indices
 #[test]
-fn from_indices_of_which_one_fits(rt: HostRuntime) -> Result<(), Fail> {
-    let built = tried!(
-        &rt,
-        of_items(rt.alloc(), &ONE_FITS, false),
-        |it| fails_at_first(&it)
-    );
-    assert_one_fits(&rt, &built);
-    Ok(())
+fn from_indices_of_which_one_fits(rt: HostRuntime) {
+    assert_one_fits(&rt, false);
 }
 
 // allocates: 5, 43_008 bytes: hibitset_atomic::AtomicBitSet::from_index_refs
 #[test]
-fn from_index_refs_of_which_one_fits(rt: HostRuntime) -> Result<(), Fail> {
-    let built = tried!(
-        &rt,
-        of_items(rt.alloc(), &ONE_FITS, true),
-        |it| fails_at_first(&it)
-    );
-    assert_one_fits(&rt, &built);
-    Ok(())
+fn from_index_refs_of_which_one_fits(rt: HostRuntime) {
+    assert_one_fits(&rt, true);
 }
 
 const NONE_FITS: [Index; 2] = [16_777_216, 8];
 
 // Sees that no item of `NONE_FITS` was drawn if an allocation failed, and else that the first is out of range and no
 // other was drawn.
-fn assert_none_fits(rt: &impl Abort, built: Drawn<AtomicBitSet>) {
+fn assert_none_was_taken(rt: &impl Abort, built: Drawn<AtomicBitSet>) {
     let (built, next) = built;
     let Some(error) = built.err() else {
         panic!(rt; "an index out of range was taken")
@@ -175,28 +168,25 @@ fn assert_none_fits(rt: &impl Abort, built: Drawn<AtomicBitSet>) {
     assert!(rt; error == out_of_range && next == Some(8));
 }
 
-// allocates: 4, 41_984 bytes: hibitset_atomic::AtomicBitSet::from_indices
-#[test]
-fn from_indices_of_which_none_fits(rt: HostRuntime) -> Result<(), Fail> {
+fn assert_none_fits(rt: &(impl Abort + Print + AllocGlobal), by_reference: bool) {
     let built = tried!(
-        &rt,
-        of_items(rt.alloc(), &NONE_FITS, false),
+        rt,
+        of_items(rt.alloc(), &NONE_FITS, by_reference),
         |it| fails_at_first(&it)
     );
-    assert_none_fits(&rt, built);
-    Ok(())
+    assert_none_was_taken(rt, built);
+}
+
+// allocates: 4, 41_984 bytes: hibitset_atomic::AtomicBitSet::from_indices
+#[test]
+fn from_indices_of_which_none_fits(rt: HostRuntime) {
+    assert_none_fits(&rt, false);
 }
 
 // allocates: 4, 41_984 bytes: hibitset_atomic::AtomicBitSet::from_index_refs
 #[test]
-fn from_index_refs_of_which_none_fits(rt: HostRuntime) -> Result<(), Fail> {
-    let built = tried!(
-        &rt,
-        of_items(rt.alloc(), &NONE_FITS, true),
-        |it| fails_at_first(&it)
-    );
-    assert_none_fits(&rt, built);
-    Ok(())
+fn from_index_refs_of_which_none_fits(rt: HostRuntime) {
+    assert_none_fits(&rt, true);
 }
 
 // Returns whether a set without members was made, or its memory was refused.
@@ -207,21 +197,31 @@ fn is_empty_or_refused(built: &Result<AtomicBitSet, BuildError>) -> bool {
     }
 }
 
+// What is made of no items.
+fn of_none(alloc: Global, by_reference: bool) -> Result<AtomicBitSet, BuildError> {
+    if by_reference {
+        AtomicBitSet::from_index_refs(alloc, &[0u32; 0])
+    } else {
+        AtomicBitSet::from_indices(alloc, 0..0)
+    }
+}
+
+fn assert_of_none(rt: &(impl Abort + Print + AllocGlobal), by_reference: bool) {
+    let built = tried!(rt, of_none(rt.alloc(), by_reference));
+    assert!(rt; is_empty_or_refused(&built));
+}
+
 // The empty set itself wants memory, also where there is no item.
 // allocates: 4, 41_984 bytes: hibitset_atomic::AtomicBitSet::from_indices
 #[test]
-fn from_no_indices(rt: HostRuntime) -> Result<(), Fail> {
-    let built = tried!(&rt, AtomicBitSet::from_indices(rt.alloc(), 0..0));
-    assert!(rt; is_empty_or_refused(&built));
-    Ok(())
+fn from_no_indices(rt: HostRuntime) {
+    assert_of_none(&rt, false);
 }
 
 // allocates: 4, 41_984 bytes: hibitset_atomic::AtomicBitSet::from_index_refs
 #[test]
-fn from_no_index_refs(rt: HostRuntime) -> Result<(), Fail> {
-    let built = tried!(&rt, AtomicBitSet::from_index_refs(rt.alloc(), &[0u32; 0]));
-    assert!(rt; is_empty_or_refused(&built));
-    Ok(())
+fn from_no_index_refs(rt: HostRuntime) {
+    assert_of_none(&rt, true);
 }
 
 // Sees that a set over 5 failed to allocate for an item of `SPREAD` that can need some, and has the items before it.
@@ -233,71 +233,60 @@ fn assert_stopped(rt: &impl Abort, set: &AtomicBitSet, error: BuildError, next: 
     }
 }
 
-// How a set took `SPREAD`, or references to it.
-fn extended_by(set: &mut AtomicBitSet, by_reference: bool) -> Drawn<()> {
+// Sees that a set over 5 failed to allocate for an item of `SPREAD`, and has some before it.
+fn assert_slice_stopped(rt: &impl Abort, set: &AtomicBitSet, error: BuildError) {
+    let is_first = error == (BuildError::Memory { place: 4 });
+    assert!(rt; is_first || error == (BuildError::Memory { place: 7 }));
+    assert!(rt; set.contains(9) && set.contains(9_000_000) != is_first && !set.contains(11));
+}
+
+// How a set took `SPREAD`, and the item that is left then; of a slice it is not known.
+fn extended_by(set: &mut AtomicBitSet, by: By) -> Drawn<()> {
+    if by == By::Slice {
+        return (set.extend_from_slice(&SPREAD), None);
+    }
     drawn!(
         SPREAD,
-        by_reference,
+        by == By::References,
         |left| set.extend_index_refs(&mut left),
         set.extend_indices(&mut left)
     )
 }
 
-// Sees that a set over 5 has `SPREAD` too, or that an allocation failed; then it is extended again.
-fn assert_extended(
-    rt: &impl Abort,
-    set: &mut AtomicBitSet,
-    extended: Drawn<()>,
-    by_reference: bool,
-) -> Result<(), BuildError> {
-    if let Err(error) = extended.0 {
-        assert_stopped(rt, set, error, extended.1);
-        extended_by(set, by_reference).0?;
+// Sees that a set over 5 takes `SPREAD` too, or that an allocation failed; then it is extended again.
+fn assert_extends(rt: &(impl Abort + Print + AllocGlobal), by: By) -> Result<(), AllocError> {
+    let mut set = atomic_of(rt.alloc(), &[5])?;
+    let (done, next) = tried!(rt, extended_by(&mut set, by), |it| it.0.is_err());
+    if let Err(error) = done {
+        if by == By::Slice {
+            assert_slice_stopped(rt, &set, error);
+        } else {
+            assert_stopped(rt, &set, error, next);
+        }
+        assert!(rt; extended_by(&mut set, by).0.is_ok());
     }
-    assert_has(
-        rt,
-        set,
-        &[5, 6, 7, 8, 9, 10, 11, 5_000_000, 9_000_000, 13_000_000],
-    );
+    let members = [5, 6, 7, 8, 9, 10, 11, 5_000_000, 9_000_000, 13_000_000];
+    assert_has(rt, &set, &members);
     Ok(())
 }
 
 // allocates: 2, 6_144 bytes: hibitset_atomic::AtomicBitSet::add_index, hibitset_atomic::AtomicBitSet::extend_indices,
 //     hibitset_base::FallibleInsert::add_index, hibitset_base::extend_indices
 #[test]
-fn extend_indices(rt: HostRuntime) -> Result<(), Fail> {
-    let mut set = atomic_of(rt.alloc(), &[5])?;
-    let extended = tried!(&rt, extended_by(&mut set, false), |it| it.0.is_err());
-    assert_extended(&rt, &mut set, extended, false)?;
-    Ok(())
+fn extend_indices(rt: HostRuntime) -> Result<(), AllocError> {
+    assert_extends(&rt, By::Indices)
 }
 
 // allocates: 2, 6_144 bytes: hibitset_atomic::AtomicBitSet::extend_index_refs, hibitset_base::extend_index_refs
 #[test]
-fn extend_index_refs(rt: HostRuntime) -> Result<(), Fail> {
-    let mut set = atomic_of(rt.alloc(), &[5])?;
-    let extended = tried!(&rt, extended_by(&mut set, true), |it| it.0.is_err());
-    assert_extended(&rt, &mut set, extended, true)?;
-    Ok(())
+fn extend_index_refs(rt: HostRuntime) -> Result<(), AllocError> {
+    assert_extends(&rt, By::References)
 }
 
 // allocates: 2, 6_144 bytes: hibitset_atomic::AtomicBitSet::extend_from_slice, hibitset_base::extend_from_slice
 #[test]
-fn extend_from_slice(rt: HostRuntime) -> Result<(), Fail> {
-    let mut set = atomic_of(rt.alloc(), &[5])?;
-    let extended = tried!(&rt, set.extend_from_slice(&SPREAD));
-    if let Err(error) = extended {
-        let is_first = error == (BuildError::Memory { place: 4 });
-        assert!(rt; is_first || error == (BuildError::Memory { place: 7 }));
-        assert!(rt; set.contains(9) && set.contains(9_000_000) != is_first && !set.contains(11));
-        set.extend_from_slice(&SPREAD)?;
-    }
-    assert_has(
-        &rt,
-        &set,
-        &[5, 6, 7, 8, 9, 10, 11, 5_000_000, 9_000_000, 13_000_000],
-    );
-    Ok(())
+fn extend_from_slice(rt: HostRuntime) -> Result<(), AllocError> {
+    assert_extends(&rt, By::Slice)
 }
 
 // Shares a set again that was refused it, after a look at the set.
@@ -319,7 +308,7 @@ fn shared_again(rt: &impl Abort, set: AtomicBitSet) -> (SharedBitSet, Seat)
 
 // allocates: 3, 4_260_881 bytes: hibitset_atomic::AtomicBitSet::share
 #[test]
-fn share(rt: HostRuntime) -> Result<(), Fail> {
+fn share(rt: HostRuntime) -> Result<(), AllocError> {
     let set = atomic_of(rt.alloc(), &[5, 70000])?;
     let shared = tried!(&rt, set.share());
     let (shared, mut seat) = match shared {
@@ -366,7 +355,7 @@ fn in_three_again(rt: &impl Abort, shared: &SharedBitSet, seat: Seat, alloc: Glo
 
 // allocates: 1, 12 bytes: hibitset_atomic::SharedBitSet::divide_among
 #[test]
-fn divide_among(rt: HostRuntime) -> Result<(), Fail> {
+fn divide_among(rt: HostRuntime) -> Result<(), AllocError> {
     let (shared, seat) = shared_with(&rt, rt.alloc(), 9)?;
     let divided = tried!(&rt, in_three(&shared, seat, rt.alloc()));
     let seats = match divided {
@@ -398,7 +387,7 @@ fn settled_again(rt: &impl Abort, shared: SharedBitSet, seat: Seat) -> AtomicBit
 
 // allocates: 5, 2_139_648 bytes: hibitset_atomic::SharedBitSet::settle
 #[test]
-fn settle(rt: HostRuntime) -> Result<(), Fail> {
+fn settle(rt: HostRuntime) -> Result<(), AllocError> {
     let (shared, seat) = shared_with(&rt, rt.alloc(), 16777215)?;
     let settled = tried!(&rt, settled(shared, seat));
     let set = match settled {

@@ -4,7 +4,6 @@ use hibitset::util::MAX_EID;
 use hibitset::{BitSet, BitSetLike, Index};
 use std::alloc::{AllocError, Global};
 use std::sync::atomic::{AtomicUsize, Ordering};
-use std::test::Fail;
 
 const MEMBERS: u32 = 524_288;
 
@@ -83,7 +82,7 @@ fn is_many(set: &BitSet) -> bool {
 
 // allocates: 9 at most, 0 bytes on 1 processor: hibitset_base::BitParIter::count
 #[test]
-fn count(rt: HostRuntime) -> Result<(), Fail> {
+fn count(rt: HostRuntime) -> Result<(), AllocError> {
     let set = in_many_words(rt.alloc())?;
     let count = retried!(
         &rt,
@@ -96,7 +95,7 @@ fn count(rt: HostRuntime) -> Result<(), Fail> {
 
 // allocates: 5 at most, 2_097_152 bytes on 1 processor: hibitset_base::BitParIter::collect
 #[test]
-fn collect(rt: HostRuntime) -> Result<(), Fail> {
+fn collect(rt: HostRuntime) -> Result<(), AllocError> {
     let set = in_two_ranges(rt.alloc())?;
     let all = retried!(
         &rt,
@@ -109,7 +108,7 @@ fn collect(rt: HostRuntime) -> Result<(), Fail> {
 
 // allocates: 7 at most, 0 bytes on 1 processor: uses::weight_of_both, hibitset_base::BitParIter::fold
 #[test]
-fn fold(rt: HostRuntime) -> Result<(), Fail> {
+fn fold(rt: HostRuntime) -> Result<(), AllocError> {
     let set = in_two_ranges(rt.alloc())?;
     let init = || 0u64;
     let step = |sum: u64, index: Index| sum.wrapping_add(u64::from(index));
@@ -128,7 +127,7 @@ fn fold(rt: HostRuntime) -> Result<(), Fail> {
 
 // allocates: 7 at most, 0 bytes on 1 processor: hibitset_base::BitParIter::for_each
 #[test]
-fn for_each(rt: HostRuntime) -> Result<(), Fail> {
+fn for_each(rt: HostRuntime) -> Result<(), AllocError> {
     let set = many(rt.alloc())?;
     let visited = AtomicUsize::new(0);
     let visit = |_index: Index| {

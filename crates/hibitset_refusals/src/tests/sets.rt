@@ -1,13 +1,10 @@
-//! Sets that keep their words. A call that a test makes is in a function of its own, which makes no other request.
-ghost use Rattle.std.specs.Prelude.{◌<◌};
-ghost use Rattle.hibitset_base.specs.declared.util.TheConstants.{MAX_EID};
-
+//! Sets that keep their words. Most tests are one call of a function that several share, with what is to stand then.
 use crate::tests::{Drawn, ask, assert_has, assert_indices, assert_way, is_refused_there, say};
-use hibitset::{BitSet, BitSetLike, BuildError, Index, Ranked};
+use hibitset::{BitSet, BitSetLike, BuildError, Index, MAX_EID, Ranked};
 use hibitset_testing::sets::{copied_by_slices, set_of};
-use std::alloc::{AllocError, Global};
+use std::alloc::{AllocError, AllocGlobal, Global};
+use std::io::Print;
 use std::process::Abort;
-use std::test::Fail;
 
 // An index far from those of the sets.
 const FAR: Index = 5_000_000;
@@ -15,166 +12,86 @@ const FAR: Index = 5_000_000;
 // The words on the way to it where a call was refused that had made room in the upper layers.
 const UPPER: [usize; 5] = [1, 1, 0, 0, 0];
 
-fn with_room(alloc: Global) -> Result<BitSet, AllocError> {
-    BitSet::with_capacity(alloc, 5000)
+const ITEMS: [Index; 3] = [6, FAR, 7];
+
+// How a set is made.
+#[derive(Clone, Copy)]
+enum Making {
+    Capacity,
+    Clone,
+    Words,
+    Layers,
+    Slice,
+}
+
+fn copied(alloc: Global, set: &BitSet) -> Option<BitSet> {
+    copied_by_slices(alloc, set).ok()
+}
+
+// The set that is made, if no allocation failed: of the words or the items below, or of another set.
+fn made(alloc: Global, set: &BitSet, making: Making) -> Option<BitSet> {
+    match making {
+        Making::Capacity => BitSet::with_capacity(alloc, 5000).ok(),
+        Making::Clone => set.clone().ok(),
+        Making::Words => BitSet::from_words(alloc, [0, 8, 1].as_slice()).ok(),
+        Making::Layers => copied(alloc, set),
+        Making::Slice => BitSet::from_slice(alloc, &ITEMS).ok(),
+    }
+}
+
+// Sees that a set of these members is made, over a set that stays as it is, with room for so many words at least.
+fn assert_makes(
+    rt: &(impl Abort + Print + AllocGlobal),
+    making: Making,
+    from: &[Index],
+    members: &[Index],
+    words: usize,
+) -> Result<(), AllocError> {
+    let set = set_of(rt.alloc(), from)?;
+    let first = tried!(rt, made(rt.alloc(), &set, making), |it| it.is_none());
+    let copy = match first {
+        Some(copy) => copy,
+        None => made(rt.alloc(), &set, making).ok_or(AllocError)?,
+    };
+    assert_has(rt, &set, from);
+    assert_has(rt, &copy, members);
+    assert!(rt; copy.layer0_as_slice().len() >= words);
+    Ok(())
 }
 
 // allocates: 1, 664 bytes: hibitset::BitSet::with_capacity
 #[test]
-fn with_capacity(rt: HostRuntime) -> Result<(), Fail> {
-    let set = retried!(&rt, with_room(rt.alloc()));
-    assert_has(&rt, &set, &[]);
-    assert!(rt; set.layer0_as_slice().len() >= 79);
-    Ok(())
-}
-
-fn copy_of(set: &BitSet) -> Result<BitSet, AllocError> {
-    set.clone()
+fn with_capacity(rt: HostRuntime) -> Result<(), AllocError> {
+    assert_makes(&rt, Making::Capacity, &[], &[], 79)
 }
 
 // allocates: 1, 38_120 bytes: hibitset::BitSet::clone
 #[test]
-fn clone(rt: HostRuntime) -> Result<(), Fail> {
-    let set = set_of(rt.alloc(), &[1, 70, 300000])?;
-    let copy = retried!(&rt, copy_of(&set));
-    assert_has(&rt, &set, &[1, 70, 300000]);
-    assert_has(&rt, &copy, &[1, 70, 300000]);
-    Ok(())
-}
-
-fn added(set: &mut BitSet, id: Index) -> Result<bool, AllocError>
-    requires { id < MAX_EID }
-{
-    set.add(id)
-}
-
-// Adds an index that is to be new.
-fn assert_new(rt: &impl Abort, set: &mut BitSet, id: Index) -> Result<(), AllocError>
-    requires { id < MAX_EID }
-{
-    assert!(rt; !set.add(id)?);
-    Ok(())
-}
-
-// A copy has room for its own words alone.
-// allocates: 1, 56 bytes: hibitset::BitSet::clone
-#[test]
-fn add_to_a_clone(rt: HostRuntime) -> Result<(), Fail> {
-    let mut copy = copy_of(&set_of(rt.alloc(), &[1, 70])?)?;
-    let added = tried!(&rt, added(&mut copy, 128));
-    if added.is_err() {
-        assert_has(&rt, &copy, &[1, 70]);
-        assert_new(&rt, &mut copy, 128)?;
-    }
-    assert_has(&rt, &copy, &[1, 70, 128]);
-    Ok(())
-}
-
-// allocates: 1, 634_944 bytes: hibitset::BitSet::add
-#[test]
-fn add(rt: HostRuntime) -> Result<(), Fail> {
-    let mut set = set_of(rt.alloc(), &[5])?;
-    let added = tried!(&rt, added(&mut set, FAR));
-    if added.is_err() {
-        assert_way(&rt, &set, &[5], FAR, UPPER);
-        assert_new(&rt, &mut set, FAR)?;
-    }
-    assert_has(&rt, &set, &[5, FAR]);
-    Ok(())
-}
-
-// `allocation_failures.py` refuses one request at a time, and checks that the two calls make one alone: so where that
-// is refused, every request of theirs is.
-// allocates: 1, 634_944 bytes: hibitset::BitSet::add
-#[test]
-fn room_made_before(rt: HostRuntime) -> Result<(), Fail> {
-    let mut set = BitSet::with_capacity(rt.alloc(), 1000)?;
-    ask(&rt)?;
-    assert!(rt; added(&mut set, 999) == Ok(false));
-    let far = added(&mut set, FAR);
-    say(&rt, far.is_err())?;
-    ask(&rt)?;
-    if far.is_err() {
-        assert_way(&rt, &set, &[999], FAR, UPPER);
-        assert_new(&rt, &mut set, 998)?;
-        assert_new(&rt, &mut set, FAR)?;
-        assert!(rt; set.remove(998));
-    }
-    assert_has(&rt, &set, &[999, FAR]);
-    Ok(())
-}
-
-// Room that was made before is for those words alone.
-// allocates: 1, 88 bytes: hibitset::BitSet::with_capacity
-#[test]
-fn add_past_the_last_word(rt: HostRuntime) -> Result<(), Fail> {
-    let mut set = BitSet::with_capacity(rt.alloc(), 320)?;
-    let added = tried!(&rt, added(&mut set, 320));
-    if added.is_err() {
-        assert_has(&rt, &set, &[]);
-        assert_new(&rt, &mut set, 320)?;
-    }
-    assert_has(&rt, &set, &[320]);
-    Ok(())
-}
-
-// Adds 4,999,999 and 5,000,000 to a set that has neither, by `add_range` or by `flip_range`.
-fn add_two(set: &mut BitSet, by_flip: bool) -> Result<(), AllocError> {
-    if by_flip {
-        set.flip_range(FAR - 1, FAR + 1)
-    } else {
-        set.add_range(FAR - 1, FAR + 1)
-    }
-}
-
-// Adds the two again where they were refused, after a look at {5}, and sees that they are there.
-fn assert_two(
-    rt: &impl Abort,
-    set: &mut BitSet,
-    refused: bool,
-    by_flip: bool,
-) -> Result<(), AllocError> {
-    if refused {
-        assert_way(rt, set, &[5], FAR, UPPER);
-        add_two(set, by_flip)?;
-    }
-    assert_has(rt, set, &[5, 4_999_999, FAR]);
-    Ok(())
-}
-
-// allocates: 1, 634_944 bytes: hibitset::BitSet::add_range
-#[test]
-fn add_range(rt: HostRuntime) -> Result<(), Fail> {
-    let mut set = set_of(rt.alloc(), &[5])?;
-    let added = tried!(&rt, add_two(&mut set, false));
-    assert_two(&rt, &mut set, added.is_err(), false)?;
-    Ok(())
-}
-
-// allocates: 1, 634_944 bytes: hibitset::BitSet::flip_range
-#[test]
-fn flip_range(rt: HostRuntime) -> Result<(), Fail> {
-    let mut set = set_of(rt.alloc(), &[5])?;
-    let flipped = tried!(&rt, add_two(&mut set, true));
-    assert_two(&rt, &mut set, flipped.is_err(), true)?;
-    Ok(())
-}
-
-fn of_words(alloc: Global) -> Result<BitSet, AllocError> {
-    BitSet::from_words(alloc, [0, 8, 1].as_slice())
+fn clone(rt: HostRuntime) -> Result<(), AllocError> {
+    assert_makes(&rt, Making::Clone, &[1, 70, 300000], &[1, 70, 300000], 0)
 }
 
 // allocates: 1, 48 bytes: hibitset::BitSet::from_words
 #[test]
-fn from_words(rt: HostRuntime) -> Result<(), Fail> {
-    let set = retried!(&rt, of_words(rt.alloc()));
-    assert_has(&rt, &set, &[67, 128]);
-    Ok(())
+fn from_words(rt: HostRuntime) -> Result<(), AllocError> {
+    assert_makes(&rt, Making::Words, &[], &[67, 128], 0)
+}
+
+// allocates: 1, 634_944 bytes: hibitset::BitSet::from_layers
+#[test]
+fn from_layers(rt: HostRuntime) -> Result<(), AllocError> {
+    assert_makes(&rt, Making::Layers, &[5, FAR], &[5, FAR], 0)
+}
+
+// allocates: 2, 635_000 bytes: hibitset::BitSet::from_slice, hibitset_base::from_slice
+#[test]
+fn from_slice(rt: HostRuntime) -> Result<(), AllocError> {
+    assert_makes(&rt, Making::Slice, &[], &[6, 7, FAR], 0)
 }
 
 // allocates: 1, 48 bytes: hibitset::BitSet::from_vec
 #[test]
-fn from_vec(rt: HostRuntime) -> Result<(), Fail> {
+fn from_vec(rt: HostRuntime) -> Result<(), AllocError> {
     let words = vec![in rt.alloc(); 0, 8, 1]?;
     let again = words.clone()?;
     let made = tried!(&rt, BitSet::from_vec(words));
@@ -185,19 +102,9 @@ fn from_vec(rt: HostRuntime) -> Result<(), Fail> {
 
 // allocates: 1, 48 bytes: hibitset::BitSet::vec_with_room
 #[test]
-fn vec_with_room(rt: HostRuntime) -> Result<(), Fail> {
+fn vec_with_room(rt: HostRuntime) -> Result<(), AllocError> {
     let words = retried!(&rt, BitSet::vec_with_room(rt.alloc(), 3));
     assert!(rt; words.is_empty() && words.capacity() == 6);
-    Ok(())
-}
-
-// allocates: 1, 634_944 bytes: hibitset::BitSet::from_layers
-#[test]
-fn from_layers(rt: HostRuntime) -> Result<(), Fail> {
-    let set = set_of(rt.alloc(), &[5, FAR])?;
-    let copy = retried!(&rt, copied_by_slices(rt.alloc(), &set));
-    assert_has(&rt, &copy, &[5, FAR]);
-    assert_has(&rt, &set, &[5, FAR]);
     Ok(())
 }
 
@@ -209,49 +116,197 @@ fn ranked_by_counts(alloc: Global, set: &BitSet) -> Result<usize, AllocError> {
 
 // allocates: 1, 4_888 bytes: hibitset_base::Ranked::new
 #[test]
-fn ranked(rt: HostRuntime) -> Result<(), Fail> {
+fn ranked(rt: HostRuntime) -> Result<(), AllocError> {
     let set = set_of(rt.alloc(), &[5, 70, FAR])?;
     let count = retried!(&rt, ranked_by_counts(rt.alloc(), &set));
     assert!(rt; count == 2);
     Ok(())
 }
 
-fn joined(set: &mut BitSet, other: &BitSet) -> Result<(), AllocError> {
-    set.bitor_assign(other)
+// A call that adds to a set what it does not have: an index, 4,999,999 and 5,000,000, or members of another set.
+#[derive(Clone, Copy)]
+enum Call {
+    Add(Index),
+    AddRange,
+    FlipRange,
+    Unite,
+    Differ,
+}
+
+// Makes a call, and returns whether it was refused.
+fn is_refused(set: &mut BitSet, other: &BitSet, call: Call) -> bool {
+    match call {
+        Call::Add(id) => (id as usize) < MAX_EID && set.add(id) != Ok(false),
+        Call::AddRange => set.add_range(FAR - 1, FAR + 1).is_err(),
+        Call::FlipRange => set.flip_range(FAR - 1, FAR + 1).is_err(),
+        Call::Unite => set.bitor_assign(other).is_err(),
+        Call::Differ => set.bitxor_assign(other).is_err(),
+    }
+}
+
+// What a call does to a set, with another set: what they have before, and so after it was refused, and what the set has
+// when the call was made. Refused, it may have made room in the upper layers for an index.
+#[derive(Clone, Copy)]
+struct Growth<'a> {
+    call: Call,
+    before: &'a [Index],
+    other: &'a [Index],
+    made_room_for: Option<Index>,
+    after: &'a [Index],
+}
+
+// Sees that a set and its words are as before a call that was refused.
+fn assert_as_before(rt: &impl Abort, set: &BitSet, growth: &Growth) {
+    match growth.made_room_for {
+        Some(id) => assert_way(rt, set, growth.before, id, UPPER),
+        None => assert_has(rt, set, growth.before),
+    }
+}
+
+// Makes a call on a set, if there was memory for that, and again where it was refused.
+fn assert_grows_from(
+    rt: &(impl Abort + Print + AllocGlobal),
+    start: Result<BitSet, AllocError>,
+    growth: &Growth,
+) -> Result<(), AllocError> {
+    let mut set = start?;
+    let other = set_of(rt.alloc(), growth.other)?;
+    let refused = tried!(rt, is_refused(&mut set, &other, growth.call), |it| it);
+    if refused {
+        assert_as_before(rt, &set, growth);
+        assert!(rt; !is_refused(&mut set, &other, growth.call));
+    }
+    assert_has(rt, &set, growth.after);
+    assert_has(rt, &other, growth.other);
+    Ok(())
+}
+
+fn assert_grows(
+    rt: &(impl Abort + Print + AllocGlobal),
+    growth: &Growth,
+) -> Result<(), AllocError> {
+    assert_grows_from(rt, set_of(rt.alloc(), growth.before), growth)
+}
+
+fn copy_of(alloc: Global, ids: &[Index]) -> Result<BitSet, AllocError> {
+    set_of(alloc, ids)?.clone()
+}
+
+// A copy has room for its own words alone.
+// allocates: 1, 56 bytes: hibitset::BitSet::clone
+#[test]
+fn add_to_a_clone(rt: HostRuntime) -> Result<(), AllocError> {
+    let growth = Growth {
+        call: Call::Add(128),
+        before: &[1, 70],
+        other: &[],
+        made_room_for: None,
+        after: &[1, 70, 128],
+    };
+    assert_grows_from(&rt, copy_of(rt.alloc(), &[1, 70]), &growth)
+}
+
+// allocates: 1, 634_944 bytes: hibitset::BitSet::add
+#[test]
+fn add(rt: HostRuntime) -> Result<(), AllocError> {
+    let growth = Growth {
+        call: Call::Add(FAR),
+        before: &[5],
+        other: &[],
+        made_room_for: Some(FAR),
+        after: &[5, FAR],
+    };
+    assert_grows(&rt, &growth)
+}
+
+// A set with room for 16 words takes an index, and is refused one that is far, but not one that is near.
+fn assert_takes_near(rt: &impl Abort, set: &mut BitSet) {
+    assert_way(rt, set, &[999], FAR, UPPER);
+    assert!(rt; set.add(998) == Ok(false) && set.add(FAR) == Ok(false) && set.remove(998));
+}
+
+// `allocation_failures.py` refuses one request at a time, and checks that the two calls make one alone: so where that
+// is refused, every request of theirs is.
+// allocates: 1, 634_944 bytes: hibitset::BitSet::add
+#[test]
+fn room_made_before(rt: HostRuntime) -> Result<(), AllocError> {
+    let mut set = BitSet::with_capacity(rt.alloc(), 1000)?;
+    ask(&rt);
+    assert!(rt; set.add(999) == Ok(false));
+    let refused = set.add(FAR).is_err();
+    say(&rt, refused);
+    ask(&rt);
+    if refused {
+        assert_takes_near(&rt, &mut set);
+    }
+    assert_has(&rt, &set, &[999, FAR]);
+    Ok(())
+}
+
+// Room that was made before is for those words alone.
+// allocates: 1, 88 bytes: hibitset::BitSet::with_capacity
+#[test]
+fn add_past_the_last_word(rt: HostRuntime) -> Result<(), AllocError> {
+    let growth = Growth {
+        call: Call::Add(320),
+        before: &[],
+        other: &[],
+        made_room_for: None,
+        after: &[320],
+    };
+    assert_grows_from(&rt, BitSet::with_capacity(rt.alloc(), 320), &growth)
+}
+
+// allocates: 1, 634_944 bytes: hibitset::BitSet::add_range
+#[test]
+fn add_range(rt: HostRuntime) -> Result<(), AllocError> {
+    let growth = Growth {
+        call: Call::AddRange,
+        before: &[5],
+        other: &[],
+        made_room_for: Some(FAR),
+        after: &[5, 4_999_999, FAR],
+    };
+    assert_grows(&rt, &growth)
+}
+
+// allocates: 1, 634_944 bytes: hibitset::BitSet::flip_range
+#[test]
+fn flip_range(rt: HostRuntime) -> Result<(), AllocError> {
+    let growth = Growth {
+        call: Call::FlipRange,
+        before: &[5],
+        other: &[],
+        made_room_for: Some(FAR),
+        after: &[5, 4_999_999, FAR],
+    };
+    assert_grows(&rt, &growth)
 }
 
 // allocates: 1, 127_008 bytes: hibitset::BitSet::bitor_assign
 #[test]
-fn bitor_assign(rt: HostRuntime) -> Result<(), Fail> {
-    let other = set_of(rt.alloc(), &[1_000_000])?;
-    let mut set = set_of(rt.alloc(), &[0])?;
-    let united = tried!(&rt, joined(&mut set, &other));
-    assert_has(&rt, &other, &[1_000_000]);
-    if united.is_err() {
-        assert_way(&rt, &set, &[0], 1_000_000, UPPER);
-        joined(&mut set, &other)?;
-    }
-    assert_has(&rt, &set, &[0, 1_000_000]);
-    Ok(())
-}
-
-fn differing(set: &mut BitSet, other: &BitSet) -> Result<(), AllocError> {
-    set.bitxor_assign(other)
+fn bitor_assign(rt: HostRuntime) -> Result<(), AllocError> {
+    let growth = Growth {
+        call: Call::Unite,
+        before: &[0],
+        other: &[1_000_000],
+        made_room_for: Some(1_000_000),
+        after: &[0, 1_000_000],
+    };
+    assert_grows(&rt, &growth)
 }
 
 // allocates: 1, 127_008 bytes: hibitset::BitSet::bitxor_assign
 #[test]
-fn bitxor_assign(rt: HostRuntime) -> Result<(), Fail> {
-    let other = set_of(rt.alloc(), &[0, 1_000_000])?;
-    let mut set = set_of(rt.alloc(), &[0, 3])?;
-    let changed = tried!(&rt, differing(&mut set, &other));
-    assert_has(&rt, &other, &[0, 1_000_000]);
-    if changed.is_err() {
-        assert_way(&rt, &set, &[0, 3], 1_000_000, UPPER);
-        differing(&mut set, &other)?;
-    }
-    assert_has(&rt, &set, &[3, 1_000_000]);
-    Ok(())
+fn bitxor_assign(rt: HostRuntime) -> Result<(), AllocError> {
+    let growth = Growth {
+        call: Call::Differ,
+        before: &[0, 3],
+        other: &[0, 1_000_000],
+        made_room_for: Some(1_000_000),
+        after: &[3, 1_000_000],
+    };
+    assert_grows(&rt, &growth)
 }
 
 // A set with room for 64 words, which is more than half of what the other one needs.
@@ -264,48 +319,49 @@ fn with_half_of_the_room(alloc: Global) -> Result<BitSet, AllocError> {
 // It makes room for the 94 words that are needed, and those over them.
 // allocates: 1, 784 bytes: hibitset::BitSet::bitor_assign
 #[test]
-fn bitor_assign_past_the_room(rt: HostRuntime) -> Result<(), Fail> {
-    let other = set_of(rt.alloc(), &[6_015])?;
-    let mut set = with_half_of_the_room(rt.alloc())?;
-    let united = tried!(&rt, joined(&mut set, &other));
-    if united.is_err() {
-        assert_has(&rt, &set, &[3]);
-        joined(&mut set, &other)?;
-    }
-    assert_has(&rt, &set, &[3, 6_015]);
-    Ok(())
+fn bitor_assign_past_the_room(rt: HostRuntime) -> Result<(), AllocError> {
+    let growth = Growth {
+        call: Call::Unite,
+        before: &[3],
+        other: &[6_015],
+        made_room_for: None,
+        after: &[3, 6_015],
+    };
+    assert_grows_from(&rt, with_half_of_the_room(rt.alloc()), &growth)
 }
 
 // allocates: 1, 784 bytes: hibitset::BitSet::bitxor_assign
 #[test]
-fn bitxor_assign_past_the_room(rt: HostRuntime) -> Result<(), Fail> {
-    let other = set_of(rt.alloc(), &[3, 6_015])?;
-    let mut set = with_half_of_the_room(rt.alloc())?;
-    let changed = tried!(&rt, differing(&mut set, &other));
-    if changed.is_err() {
-        assert_has(&rt, &set, &[3]);
-        differing(&mut set, &other)?;
-    }
-    assert_has(&rt, &set, &[6_015]);
-    Ok(())
+fn bitxor_assign_past_the_room(rt: HostRuntime) -> Result<(), AllocError> {
+    let growth = Growth {
+        call: Call::Differ,
+        before: &[3],
+        other: &[3, 6_015],
+        made_room_for: None,
+        after: &[6_015],
+    };
+    assert_grows_from(&rt, with_half_of_the_room(rt.alloc()), &growth)
+}
+
+fn united_past_the_room(alloc: Global) -> Result<BitSet, AllocError> {
+    let mut set = with_half_of_the_room(alloc)?;
+    set.bitor_assign(&set_of(alloc, &[6_015])?)?;
+    Ok(set)
 }
 
 // The next word then takes an allocation, of room for 128.
 // allocates: 1, 1_056 bytes: hibitset::BitSet::add
 #[test]
-fn add_past_a_union(rt: HostRuntime) -> Result<(), Fail> {
-    let mut set = with_half_of_the_room(rt.alloc())?;
-    joined(&mut set, &set_of(rt.alloc(), &[6_015])?)?;
-    let added = tried!(&rt, added(&mut set, 6_016));
-    if added.is_err() {
-        assert_has(&rt, &set, &[3, 6_015]);
-        assert_new(&rt, &mut set, 6_016)?;
-    }
-    assert_has(&rt, &set, &[3, 6_015, 6_016]);
-    Ok(())
+fn add_past_a_union(rt: HostRuntime) -> Result<(), AllocError> {
+    let growth = Growth {
+        call: Call::Add(6_016),
+        before: &[3, 6_015],
+        other: &[],
+        made_room_for: None,
+        after: &[3, 6_015, 6_016],
+    };
+    assert_grows_from(&rt, united_past_the_room(rt.alloc()), &growth)
 }
-
-const ITEMS: [Index; 3] = [6, FAR, 7];
 
 // What is made of the items, or of references to them.
 fn of_items(alloc: Global, by_reference: bool) -> Drawn<BitSet> {
@@ -317,99 +373,87 @@ fn of_items(alloc: Global, by_reference: bool) -> Drawn<BitSet> {
     )
 }
 
-// Sees that the iterator goes on after the item for which an allocation failed, if one did.
-fn assert_goes_on(rt: &impl Abort, built: &Drawn<BitSet>) {
-    if let Err(error) = &built.0 {
-        assert!(rt; is_refused_there(&ITEMS, *error, built.1, &[0, 1]));
+// Sees that a set of the items is made, and that the iterator goes on after the item for which an allocation failed.
+fn assert_builds(
+    rt: &(impl Abort + Print + AllocGlobal),
+    by_reference: bool,
+) -> Result<(), BuildError> {
+    let (built, next) = tried!(rt, of_items(rt.alloc(), by_reference), |it| it.0.is_err());
+    if let Err(error) = &built {
+        assert!(rt; is_refused_there(&ITEMS, *error, next, &[0, 1]));
     }
+    let set = or_again!(built, of_items(rt.alloc(), by_reference).0);
+    assert_has(rt, &set, &[6, 7, FAR]);
+    Ok(())
 }
 
 // allocates: 2, 635_000 bytes: hibitset::BitSet::from_indices, hibitset_base::from_indices
 #[test]
-fn from_indices(rt: HostRuntime) -> Result<(), Fail> {
-    let built = tried!(&rt, of_items(rt.alloc(), false), |it| it.0.is_err());
-    assert_goes_on(&rt, &built);
-    let set = or_again!(built.0, of_items(rt.alloc(), false).0);
-    assert_has(&rt, &set, &[6, 7, FAR]);
-    Ok(())
+fn from_indices(rt: HostRuntime) -> Result<(), BuildError> {
+    assert_builds(&rt, false)
 }
 
 // allocates: 2, 635_000 bytes: hibitset::BitSet::from_index_refs, hibitset_base::from_index_refs
 #[test]
-fn from_index_refs(rt: HostRuntime) -> Result<(), Fail> {
-    let built = tried!(&rt, of_items(rt.alloc(), true), |it| it.0.is_err());
-    assert_goes_on(&rt, &built);
-    let set = or_again!(built.0, of_items(rt.alloc(), true).0);
-    assert_has(&rt, &set, &[6, 7, FAR]);
-    Ok(())
+fn from_index_refs(rt: HostRuntime) -> Result<(), BuildError> {
+    assert_builds(&rt, true)
 }
 
-// allocates: 2, 635_000 bytes: hibitset::BitSet::from_slice, hibitset_base::from_slice
-#[test]
-fn from_slice(rt: HostRuntime) -> Result<(), Fail> {
-    let set = retried!(&rt, BitSet::from_slice(rt.alloc(), &ITEMS));
-    assert_has(&rt, &set, &[6, 7, FAR]);
-    Ok(())
+// How a set is extended by the items.
+#[derive(Clone, Copy, PartialEq)]
+enum Extending {
+    Indices,
+    References,
+    Slice,
 }
 
-// How a set took the items, or references to them.
-fn extended_by(set: &mut BitSet, by_reference: bool) -> Drawn<()> {
+// How a set took the items, and the one that is left; of a slice the one after that for which an allocation failed.
+fn extended_by(set: &mut BitSet, extending: Extending) -> Drawn<()> {
+    if extending == Extending::Slice {
+        return (set.extend_from_slice(&ITEMS), Some(7));
+    }
     drawn!(
         ITEMS,
-        by_reference,
+        extending == Extending::References,
         |left| set.extend_index_refs(&mut left),
         set.extend_indices(&mut left)
     )
 }
 
-// Sees that a set over 5 has the items before the one for which an allocation failed, and then takes all.
-fn assert_extends_again(
-    rt: &impl Abort,
-    set: &mut BitSet,
-    extended: Drawn<()>,
-    by_reference: bool,
-) -> Result<(), BuildError> {
-    if let Err(error) = extended.0 {
-        assert!(rt; is_refused_there(&ITEMS, error, extended.1, &[1]));
-        assert_way(rt, set, &[5, 6], FAR, UPPER);
-        extended_by(set, by_reference).0?;
+// Sees that a set over 5 takes the items, and that it has those before the one for which an allocation failed.
+fn assert_extends(
+    rt: &(impl Abort + Print + AllocGlobal),
+    start: Result<BitSet, AllocError>,
+    extending: Extending,
+) -> Result<(), AllocError> {
+    let mut set = start?;
+    let (done, next) = tried!(rt, extended_by(&mut set, extending), |it| it.0.is_err());
+    if let Err(error) = done {
+        assert!(rt; is_refused_there(&ITEMS, error, next, &[1]));
+        assert_way(rt, &set, &[5, 6], FAR, UPPER);
+        assert!(rt; extended_by(&mut set, extending).0.is_ok());
     }
+    assert_has(rt, &set, &[5, 6, 7, FAR]);
     Ok(())
 }
 
 // allocates: 1, 634_944 bytes: hibitset::BitSet::add_index, hibitset::BitSet::extend_indices,
 //     hibitset_base::FallibleInsert::add_index, hibitset_base::extend_indices
 #[test]
-fn extend_indices(rt: HostRuntime) -> Result<(), Fail> {
-    let mut set = set_of(rt.alloc(), &[5])?;
-    let extended = tried!(&rt, extended_by(&mut set, false), |it| it.0.is_err());
-    assert_extends_again(&rt, &mut set, extended, false)?;
-    assert_has(&rt, &set, &[5, 6, 7, FAR]);
-    Ok(())
+fn extend_indices(rt: HostRuntime) -> Result<(), AllocError> {
+    assert_extends(&rt, set_of(rt.alloc(), &[5]), Extending::Indices)
 }
 
 // allocates: 1, 634_944 bytes: hibitset::BitSet::extend_index_refs, hibitset_base::extend_index_refs
 #[test]
-fn extend_index_refs(rt: HostRuntime) -> Result<(), Fail> {
-    let mut set = set_of(rt.alloc(), &[5])?;
-    let extended = tried!(&rt, extended_by(&mut set, true), |it| it.0.is_err());
-    assert_extends_again(&rt, &mut set, extended, true)?;
-    assert_has(&rt, &set, &[5, 6, 7, FAR]);
-    Ok(())
+fn extend_index_refs(rt: HostRuntime) -> Result<(), AllocError> {
+    assert_extends(&rt, set_of(rt.alloc(), &[5]), Extending::References)
 }
 
 // allocates: 1, 634_944 bytes: hibitset::BitSet::extend_from_slice, hibitset_base::extend_from_slice
 #[test]
-fn extend_from_slice(rt: HostRuntime) -> Result<(), Fail> {
-    let mut set = set_of(rt.alloc(), &[5])?;
-    let extended = tried!(&rt, set.extend_from_slice(&ITEMS));
-    if let Err(error) = extended {
-        assert!(rt; error == BuildError::Memory { place: 1 });
-        assert_way(&rt, &set, &[5, 6], FAR, UPPER);
-        set.extend_from_slice(&ITEMS)?;
-    }
-    assert_has(&rt, &set, &[5, 6, 7, FAR]);
-    Ok(())
+fn extend_from_slice(rt: HostRuntime) -> Result<(), AllocError> {
+    assert_extends(&rt, set_of(rt.alloc(), &[5]), Extending::Slice)
 }
 
 fn extended_by_a_row(set: &mut BitSet) -> Result<(), BuildError> {
@@ -430,35 +474,54 @@ fn is_refused_in_the_row(error: BuildError, set: &BitSet) -> bool {
 // The first word of 64 makes room for four, and the room is doubled where it is full.
 // allocates: 5, 1_112 bytes: hibitset::BitSet::extend_indices
 #[test]
-fn extend_indices_by_a_row(rt: HostRuntime) -> Result<(), Fail> {
+fn extend_indices_by_a_row(rt: HostRuntime) {
     let mut set = BitSet::new(rt.alloc());
     let extended = tried!(&rt, extended_by_a_row(&mut set));
     if let Err(error) = extended {
         assert!(rt; is_refused_in_the_row(error, &set));
-        extended_by_a_row(&mut set)?;
+        assert!(rt; extended_by_a_row(&mut set).is_ok());
     }
     assert!(rt; set.len() == 4096 && set.last() == Some(4095));
-    Ok(())
 }
 
 fn list_of(alloc: Global, set: &BitSet) -> Result<Vec<Index>, AllocError> {
     set.to_vec(alloc)
 }
 
+// The list of a set, made again where it was refused.
+fn list_again(
+    rt: &(impl Abort + Print + AllocGlobal),
+    set: &BitSet,
+) -> Result<Vec<Index>, AllocError> {
+    let list = retried!(rt, list_of(rt.alloc(), set));
+    Ok(list)
+}
+
 // allocates: 1, 12 bytes: hibitset_base::BitSetLike::to_vec
 #[test]
-fn to_vec(rt: HostRuntime) -> Result<(), Fail> {
+fn to_vec(rt: HostRuntime) -> Result<(), AllocError> {
     let set = set_of(rt.alloc(), &[5, 6, FAR])?;
-    let list = retried!(&rt, list_of(rt.alloc(), &set));
+    let list = list_again(&rt, &set)?;
     assert_indices(&rt, list.as_slice(), &[5, 6, FAR]);
     assert_has(&rt, &set, &[5, 6, FAR]);
     Ok(())
 }
 
-// Sees that a list has so many indices, as its set has, from 0 to this last one.
-fn assert_list(rt: &impl Abort, set: &BitSet, list: &[Index], count: usize, last: Index) {
+// Sees that the list of a set, if there was memory for that, has so many indices as the set, from 0 to this last one,
+// and this capacity, where it is known.
+fn assert_lists(
+    rt: &(impl Abort + Print + AllocGlobal),
+    set: Result<BitSet, AllocError>,
+    count: usize,
+    last: Index,
+    capacity: Option<usize>,
+) -> Result<(), AllocError> {
+    let set = set?;
+    let list = list_again(rt, &set)?;
     assert!(rt; list.len() == count && list.first() == Some(&0) && list.last() == Some(&last));
     assert!(rt; set.len() == count);
+    assert!(rt; capacity.is_none() || capacity == Some(list.capacity()));
+    Ok(())
 }
 
 fn one_a_word(alloc: Global) -> Result<BitSet, AllocError> {
@@ -471,11 +534,8 @@ fn one_a_word(alloc: Global) -> Result<BitSet, AllocError> {
 
 // allocates: 2, 384 bytes: hibitset_base::BitSetLike::to_vec
 #[test]
-fn to_vec_of_a_member_a_word(rt: HostRuntime) -> Result<(), Fail> {
-    let set = one_a_word(rt.alloc())?;
-    let list = retried!(&rt, list_of(rt.alloc(), &set));
-    assert_list(&rt, &set, list.as_slice(), 40, 3_900);
-    Ok(())
+fn to_vec_of_a_member_a_word(rt: HostRuntime) -> Result<(), AllocError> {
+    assert_lists(&rt, one_a_word(rt.alloc()), 40, 3_900, None)
 }
 
 // The set of so many members from the first on in each of 32 words.
@@ -491,22 +551,14 @@ fn few_a_word(alloc: Global, members: Index) -> Result<BitSet, AllocError> {
 
 // allocates: 1, 256 bytes: hibitset_base::BitSetLike::to_vec
 #[test]
-fn to_vec_of_two_members_a_word(rt: HostRuntime) -> Result<(), Fail> {
-    let set = few_a_word(rt.alloc(), 2)?;
-    let list = retried!(&rt, list_of(rt.alloc(), &set));
-    assert_list(&rt, &set, list.as_slice(), 64, 1_985);
-    assert!(rt; list.capacity() == 64);
-    Ok(())
+fn to_vec_of_two_members_a_word(rt: HostRuntime) -> Result<(), AllocError> {
+    assert_lists(&rt, few_a_word(rt.alloc(), 2), 64, 1_985, Some(64))
 }
 
 // allocates: 1, 384 bytes: hibitset_base::BitSetLike::to_vec
 #[test]
-fn to_vec_of_three_members_a_word(rt: HostRuntime) -> Result<(), Fail> {
-    let set = few_a_word(rt.alloc(), 3)?;
-    let list = retried!(&rt, list_of(rt.alloc(), &set));
-    assert_list(&rt, &set, list.as_slice(), 96, 1_986);
-    assert!(rt; list.capacity() == 96);
-    Ok(())
+fn to_vec_of_three_members_a_word(rt: HostRuntime) -> Result<(), AllocError> {
+    assert_lists(&rt, few_a_word(rt.alloc(), 3), 96, 1_986, Some(96))
 }
 
 fn full_words(alloc: Global) -> Result<BitSet, AllocError> {
@@ -519,9 +571,6 @@ fn full_words(alloc: Global) -> Result<BitSet, AllocError> {
 
 // allocates: 1, 4_000 bytes: hibitset_base::BitSetLike::to_vec
 #[test]
-fn to_vec_of_full_words(rt: HostRuntime) -> Result<(), Fail> {
-    let set = full_words(rt.alloc())?;
-    let list = retried!(&rt, list_of(rt.alloc(), &set));
-    assert_list(&rt, &set, list.as_slice(), 1_000, 999);
-    Ok(())
+fn to_vec_of_full_words(rt: HostRuntime) -> Result<(), AllocError> {
+    assert_lists(&rt, full_words(rt.alloc()), 1_000, 999, None)
 }
