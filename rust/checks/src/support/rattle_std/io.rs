@@ -23,6 +23,11 @@ impl Read for Cursor<'_> {
     }
 }
 
+/// Prints to standard output.
+pub trait Print {
+    fn println(&self, value: impl ::core::fmt::Display) -> Result<()>;
+}
+
 /// A reader that has no end.
 pub struct Repeat(u8);
 

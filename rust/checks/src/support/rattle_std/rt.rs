@@ -2,7 +2,7 @@
 
 pub use crate::support::package::rattle_std::rt::*;
 
-use super::io::OfRust;
+use super::io::{self, OfRust, Print};
 
 /// May end the process.
 pub trait Abort {}
@@ -18,6 +18,13 @@ impl Abort for HostRuntime {}
 impl Wait for HostRuntime {}
 
 impl Files for HostRuntime {}
+
+impl Print for HostRuntime {
+    fn println(&self, value: impl ::core::fmt::Display) -> io::Result<()> {
+        ::std::println!("{value}");
+        Ok(())
+    }
+}
 
 impl HostRuntime {
     pub fn stdin(&self) -> OfRust<::std::io::Stdin> {
