@@ -71,7 +71,7 @@ run() { # PART [WORD..]: one part, by the script that does it
         "docs "*) docs "${@:2}" ;;
         "proofs "*) proofs "${@:2}" ;;
         "mutants contract") "$top/tests/mutants/run_contract.py" "${@:3}" ;;
-        "mutants tests") "$top/tests/mutants/run_tests.sh" "${@:3}" ;;
+        "mutants tests") nice -n 10 "$top/tests/mutants/run_tests.sh" "${@:3}" ;; # what runs beside goes first
         "allocation "*) "$top/tests/allocation_failures.py" ;;
         "differential "*) sh "$top/tests/differential/replay.sh" "${@:2}" ;;
         "bindings "*) "$top/tests/bindings.sh" "${@:2}" ;;
