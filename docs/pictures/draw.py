@@ -3,7 +3,7 @@
 
 layers.svg: the words of a set of four members, and the order in which a walk reads them.
 sparse.svg: one index in a dense set and in a sparse one, word by word.
-ratios.svg: the time of each row of bench/RESULTS.md, as part of the original's, a dot each.
+ratios.svg: the time of each row of bench/results.txt, as part of the original's, a dot each.
 density.svg, threads.svg (plots.py): time over the share of members; when threads pay.
 crates.svg, seats.svg (diagrams.py): who stands on whom, by crates.txt; the seats of a shared set over time.
 """
