@@ -198,13 +198,12 @@ def streams(results):
     """The part on streams."""
     yield f"## Streams in the Roaring format\n\n{own_head('roaring', results)}.\n"
     yield (
-        "Read: a stream into a set; by CRoaring into its own; `list`: the words of the set into a set. Write: into a buffer that has room; "
-        "`list`: the members into a buffer. The ratio is to CRoaring where containers are bitsets, and else to `list`.\n"
+        "Read: a stream into a set; by CRoaring into its own. Write: into a buffer with capacity. The ratio is to CRoaring where containers are bitsets; "
+        "else to making a set of its words, and to listing its members into a buffer.\n"
     )
     rows = pivot(rows_of("roaring", results), BELOW)
-    for end in list(BELOW)[1:]:
-        here = {call: {end: cells[end]} for call, cells in rows.items() if end in cells}
-        yield from across(here, {end: ""}, f"microseconds, {end}", {"ours": "ours", "CRoaring": "CRoaring", "list": "words, or list", "ratio": "ratio"})
+    shown = {end: BELOW[end] for end in list(BELOW)[1:]}
+    yield from across(rows, shown, "microseconds", {name: name for name in ("ours", "CRoaring", "ratio")})
 
 
 PARTS = (one_thread, beside_others, columns, parallel, shared, streams)
