@@ -74,11 +74,17 @@ def own_head(table, results):
     return "; ".join(part for part in block_of(table, results)[0].rstrip(".").split("; ") if part not in first)
 
 
+def readable(cell):
+    """A number without an exponent, and from 10,000 on with commas."""
+    number = f"{float(cell):.0f}" if re.fullmatch(r"[\d.]+e\+\d+", cell) else cell
+    return f"{int(number):,}" if re.fullmatch(r"\d{5,}", number) else number
+
+
 def table_of(heads, lines, left=1):
     """A table whose first columns are words and whose others are numbers."""
     yield "| " + " | ".join(heads) + " |"
     yield "|" + "---|" * left + "---:|" * (len(heads) - left)
-    yield from ("| " + " | ".join(cells) + " |" for cells in lines)
+    yield from ("| " + " | ".join([*cells[:left], *map(readable, cells[left:])]) + " |" for cells in lines)
     yield ""
 
 
