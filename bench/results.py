@@ -25,7 +25,6 @@ TWO_SETS = {
 }
 # The rows that are shown beside other libraries; the plot over density has others.
 PEERS = r"add, 1M (random below|ascending).*|contains.*|remove.*|walk, (dense|1 %|100 clusters).*|walk of a & b, (1|0\.01) %.*|a &= b, (half|1 %|0\.01 % and another).*|build.*"
-SIZES = {"1000": "1,000", "10000": "10,000", "100000": "100,000", "1000000": "1M", "most": "most"}
 BELOW = {"below 1,000,000": "below 1M", "below 2^24": "below 2^24", "below 2^30": "below 2^30"}
 THREADS = {"one thread": "one thread", "all processors": "all"}
 
@@ -96,17 +95,11 @@ def split_name(name, ends):
     return name, None
 
 
-def members_of(name, _):
-    """A parallel call and its set, and how many members that has."""
-    call, members = name.rsplit(", ", 1)
-    return call, members if members in SIZES else "most"
-
-
-def pivot(rows, ends, split=split_name):
+def pivot(rows, ends):
     """The rows that differ in the ends of their names alone, by what they are about and by the end."""
     found = {}
     for row in rows:
-        call, end = split(row.name, ends)
+        call, end = split_name(row.name, ends)
         if end:
             found.setdefault(call, {})[end] = row
     return found
@@ -171,21 +164,11 @@ def columns(results):
     yield from across(pivot(rows, BELOW), BELOW, "nanoseconds", {name: name for name in ("ours", "original", "ratio", "HashMap")})
 
 
-PARALLEL = {"µs": "ours", "/ original": "ratio", "/ iteration": "its ratio"}
-PARALLEL_WORDS = (
-    " Over the number of members: microseconds a call, and its time as part of the original's and of our own iteration in one thread. "
-    "*Most* is 4M; of 10 % 1.68M, of 1 % 168,000."
-)
-ALL_PROCESSORS = "on all processors"
-
-
 def parallel(results):
     """The parts on calls that take threads."""
-    for table, title in (("threads", "Parallel calls"), ("steps", "Parallel calls whose step takes time")):
-        yield f"## {title}\n\n{own_head(table, results)}.{PARALLEL_WORDS if table == 'threads' else ''}\n"
-        rows = [row for row in rows_of(table, results) if row.part.startswith(ALL_PROCESSORS)]
-        shown = dict(list(PARALLEL.items())[table == "steps" :])
-        yield from across(pivot(rows, SIZES, members_of), SIZES, ALL_PROCESSORS, shown)
+    for table, picture, title in (("threads", "parallel", "Parallel calls"), ("steps", "steps", "Parallel calls whose step takes time")):
+        words = "Time over the number of members, as part of the original's and of our own iteration in one thread"
+        yield f"## {title}\n\n{own_head(table, results)}.\n\n![{words}](../docs/pictures/{picture}.svg)\n"
 
 
 def shared(results):
