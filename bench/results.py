@@ -197,9 +197,10 @@ def streams(results):
 
 PARTS = (one_thread, beside_others, columns, parallel, shared, streams)
 WORDS = (
-    "[README.md](README.md) says how rows are measured, what their sets are, and why some lie above their aim; [results.txt](results.txt) has every row "
-    "(also of eight sets one after the other, and of parallel calls on one processor) with every column and its aim. A ratio is to the original. A star: it lies above its aim; `-`: not measured. "
-    "The first line holds for all tables, but for what the line above a table says."
+    "`crate` is the Rust crate, `Rattle` the same source by Rattle's own compiler; a ratio is to the original, and a star says that it lies above its aim. "
+    "[README.md](README.md) says how rows are measured, what their sets are, and why some lie above. [results.txt](results.txt) has every row with every column "
+    "and its aim, also of eight sets one after the other, and of parallel calls on one processor. "
+    "The first line holds for all tables, but for what the line above a table says. `-`: not measured."
 )
 
 
