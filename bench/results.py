@@ -23,8 +23,8 @@ TWO_SETS = {
     "100 clusters of 1,000 and 1 %": "clusters, 1 %",
     "0.01 % and 100 clusters of 1,000": "0.01 %, clusters",
 }
-# The rows that are shown beside other libraries; the plot over density has others.
-PEERS = r"add, 1M (random below|ascending).*|contains.*|remove.*|walk, (dense|1 %|100 clusters).*|walk of a & b, (1|0\.01) %.*|a &= b, (half|1 %|0\.01 % and another).*|build.*"
+# The rows that are shown beside other libraries; README's table and the plot over density have others.
+PEERS = r"add, 1M ascending.*|contains, miss|remove.*|walk, 100 clusters.*|walk of a & b, 0\.01 %.*|a &= b, (1|0\.01) % and another.*|build.*"
 BELOW = {"below 1,000,000": "below 1M", "below 2^24": "below 2^24", "below 2^30": "below 2^30"}
 THREADS = {"one thread": "one thread", "all processors": "all"}
 
@@ -149,6 +149,7 @@ def beside_others(results):
     """The parts on other libraries, and on what the original does not have."""
     rows = list(rows_of("results", results))
     yield "## Beside other libraries\n\n![Time over the share of members, beside fixedbitset and CRoaring](../docs/pictures/density.svg)\n"
+    yield "[README](../README.md#speed) has the main rows; here are others.\n"
     shown = [row for row in rows if re.fullmatch(PEERS, row.name) and row.cells.get("fixedbitset", "-") != "-" and row.cells["ratio"] != "-"]
     yield from down(shown, "nanoseconds", ["crate", "Rattle", "fixedbitset", "bit-set", "CRoaring", "BTreeSet", "HashSet"])
     yield "## Indices up to 2^30, which the original does not have\n"
