@@ -11,12 +11,6 @@ import over_proofs
 from . import edits, rounds
 
 
-def path_of(name, mutant):
-    """The function that a mutant changes, or its twin, as a check names it."""
-    module = [part for part in Path(mutant.file).relative_to("src").with_suffix("").parts if part != "lib"]
-    return "::".join([name, *module, mutant.function + ("_twin" if mutant.is_twin else "")])
-
-
 def said_by_check(repository, name, mutant):
     """What a check of the mutant's function says."""
     crate = repository.crate(name)
@@ -27,7 +21,7 @@ def said_by_check(repository, name, mutant):
             shutil.copytree(crate.folder / part, Path(room, part))
         for file, text in changed.items():
             Path(room, file).write_text(text, encoding="utf-8")
-        command = [*over_proofs.words(repository, name, "check"), "--only", path_of(name, mutant), "--jobs", "1"]
+        command = [*over_proofs.words(repository, name, "check"), "--only", mutant.function + "_twin" * mutant.is_twin, "--jobs", "1"]
         ran = subprocess.run([str(word) for word in command], cwd=room, stdout=subprocess.PIPE, stderr=subprocess.STDOUT, text=True, errors="replace")
         return ran.stdout
 
