@@ -22,6 +22,7 @@ mkdir -p "$here/out"
 table run.sh "$original" "$repeats" "$milliseconds"
 table threads.sh "$original"
 table roaring.sh "$repeats" "$milliseconds"
+table sparse.sh "$repeats"
 "$here/../tests/docs.py" --write
 commit=$(git -C "$here/.." rev-parse --short=12 HEAD)
 if grep -n "; commit " "$here/results.txt" | grep -v "; commit $commit;"; then

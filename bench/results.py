@@ -196,7 +196,52 @@ def streams(results):
     yield from across(rows, shown, "microseconds", {name: name for name in ("ours", "CRoaring", "ratio")})
 
 
-PARTS = (one_thread, beside_others, columns, parallel, shared, streams)
+# The columns of the tables of sparse sets that are shown as parts of CRoaring's.
+BESIDE_ROARING = {
+    "contains, there": "contains",
+    "add, random": "add, random",
+    "add, ascending": "ascending",
+    "remove, random": "remove",
+    "walk": "walk",
+    "`a & b`, µs": "`a & b`",
+    "`a \\|= b`, µs": "`a \\|= b`",
+    "`a &= b`, µs": "`a &= b`",
+    "`a -= b`, µs": "`a -= b`",
+    "clone, µs": "clone",
+}
+
+
+def sparse_cells(results):
+    """Of each kind of members the cells of each set, by their columns."""
+    found, kind, heads = {}, "", []
+    for line in block_of("sparse", results):
+        cells = cells_of(line) if line.startswith("|") else []
+        if heading := re.fullmatch(r"\*\*(.*)\*\* \(.*\)", line):
+            kind = heading[1]
+        elif cells and cells[0] == "set":
+            heads = cells
+        elif cells and not cells[0].startswith("--"):
+            found.setdefault(kind, {})[cells[0]] = dict(zip(heads, cells))
+    return found
+
+
+def part_of(cell, other):
+    return f"{float(cell) / float(other):.2f}" if float(other) else "-"
+
+
+def sparse(results):
+    """The part on sets whose memory goes by their members."""
+    kinds = sparse_cells(results)
+    yield f"## Sparse sets\n\n{own_head('sparse', results)}. Of the Rust crate, filled in random order.\n"
+    names = list(dict.fromkeys(name for sets in kinds.values() for name in sets))
+    heads = [name.strip("`") for name in names]
+    yield from table_of(["bytes a member", *heads], [[kind, *(sets[name]["bytes a member"] if name in sets else "" for name in names)] for kind, sets in kinds.items()])
+    own, other = names[:2]
+    lines = [[kind, *(part_of(sets[own][column], sets[other][column]) for column in BESIDE_ROARING)] for kind, sets in kinds.items()]
+    yield from table_of([f"time as part of {other}'s", *BESIDE_ROARING.values()], lines)
+
+
+PARTS = (one_thread, beside_others, sparse, columns, parallel, shared, streams)
 WORDS = (
     "`crate` is the Rust crate, `Rattle` the same source by Rattle's own compiler; a ratio is to the original, and a star says that it lies above its aim. "
     "[README.md](README.md) says how rows are measured, what their sets are, and why some lie above. [results.txt](results.txt) has every row with every column "

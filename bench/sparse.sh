@@ -1,6 +1,6 @@
 #!/bin/sh
 # sparse.sh [REPEATS [WORDS]]: prints a table of each kind of members: bytes and times of `SparseBitSet` of the Rust crate beside the dense set, CRoaring, `BTreeSet` and fixedbitset.
-# REPEATS: rounds that the medians are taken of (5). WORDS: the tables whose names have them, alone.
+# RESULTS=1 puts the tables into results.txt. REPEATS: rounds that the medians are taken of (5). WORDS: the tables whose names have them, alone.
 # It needs rustc and cc, and of Debian's packages libroaring-dev and librust-fixedbitset-dev where these are to be in the tables. SMALL=1 tries each row at the smallest size.
 set -eu
 here=$(cd "$(dirname "$0")" && pwd)
@@ -23,3 +23,4 @@ MALLOC_MMAP_THRESHOLD_=1000000000 MALLOC_TRIM_THRESHOLD_=10000000000 "$work/spar
     cat "$work/result.txt"
 } >"$work/results.md"
 cat "$work/results.md"
+[ -z "${RESULTS:-}" ] || keep sparse "$work/results.md"
