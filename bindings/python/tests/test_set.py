@@ -340,7 +340,8 @@ def test_a_set_that_changes_during_an_iteration(kind, way):
             with pytest.raises(RuntimeError, match="changed"):
                 next(found)
     some = kind(range(0, 5000, 2))
-    for same in [lambda i: some.add(i), lambda i: some.discard(i + 1), lambda i: some.rank(i), lambda i: some.add_new(i)]:
+    alone = some.reserve if kind is BitSet else lambda i: some.shrink()
+    for same in [lambda i: some.add(i), lambda i: some.discard(i + 1), lambda i: some.rank(i), lambda i: some.add_new(i), alone]:
         for member in way(some):
             same(member)
 
