@@ -226,17 +226,17 @@ def test_each_call_has_its_turn(kind):
 
 def test_streams_and_arrays_beside_changes(kind):
     """Which the set may have between the parts of a call."""
-    some, left = kind(range(1 << 22)), [2]
+    some, left = kind(range(1 << 21)), [2]
 
     def change():
         while left[0]:
-            some.add_range(1 << 22, (1 << 22) + (1 << 20))
-            some.remove_range(1 << 22, 1 << 30)
+            some.add_range(1 << 21, (1 << 21) + (1 << 20))
+            some.remove_range(1 << 21, 1 << 30)
 
     def read():
         for _ in range(4):
             for made in [kind.deserialize(some.serialize()), kind.from_numpy(some.to_numpy())]:
-                assert len(made) in (1 << 22, (1 << 22) + (1 << 20))
+                assert len(made) in (1 << 21, (1 << 21) + (1 << 20))
         left[0] -= 1
 
     run(change, read, read)
@@ -262,9 +262,9 @@ def test_others_run_during_a_long_call():
     assert turns[0] > 1000
 
 
-def test_a_fork_beside_calls(kind):
+def test_a_fork_beside_calls():
     """In the child the sets that no call has are as free as before."""
-    taken, free, stop = kind(range(1 << 22)), kind(range(1 << 20)), threading.Event()
+    taken, free, stop = BitSet(range(1 << 22)), BitSet(range(1 << 20)), threading.Event()
 
     def read():
         while not stop.is_set():
