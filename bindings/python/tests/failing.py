@@ -1,9 +1,11 @@
 """failing.py: each allocation of each call fails in turn: MemoryError, the members are as before, and the same call then passes.
+And no two threads are in calls with a sparse set at once, also if both only look: the library's functions have it alone.
 
 Needs a `_core` that is linked with failing.c. Prints how many calls were tried, or ends with the first that is wrong.
 """
 import ctypes
 import pickle
+import threading
 
 import numpy as np
 
@@ -119,6 +121,16 @@ def spare_each(kind, name, call):
         assert done, f"{name} of a {kind.__name__}: allocation {number} fails"
 
 
+def look_at(*sets):
+    """Long calls on each set in a thread of its own. Returns whether two threads were in the library at once."""
+    threads = [threading.Thread(target=lambda some=some: [len(some) for _ in range(2000)]) for some in sets]
+    for thread in threads:
+        thread.start()
+    for thread in threads:
+        thread.join()
+    return bool(LIBRARY.have_met())
+
+
 tried = [0, 0, 0]
 for first in [BitSet, SparseBitSet]:
     for second in [BitSet, SparseBitSet]:
@@ -131,4 +143,8 @@ for first in [BitSet, SparseBitSet]:
     for each, its_call in spared_calls(first).items():
         spare_each(first, each, its_call)
         tried[2] += 1
-print("failing.py: {} calls, each allocation fails in turn; {} calls allocate nothing, {} do without".format(*tried))
+
+many = SparseBitSet(range(1 << 20))
+assert not look_at(many, many), "two threads are in calls with a sparse set at once"
+assert look_at(many, many.copy()), "the test sees no two threads at once where they may be"
+print("failing.py: {} calls, each allocation fails in turn; {} calls allocate nothing, {} do without; a sparse set is in one call at a time".format(*tried))
