@@ -73,8 +73,8 @@ MUTANTS = [
     ("a dense set of which a sparse one has all is no subset", "set.c", "*holds = both == set_len(a);", "*holds = both == set_len(b);", "set"),
     ("a dense and a sparse set are disjoint", "set.c", "*holds = both == 0;", "*holds = true;", "set"),
     ("a subset of the other kind is equal", "set.c", "set_len(a) == set_len(b) ? set", "true ? set", "set"),
-    ("a dense set is made without a sparse one's members", "set.c", "hibitset_assign_sparse(&set->dense, &other->sparse)", "hibitset_or_assign_sparse(&set->dense, &other->sparse)", "set"),
-    ("a sparse set is made without a dense one's members", "set.c", "hibitset_sparse_assign_dense(&set->sparse, &other->dense)", "hibitset_sparse_or_assign_dense(&set->sparse, &other->dense)", "set"),
+    ("a dense set that is made of a sparse one keeps members", "set.c", "hibitset_assign_sparse(&set->dense, &other->sparse)", "hibitset_or_assign_sparse(&set->dense, &other->sparse)", "set"),
+    ("a sparse set that is made of a dense one keeps members", "set.c", "hibitset_sparse_assign_dense(&set->sparse, &other->dense)", "hibitset_sparse_or_assign_dense(&set->sparse, &other->dense)", "set"),
     ("a union of a dense and a sparse set leaves what both have out", "set.c", "hibitset_or_assign_sparse(&set->dense, &other->sparse)", "hibitset_xor_assign_sparse(&set->dense, &other->sparse)", "set"),
     ("a union of a sparse and a dense set leaves what both have out", "set.c", "hibitset_sparse_or_assign_dense(&set->sparse, &other->dense)", "hibitset_sparse_xor_assign_dense(&set->sparse, &other->dense)", "set"),
     ("a sparse set keeps what a dense one lacks", "set.c", "hibitset_sparse_and_assign_dense(&set->sparse, &other->dense);", "", "set"),
@@ -82,6 +82,7 @@ MUTANTS = [
     ("a sparse set keeps what a dense one has", "set.c", "hibitset_sparse_andnot_assign_dense(&set->sparse, &other->dense);", "", "set"),
     ("a dense set keeps what a sparse one has", "set.c", "hibitset_andnot_assign_sparse(&set->dense, &other->sparse);", "", "set"),
     ("what a sparse set takes is that of an empty one", "set.h", "set->is_sparse ? hibitset_sparse_memory(&set->sparse)", "set->is_sparse ? 0", "set"),
+    ("a type may be of both kinds", "module.c", "sizeof(PyObject), 0, flags_of_core", "sizeof(Core), 0, flags_of_core", "set"),
     ("shrink changes the members", "sparse.c", ", .unchanged = true", "", "set"),
     ("a set that is not made is lost", "module.c", "    Py_DECREF((PyObject *)set);\n    return none_or_error", "    return none_or_error", "memory"),
 ]  # fmt: skip

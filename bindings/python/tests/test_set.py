@@ -13,7 +13,7 @@ from hypothesis import given
 from hypothesis import strategies as st
 from hypothesis.stateful import RuleBasedStateMachine, invariant, precondition, rule
 
-from hibitset import MAX_INDEX, BitSet, SparseBitSet
+from hibitset import MAX_INDEX, BitSet, SparseBitSet, _core
 
 # Indices at the ends of words and of words of layers above, and dense ones. Sets end below 2^24, so that they are small.
 BORDERS = [border + d for border in (64, 4096, 65536, 1 << 18, 1 << 24) for d in (-1, 0, 1)]
@@ -274,9 +274,10 @@ def test_conversions(kind, other_kind, a):
     some = kind(a)
     made = other_kind(some)
     assert type(made) is other_kind and list(made) == list(some) == sorted(set(a)) and made.serialize() == some.serialize()
-    made.add(301)
-    made.__init__(some)
-    assert made == some == set(a)
+    for change in [made.__init__, made._assign]:
+        made.add(301)
+        change(some)
+        assert made == some == set(a)
 
 
 @given(indices, st.integers(0, 5))
@@ -317,6 +318,22 @@ def test_a_class_derived_from_it(derived):
         assert type(made) is derived and made == some and made.note == "kept"
     assert type(some) is type(derived.deserialize(some.serialize())) is type(derived.from_numpy([5])) is derived
     assert some == kind([1, 2]) and repr(some) == f"{derived.__name__}([1, 2])" and type(Pages.with_capacity(5)) is Pages
+
+
+def test_no_set_is_of_both_kinds():
+    """Else the library's functions of one kind would have the memory of the other."""
+    for names in [(BitSet, SparseBitSet), (SparseBitSet, BitSet), (_core.DenseCore, _core.SparseCore)]:
+        with pytest.raises(TypeError, match="lay-out conflict"):
+            type("Both", names, {})
+    for some, other_kind in [(BitSet([1]), SparseBitSet), (SparseBitSet([1]), BitSet), (_core.DenseCore(), _core.SparseCore)]:
+        with pytest.raises(TypeError, match="layout differs"):
+            some.__class__ = other_kind
+    for call in [_core.Core, type("Derived", (_core.Core,), {}), lambda: object.__new__(_core.Core), lambda: object.__new__(BitSet)]:
+        with pytest.raises(TypeError):
+            call()
+    for call in [lambda: BitSet.reserve(SparseBitSet(), 5), lambda: SparseBitSet.shrink(BitSet()), lambda: BitSet.words(SparseBitSet())]:
+        with pytest.raises((TypeError, AttributeError)):
+            call()
 
 
 def test_repr(kind):

@@ -3,7 +3,7 @@
 
 PyTypeObject *core_type, *dense_type, *sparse_type;
 
-/* The types of the dense and of the sparse sets that methods return, as Python's sets return no set of a derived type. */
+/* The types of the dense and the sparse sets that methods return, as Python's sets return no set of a derived type. */
 static PyTypeObject *result_types[2];
 
 static Core *set_of_type(PyTypeObject *type, bool is_sparse) {
@@ -123,8 +123,10 @@ static bool add_types_of_sets(PyObject *module) {
         {Py_tp_methods, (void *)sparse_methods},
         {0, NULL},
     };
+    /* Objects of the two kinds are longer than the base says: so no type is derived from both, and no set changes its. */
     const unsigned flags = Py_TPFLAGS_DEFAULT | Py_TPFLAGS_BASETYPE;
-    PyType_Spec core = {"hibitset._core.Core", sizeof(Core), 0, flags | Py_TPFLAGS_DISALLOW_INSTANTIATION, core_slots};
+    const unsigned flags_of_core = flags | Py_TPFLAGS_DISALLOW_INSTANTIATION;
+    PyType_Spec core = {"hibitset._core.Core", sizeof(PyObject), 0, flags_of_core, core_slots};
     PyType_Spec dense = {"hibitset._core.DenseCore", sizeof(Core), 0, flags, dense_slots};
     PyType_Spec sparse = {"hibitset._core.SparseCore", sizeof(Core), 0, flags, sparse_slots};
     core_type = added_type(module, &core, NULL);

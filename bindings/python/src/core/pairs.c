@@ -27,7 +27,9 @@ static PyObject *core_xor_assign(PyObject *self, PyObject *other) {
 
 static PyObject *core_and_assign(PyObject *self, PyObject *other) { return assign_by(self, other, set_and_assign); }
 
-static PyObject *core_andnot_assign(PyObject *self, PyObject *other) { return assign_by(self, other, set_andnot_assign); }
+static PyObject *core_andnot_assign(PyObject *self, PyObject *other) {
+    return assign_by(self, other, set_andnot_assign);
+}
 
 /* ---- New sets ---- */
 

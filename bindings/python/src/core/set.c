@@ -90,7 +90,8 @@ hibitset_status set_andnot(Set *a, Set *b, Set *out) {
 /* Leaves how many members both have. A copy of a sparse one is made for it: so one of the two is sparse. */
 static hibitset_status common_len(Set *a, Set *b, size_t *len) {
     Set both = set_new(true);
-    hibitset_status status = a->is_sparse ? copy_and(set_and_assign, a, b, &both) : copy_and(set_and_assign, b, a, &both);
+    hibitset_status status = a->is_sparse ? copy_and(set_and_assign, a, b, &both)
+                                          : copy_and(set_and_assign, b, a, &both);
     if (!hibitset_failed(status)) *len = set_len(&both);
     set_free(&both);
     return status;

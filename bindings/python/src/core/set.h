@@ -169,8 +169,7 @@ hibitset_status set_xor_assign(Set *set, Set *other);
 hibitset_status set_and_assign(Set *set, Set *other);
 hibitset_status set_andnot_assign(Set *set, Set *other);
 
-/* Each makes `out`, which is empty and of the kind of `a`, a set of members of the two. HIBITSET_NO_MEMORY: `out` has any
- * members. */
+/* Each makes `out`, an empty set of the kind of `a`, one of members of the two. HIBITSET_NO_MEMORY: `out` has any. */
 hibitset_status set_and(Set *a, Set *b, Set *out);
 hibitset_status set_or(Set *a, Set *b, Set *out);
 hibitset_status set_xor(Set *a, Set *b, Set *out);

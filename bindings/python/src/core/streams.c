@@ -24,8 +24,8 @@ static PyObject *core_serialize_into(PyObject *object, PyObject *buffer) {
     return hibitset_failed(status) ? none_or_error(status) : PyLong_FromSize_t(taken);
 }
 
-/* Returns the stream if it has at most `len` bytes, as it has unless another thread has changed the set. If not, returns
- * NULL and leaves how many it has, or sets an error. */
+/* Returns the stream if it has at most `len` bytes, as it has unless another thread has changed the set. If not,
+ * returns NULL and leaves how many it has, or sets an error. */
 static PyObject *stream_of(Core *self, size_t *len) {
     Call call = {.read = {self}};
     size_t taken = 0;

@@ -184,7 +184,9 @@ class Algebra(Core[Made]):
     __rxor__ = __xor__
 
     def __rsub__(self, other: Set[int]) -> Made:
-        return self._set_of(other)._andnot(self) if isinstance(other, Set) else NotImplemented  # type: ignore[no-any-return]
+        if not isinstance(other, Set):
+            return NotImplemented
+        return self._set_of(other)._andnot(self)  # type: ignore[no-any-return]
 
     def __ior__(self, other: Set[int]) -> Self:  # type: ignore[override]
         if not isinstance(other, Set):
