@@ -123,7 +123,7 @@ static bool add_types_of_sets(PyObject *module) {
         {Py_tp_methods, (void *)sparse_methods},
         {0, NULL},
     };
-    /* Objects of the two kinds are longer than the base says: so no type is derived from both, and no set changes its. */
+    /* Objects of the two kinds are longer than the base says: no type is derived from both, and no set changes its. */
     const unsigned flags = Py_TPFLAGS_DEFAULT | Py_TPFLAGS_BASETYPE;
     const unsigned flags_of_core = flags | Py_TPFLAGS_DISALLOW_INSTANTIATION;
     PyType_Spec core = {"hibitset._core.Core", sizeof(PyObject), 0, flags_of_core, core_slots};

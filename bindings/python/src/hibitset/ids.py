@@ -85,8 +85,8 @@ class IdSet:
 
     Each shard is a BitSet, which takes a bit for each id up to its last one and a 64th more, or a SparseBitSet, which
     takes memory by its members: the kind that takes fewer bytes. It is chosen where a shard is made of an array, read,
-    or returned by an operator; add and discard keep it. A set that was computed of a ShardedSet may share its shards
-    with it: change a copy.
+    or returned by an operator; add and discard keep it. One thread at a time changes an IdSet. A set that was computed
+    of a ShardedSet may share its shards with it: change a copy.
     """
 
     __slots__ = ("bits", "shards")
