@@ -30,7 +30,6 @@ MUTANTS = [
     ("a call waits for none that waits", "calls.c", "if (conflicts(call, other)) return false;", "", "threads"),
     ("a call that has waited waits on", "calls.c", "    *place = call->next;\n", "", "threads"),
     ("a view keeps no change away", "calls.c", "call->changed->views == 0", "true", "numpy"),
-    ("a set is marked twice in a call with itself", "calls.c", "if (call->read[0] == call->changed) call->read[0] = NULL;", "", "threads"),
     ("changes are not counted", "calls.c", "call->changed->changes++", "", "set"),
     ("each call counts as a change", "calls.c", " && !call->unchanged", "", "set"),
     ("a long call keeps the GIL", "calls.c", "    call->thread = PyEval_SaveThread();\n}", "}", "threads"),

@@ -193,7 +193,7 @@ def test_words_outlive_the_name_of_their_set():
 
 def test_many(kind):
     random = np.random.default_rng(7)
-    ids, other = (random.integers(0, 1 << 22, 500_000, dtype=np.uint32) for _ in range(2))
+    ids, other = (random.integers(0, 1 << 22, 200_000, dtype=np.uint32) for _ in range(2))
     some, model = kind.from_numpy(ids), np.unique(ids)
     assert len(some) == len(model) and np.array_equal(some.to_numpy(), model)
     assert np.array_equal((some & kind.from_numpy(other)).to_numpy(), np.intersect1d(ids, other))

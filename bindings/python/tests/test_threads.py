@@ -112,7 +112,7 @@ def test_two_sets_in_both_orders(kind, other_kind):
     left = [2]
 
     def assign(to, of):
-        for _ in range(100):
+        for _ in range(60):
             to |= of
             to.discard(5)
         left[0] -= 1
@@ -130,7 +130,7 @@ def test_readers_in_both_orders_beside_changes(kind):
     stop = threading.Event()
 
     def read(first, second):
-        for _ in range(1000):
+        for _ in range(500):
             first.intersection_len(second)
         stop.set()
 
@@ -226,17 +226,17 @@ def test_each_call_has_its_turn(kind):
 
 def test_streams_and_arrays_beside_changes(kind):
     """Which the set may have between the parts of a call."""
-    some, left = kind(range(1 << 21)), [2]
+    some, left = kind(range(1 << 20)), [2]
 
     def change():
         while left[0]:
-            some.add_range(1 << 21, (1 << 21) + (1 << 20))
-            some.remove_range(1 << 21, 1 << 30)
+            some.add_range(1 << 20, (1 << 20) + (1 << 19))
+            some.remove_range(1 << 20, 1 << 30)
 
     def read():
         for _ in range(4):
             for made in [kind.deserialize(some.serialize()), kind.from_numpy(some.to_numpy())]:
-                assert len(made) in (1 << 21, (1 << 21) + (1 << 20))
+                assert len(made) in (1 << 20, (1 << 20) + (1 << 19))
         left[0] -= 1
 
     run(change, read, read)

@@ -99,7 +99,6 @@ static void give_gil_up(Call *call) {
 
 /* Begins a call, which keeps the GIL. */
 static bool begin_short(Call *call) {
-    if (call->read[0] == call->changed) call->read[0] = NULL;
     if (!is_free(call)) wait_until_free(call);
     if (call->changed == NULL || call->changed->views == 0) return true;
     PyErr_SetString(PyExc_BufferError, "the set can't be changed while an array of its words is held");
