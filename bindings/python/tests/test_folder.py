@@ -91,6 +91,18 @@ def test_the_smaller_kind(items, far):
     assert all(some == items for some in found)
 
 
+def test_what_the_page_says_of_memory():
+    def shard_of(share, bits):
+        return IdSet.from_numpy(RANDOM.integers(0, 1 << bits, int(share * (1 << bits)), dtype=np.uint64), shards=1, bits=bits).shards[0]
+
+    for share, megabytes in [(0.01, 17.0), (0.00001, 0.12)]:
+        shard = shard_of(share, 28)
+        assert type(shard) is SparseBitSet and abs(sys.getsizeof(shard) / 1e6 - megabytes) < 0.05
+        assert round(sys.getsizeof(BitSet(shard)) / 1e6, 1) == 34.1
+    # Some ids are there twice.
+    assert [type(shard_of(share, 20)) for share in (0.05, 0.06, 0.07)] == [SparseBitSet, SparseBitSet, BitSet]
+
+
 def test_kinds_while_ids_are_added():
     some = of([])
     assert kinds_of(some) == " ".join(["sparse"] * SHARDS)
