@@ -2,7 +2,7 @@
 # test.sh [--anew] [PART [WORD..]]: passes all tests of this repository, or one part of them.
 #   docs [--write]              pages, files, mutants and derived files agree, and the scripts pass their tests; --write makes anew what is generated
 #   proofs [CRATE..]            rt ci: proofs from nothing, must-fail edits, tests, programs
-#   mutants contract [CRATE [FUNCTION]]  the prover refuses the mutants of tests/mutants/contract
+#   mutants contract [--gate|CRATE [FUNCTION]]  the prover refuses the mutants of tests/mutants/contract; --gate: those marked single
 #   mutants tests [--gate|PATCH]  tests kill the mutants of tests/mutants/tests; --gate: those that the gate tries
 #   allocation                  each allocation of each call fails in turn, in what proofs has built
 #   differential [PROGRAM]      the program gives the stored answers; without PROGRAM it is proved and built first
@@ -10,11 +10,11 @@
 #   bench                       each row of the benchmark runs once, at the smallest size
 #   rust                        the Cargo crate of rust/: its derivation, its tests, derived tests, scripts, lints, package
 #   guide [--make FOLDER]       the repository that docs/GUIDE.md prints passes; --make makes it alone
-# Without PART: docs, proofs beside mutants tests --gate, allocation, differential, bindings and bench beside rust. It stops at the first part that fails.
+# Without PART: docs, proofs beside mutants tests --gate, mutants contract --gate, allocation, differential, bindings and bench beside rust. It stops at the first part that fails.
 # --anew: rt ci proves and tries all, whatever it has kept on this machine.
 set -euo pipefail
 top=$(cd "$(dirname "$0")" && pwd)
-parts=8
+parts=9
 beside=
 lowest=
 anew=
@@ -125,10 +125,11 @@ part 1 docs
 begin 3 mutants tests --gate
 part 2 proofs
 end
-begin 8 rust
-part 4 allocation
-part 5 differential "$top/crates/hibitset_run/out/hibitset_run"
-part 6 bindings --proved
-part 7 bench --proved
+begin 9 rust
+part 4 mutants contract --gate
+part 5 allocation
+part 6 differential "$top/crates/hibitset_run/out/hibitset_run"
+part 7 bindings --proved
+part 8 bench --proved
 end
 echo "test.sh: all passed after $((SECONDS / 60)) min"

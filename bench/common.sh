@@ -15,14 +15,15 @@ machine() {
     printf '%s cores of %s' "$(nproc)" "$(sed -n 's/^model name[^:]*: *//p' /proc/cpuinfo | head -n 1)"
 }
 
-# keep TABLE FILE: puts the file into RESULTS.md, in the place of that table's last results.
+# keep TABLE FILE: puts the file into results.txt, in the place of that table's last results, and makes RESULTS.md anew.
 keep() {
     awk -v table="$1" -v results="$2" '
         $0 == "<!-- " table " -->" { print; print ""; while ((getline line < results) > 0) print line; print ""; held = 1 }
         $0 == "<!-- end of " table " -->" { held = 0 }
         !held { print }
-    ' "$here/RESULTS.md" >"$here/out/RESULTS.md"
-    cp "$here/out/RESULTS.md" "$here/RESULTS.md"
+    ' "$here/results.txt" >"$here/out/results.txt"
+    cp "$here/out/results.txt" "$here/results.txt"
+    python3 "$here/results.py"
 }
 
 # library FROM FOLDER: where the static library lies that is given as FROM, a file, or that of the checkout FROM, which is proved and built, and then lies in FOLDER.

@@ -1,26 +1,54 @@
-"""results.py: reads bench/RESULTS.md, for README's tables and its chart."""
+#!/usr/bin/env python3
+"""results.py: reads bench/results.txt, which the scripts here write, and makes bench/RESULTS.md of it."""
 import re
 from collections import namedtuple
 from pathlib import Path
 
-RESULTS = Path(__file__).resolve().parent / "RESULTS.md"
+HERE = Path(__file__).resolve().parent
+RESULTS = HERE / "results.txt"
+PAGE = HERE / "RESULTS.md"
 
 # A row: the title of its part, its name, what its nanoseconds are per, and its cells by their columns.
 Row = namedtuple("Row", "part name unit cells")
 
+# The names of sets in rows, and in the heads of columns.
+ONE_SET = {"dense, 1M of 1M": "dense", "half of 2^21": "half", "10 %": "10 %", "1 %": "1 %", "0.01 %": "0.01 %", "100 clusters of 1,000": "clusters"}
+TWO_SETS = {
+    "half of 2^21 and another half": "half, half",
+    "10 % and another 10 %": "10 %, 10 %",
+    "1 % and another 1 %": "1 %, 1 %",
+    "0.01 % and another 0.01 %": "0.01 %, 0.01 %",
+    "0.01 % and 10 %": "0.01 %, 10 %",
+    "10 % and 0.01 %": "10 %, 0.01 %",
+    "100 clusters of 1,000 and 1 %": "clusters, 1 %",
+    "0.01 % and 100 clusters of 1,000": "0.01 %, clusters",
+}
+# The rows that are shown beside other libraries; README's table and the plot over density have others.
+PEERS = r"add, 1M ascending.*|contains, miss|remove.*|walk, 100 clusters.*|walk of a & b, 0\.01 %.*|a &= b, (1|0\.01) % and another.*|build.*"
+BELOW = {"below 1,000,000": "below 1M", "below 2^24": "below 2^24", "below 2^30": "below 2^30"}
+THREADS = {"one thread": "one thread", "all processors": "all"}
 
 def cells_of(line):
     return [cell.strip() for cell in re.split(r"(?<!\\)\|", line.strip())[1:-1]]
 
 
+def unlike(names):
+    """Names of columns; one that comes again has `its` before it."""
+    return [f"its {name}" if name in names[:at] else name for at, name in enumerate(names)]
+
+
+def block_of(table, results):
+    found = re.search(rf"^<!-- {table} -->\n(.*?)^<!-- end of {table} -->$", results, re.M | re.S)
+    return found[1].strip().splitlines() if found else []
+
+
 def rows_of(table, results):
     """The rows of a table."""
-    block = re.search(rf"^<!-- {table} -->\n(.*?)^<!-- end of {table} -->$", results, re.M | re.S)
     columns, part, unit = [], "", ""
-    for line in block[1].splitlines() if block else []:
+    for line in block_of(table, results):
         cells = cells_of(line) if line.startswith("|") else []
-        if {"ours", "crate"} & set(cells):
-            columns = cells[1:]
+        if {"ours", "crate", "shared"} & set(cells):
+            part, columns = cells[0], unlike(cells[1:])
         elif cells and (heading := re.fullmatch(r"\*\*(.*?) \((.*)\)\*\*", cells[0])):
             part, unit = heading[1], heading[2].removeprefix("ns per ")
         elif cells and not cells[0].startswith(("**", "--")):
@@ -35,6 +63,157 @@ def ratio_of(row):
 
 def head_of(table, results):
     """When, where and at which commit a table was measured."""
-    first = re.search(rf"^<!-- {table} -->\n+(.*)$", results, re.M)[1]
-    day, machine, *rest = first.split("; ")
+    day, machine, *rest = block_of(table, results)[0].split("; ")
     return day, machine, next(part for part in rest if part.startswith("commit "))
+
+
+def own_head(table, results):
+    """What the line above a table says beside that of the first table."""
+    first = block_of("results", results)[0].rstrip(".").split("; ")
+    return "; ".join(part for part in block_of(table, results)[0].rstrip(".").split("; ") if part not in first)
+
+
+def readable(cell):
+    """A number without an exponent, and from 10,000 on with commas."""
+    number = f"{float(cell):.0f}" if re.fullmatch(r"[\d.]+e\+\d+", cell) else cell
+    return f"{int(number):,}" if re.fullmatch(r"\d{5,}", number) else number
+
+
+def table_of(heads, lines, left=1):
+    """A table whose first columns are words and whose others are numbers."""
+    yield "| " + " | ".join(heads) + " |"
+    yield "|" + "---|" * left + "---:|" * (len(heads) - left)
+    yield from ("| " + " | ".join([*cells[:left], *map(readable, cells[left:])]) + " |" for cells in lines)
+    yield ""
+
+
+def split_name(name, ends):
+    """What a row is about and the end of its name, one of these; the whole name and None if it has none of them."""
+    for end in ends:
+        if found := re.fullmatch(rf"(.*), {re.escape(end)}(?: and its copy)?", name):
+            return found[1], end
+    return name, None
+
+
+def pivot(rows, ends):
+    """The rows that differ in the ends of their names alone, by what they are about and by the end."""
+    found = {}
+    for row in rows:
+        call, end = split_name(row.name, ends)
+        if end:
+            found.setdefault(call, {})[end] = row
+    return found
+
+
+def unit_of(row):
+    if "of walks" not in row.unit:
+        return row.unit
+    return "item" if row.name.startswith("walk") else "call"
+
+
+def across(calls, ends, title, columns, unit=False):
+    """The table of pivoted rows; columns: what the head says beside the end, and the column."""
+    shown = [end for end in ends if any(end in cells for cells in calls.values())]
+    lines = []
+    for call, cells in calls.items():
+        numbers = [cells[end].cells[column] if end in cells else "" for column in columns.values() for end in shown]
+        lines.append([call, *([unit_of(next(iter(cells.values())))] if unit else []), *numbers])
+    heads = [" ".join([ends[end], words]).strip() for words in columns for end in shown]
+    return table_of([title, *(["per"] if unit else []), *heads], lines, 1 + unit)
+
+
+def down(rows, title, columns):
+    """The table of these columns of the rows, one below the other."""
+    return table_of([title, "per", *columns], [[row.name, unit_of(row), *(row.cells[column] for column in columns)] for row in rows], 2)
+
+
+NUMBERS = {"the crate: nanoseconds": "crate", "the crate: ratio": "ratio", "Rattle: ratio": "its ratio"}
+
+
+def one_thread(results):
+    """The parts on sets in one thread."""
+    rows = [row for row in rows_of("results", results) if row.cells.get("crate", "-") != "-"]
+    one, two = ({call: cells for call, cells in pivot(rows, sets).items() if len(cells) > 1} for sets in (ONE_SET, TWO_SETS))
+    there = {row.name for calls in (one, two) for cells in calls.values() for row in cells.values()}
+    yield "## One thread, over the share of members\n"
+    for title, column in NUMBERS.items():
+        yield from across(one, ONE_SET, title, {"": column}, "nano" in title)
+    yield "## Two sets\n\nNanoseconds are per member of either set; of what is done in place, per turn.\n"
+    for title, column in NUMBERS.items():
+        yield from across(two, TWO_SETS, title, {"": column})
+    yield "## Other work in one thread\n"
+    yield from down([row for row in rows if row.name not in there and "eight sets" not in row.name], "nanoseconds", ["crate", "original", "ratio", "Rattle", "its ratio"])
+
+
+def beside_others(results):
+    """The parts on other libraries, and on what the original does not have."""
+    rows = list(rows_of("results", results))
+    yield "## Beside other libraries\n\n![Time over the share of members, beside fixedbitset and CRoaring](../docs/pictures/density.svg)\n"
+    yield "[README](../README.md#speed) has the main rows; here are others.\n"
+    shown = [row for row in rows if re.fullmatch(PEERS, row.name) and row.cells.get("fixedbitset", "-") != "-" and row.cells["ratio"] != "-"]
+    yield from down(shown, "nanoseconds", ["crate", "Rattle", "fixedbitset", "bit-set", "CRoaring", "BTreeSet", "HashSet"])
+    yield "## Indices up to 2^30, which the original does not have\n"
+    far = [row for row in rows if row.cells["ratio"] == "-"]
+    yield from down(far, "nanoseconds", ["Rattle", "fixedbitset", "CRoaring"])
+    yield "\n".join(f"- {line}" for line in block_of("results", results) if line.startswith("Memory of")) + "\n"
+
+
+def columns(results):
+    """The part on values by index."""
+    rows = [row._replace(name=row.name.replace("100,000 random ", "")) for row in rows_of("results", results) if "crate" not in row.cells]
+    yield "## Values by index\n\nThe original is its set beside a flat vector. Nanoseconds are per call, of a join per key of either column.\n"
+    yield from across(pivot(rows, BELOW), BELOW, "nanoseconds", {name: name for name in ("ours", "original", "ratio", "HashMap")})
+
+
+def parallel(results):
+    """The parts on calls that take threads."""
+    for table, picture, title in (("threads", "parallel", "Parallel calls"), ("steps", "steps", "Parallel calls whose step takes time")):
+        words = "Time over the number of members, as part of the original's and of our own iteration in one thread"
+        yield f"## {title}\n\n{own_head(table, results)}.\n\n![{words}](../docs/pictures/{picture}.svg)\n"
+
+
+def shared(results):
+    """The part on the shared set."""
+    parts = {}
+    for row in rows_of("shared", results):
+        title = "microseconds a call" if "(micro" in row.name else row.part
+        parts.setdefault(title, []).append(row._replace(name=row.name.partition(" (")[0]))
+    yield f"## The shared set\n\n{own_head('shared', results)}.\n"
+    for title, rows in parts.items():
+        names = [name for name in ("ours", "original", "shared", "settled", "ratio") if rows[0].cells.get(name, "-") != "-"]
+        yield from across(pivot(rows, THREADS), THREADS, title, {name: name for name in names})
+
+
+def streams(results):
+    """The part on streams."""
+    yield f"## Streams in the Roaring format\n\n{own_head('roaring', results)}.\n"
+    yield (
+        "Read: a stream into a set; by CRoaring into its own. Write: into a buffer with capacity. The ratio is to CRoaring where containers are bitsets; "
+        "else to making a set of its words, and to listing its members into a buffer.\n"
+    )
+    rows = pivot(rows_of("roaring", results), BELOW)
+    shown = {end: BELOW[end] for end in list(BELOW)[1:]}
+    yield from across(rows, shown, "microseconds", {name: name for name in ("ours", "CRoaring", "ratio")})
+
+
+PARTS = (one_thread, beside_others, columns, parallel, shared, streams)
+WORDS = (
+    "`crate` is the Rust crate, `Rattle` the same source by Rattle's own compiler; a ratio is to the original, and a star says that it lies above its aim. "
+    "[README.md](README.md) says how rows are measured, what their sets are, and why some lie above. [results.txt](results.txt) has every row with every column "
+    "and its aim, also of eight sets one after the other, and of parallel calls on one processor. "
+    "The first line holds for all tables, but for what the line above a table says. `-`: not measured."
+)
+
+
+def page(results):
+    """RESULTS.md."""
+    lines = [block_of("results", results)[0], "\n# Results\n", f"{WORDS}\n", *(line for part in PARTS for line in part(results))]
+    return "\n".join(lines).rstrip() + "\n"
+
+
+def write_page():
+    PAGE.write_text(page(RESULTS.read_text(encoding="utf-8")), encoding="utf-8")
+
+
+if __name__ == "__main__":
+    write_page()

@@ -1,6 +1,6 @@
 #!/bin/sh
 # roaring.sh [REPEATS [MILLISECONDS [WORDS]]]: builds the library for C, and prints a table of streams read and written beside CRoaring, in one process and compiled alike.
-# REPEATS, MILLISECONDS, WORDS: as of run.sh. RESULTS=1: also puts what it prints into RESULTS.md.
+# REPEATS, MILLISECONDS, WORDS: as of run.sh. RESULTS=1: also puts what it prints into results.txt, and makes RESULTS.md of that.
 # It needs rt, cc and CRoaring (of Debian: apt-get install libroaring-dev).
 set -eu
 here=$(cd "$(dirname "$0")" && pwd)

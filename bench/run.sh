@@ -4,7 +4,7 @@
 # REPEATS: rounds that the medians are taken of (9). MILLISECONDS: how long the work of one timing is to take (20).
 # WORDS: the rows whose names have them, alone. It needs rt, rustc and objcopy, and of Debian's packages librust-fixedbitset-dev and
 # librust-bit-set-dev, where they are to be in the table, under REGISTRY, and libroaring-dev.
-# RESULTS=1: also puts what it prints into RESULTS.md, in the place of its last results, and its first line there.
+# RESULTS=1: also puts what it prints into results.txt, in the place of its last results, and makes RESULTS.md of that.
 # FLAGS: how the original, the peers and the driver are compiled. LIB: the static library, if it is not to be built, or a checkout of another commit, whose library is built.
 set -eu
 here=$(cd "$(dirname "$0")" && pwd)
@@ -31,8 +31,4 @@ commit=$(commit_of "$([ -d "${LIB:-}" ] && echo "$LIB" || echo "$here/..")")
     cat "$work/result.txt"
 } >"$work/results.md"
 cat "$work/results.md"
-if [ -n "${RESULTS:-}" ]; then
-    keep results "$work/results.md"
-    { head -n 1 "$work/results.md"; tail -n +2 "$here/RESULTS.md"; } >"$work/RESULTS.md"
-    cp "$work/RESULTS.md" "$here/RESULTS.md"
-fi
+[ -z "${RESULTS:-}" ] || keep results "$work/results.md"

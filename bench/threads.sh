@@ -3,7 +3,7 @@
 # ORIGINAL: the folder of the original crate's sources. REPEATS: how many times each call is made, of which the median counts (15). TABLE: threads, steps or shared; all three if left out.
 # Both programs are compiled as a user compiles them, or with PADDED=1 as common.sh says.
 # It needs rt, cargo and taskset, and of Debian's packages librust-rayon-dev under REGISTRY; without that the original is left out.
-# RESULTS=1: also puts what it prints into RESULTS.md, each table in the place of its last results.
+# RESULTS=1: also puts what it prints into results.txt, each table in the place of its last results, and makes RESULTS.md of that.
 set -eu
 here=$(cd "$(dirname "$0")" && pwd)
 [ $# -ge 1 ] || { echo "usage: threads.sh ORIGINAL [REPEATS [TABLE..]]" >&2; exit 64; }

@@ -10,7 +10,7 @@ if [ "${1:-}" = --proved ]; then
     crate=$top/crates/hibitset_bench
     log=$crate/out/library.log
     mkdir -p "$crate/out"
-    (cd "$crate" && "$top/tests/library_over_proofs.sh") >"$log" 2>&1 || { tail -n 60 "$log" >&2; exit 1; }
+    (cd "$crate" && "$top/tests/over_proofs.py") >"$log" 2>&1 || { tail -n 60 "$log" >&2; exit 1; }
     exec sh "$top/bench/rows.sh" "$crate/out/libhibitset_bench.a"
 fi
 exec sh "$top/bench/rows.sh"

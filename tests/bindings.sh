@@ -4,7 +4,7 @@
 set -eu
 top=$(cd "$(dirname "$0")/.." && pwd)
 if [ "${1:-}" = --proved ]; then
-    export LIB="$top/tests/library_over_proofs.sh"
+    export LIB="$top/tests/over_proofs.py"
 fi
 
 has() { # WHAT COMMAND..: whether all commands are there; else says what is left out

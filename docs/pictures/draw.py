@@ -3,8 +3,9 @@
 
 layers.svg: the words of a set of four members, and the order in which a walk reads them.
 sparse.svg: one index in a dense set and in a sparse one, word by word.
-ratios.svg: the time of each row of bench/RESULTS.md, as part of the original's, a dot each.
+ratios.svg: the time of each row of bench/results.txt, as part of the original's, a dot each.
 density.svg, threads.svg (plots.py): time over the share of members; when threads pay.
+parallel.svg, steps.svg (parallel.py): parallel calls over the number of members.
 crates.svg, seats.svg (diagrams.py): who stands on whom, by crates.txt; the seats of a shared set over time.
 """
 import pathlib
@@ -15,6 +16,7 @@ sys.path.insert(0, str(HERE.parent.parent / "bench"))
 
 from diagrams import draw_crates, draw_seats
 from drawing import BLUE, FAINT, GREEN, RED, Drawing
+from parallel import draw_parallel, draw_steps
 from plots import draw_density, draw_threads
 from results import RESULTS, ratio_of, rows_of  # noqa: E402 (its folder is named above)
 
@@ -155,5 +157,5 @@ def draw_ratios(folder):
 
 if __name__ == "__main__":
     into = pathlib.Path(sys.argv[1]) if sys.argv[1:] else HERE
-    for draw in (draw_layers, draw_sparse, draw_ratios, draw_density, draw_threads, draw_crates, draw_seats):
+    for draw in (draw_layers, draw_sparse, draw_ratios, draw_density, draw_threads, draw_parallel, draw_steps, draw_crates, draw_seats):
         draw(into)

@@ -5,7 +5,7 @@ import re
 from drawing import BLUE, GREEN, GREY, ORANGE, RED, Drawing
 from results import RESULTS, rows_of
 
-# The panels of the plot over density: its title, and the row of bench/RESULTS.md at each share of members.
+# The panels of the plot over density: its title, and the row of bench/results.txt at each share of members.
 SHARES = {"dense": 1, "half": 0.5, "10 %": 0.1, "1 %": 0.01, "0.01 %": 0.0001}
 PANELS = [
     ("iterate: ns per item", r"walk, (dense|half|10 %|1 %|0\.01 %)[^a-z]*(?:of 2\^21)?(?:1M of 1M)?"),

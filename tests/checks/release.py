@@ -7,7 +7,8 @@ Header     bindings/c/check.py finds no fault.
 Toolchains README names each toolchain of .ci/kit, and its logic.
 Packages   The Dockerfile installs what .ci/packages lists. That has a package for each command that tests/bindings.sh or tests/rust.sh
            asks for, and for each module that tests/python.sh does.
-Speed      README's tables between <!-- speed -->, <!-- crate --> and <!-- slower --> and their ends are those that bench/RESULTS.md gives.
+Speed      README's tables between <!-- speed -->, <!-- crate --> and <!-- slower --> and their ends are those that bench/results.txt gives.
+           bench/RESULTS.md is what bench/results.py makes of that.
            Each row that is slower than the original is in one of them.
 Pictures   Those of docs/pictures are what draw.py draws. docs.py --write makes tables and pictures anew.
 """
@@ -20,7 +21,7 @@ from pathlib import Path
 TOP = Path(__file__).resolve().parent.parent.parent
 sys.path.insert(0, str(TOP / "bench"))
 
-from results import head_of, ratio_of, rows_of  # noqa: E402 (its folder is named above)
+from results import head_of, page, ratio_of, rows_of, write_page  # noqa: E402 (its folder is named above)
 
 
 def text_of(name):
@@ -152,7 +153,7 @@ SPEED = [
     ("`add_range` and `remove_range`, 100,000 indices", "add\\_range and remove\\_range, 100,000 indices"),
 ]
 
-# README's columns: what it says, and that of RESULTS.md.
+# README's columns: what it says, and that of results.txt.
 COLUMNS = [("crate", "crate"), ("Rattle", "Rattle"), ("hibitset", "original"), ("fixedbitset", "fixedbitset"), ("CRoaring", "CRoaring"), ("`BTreeSet`", "BTreeSet")]
 
 # What is slower than the original: what README says, and the rows that it is about, in the tables `results` and `shared`.
@@ -218,7 +219,7 @@ TABLES = {"speed": speed, "slower": slower}
 
 
 def with_tables(page, results):
-    """The page with its tables as RESULTS.md gives them."""
+    """The page with its tables as results.txt gives them."""
     for name, table in TABLES.items():
         page = re.sub(
             rf"(^<!-- {name} -->\n).*?(^<!-- /{name} -->$)",
@@ -230,13 +231,15 @@ def with_tables(page, results):
 
 
 def wrong_tables(text=text_of):
-    """README's tables that are not those of RESULTS.md."""
-    page, results = text("README.md"), text("bench/RESULTS.md")
+    """README's tables that are not those of results.txt, and RESULTS.md if it is not."""
+    readme, results = text("README.md"), text("bench/results.txt")
     for name in TABLES:
-        if f"<!-- {name} -->\n" not in page:
+        if f"<!-- {name} -->\n" not in readme:
             yield "README.md", f"has no table between <!-- {name} --> and <!-- /{name} -->"
-    if with_tables(page, results) != page:
-        yield "README.md", "its tables of speed are not those of bench/RESULTS.md (docs.py --write)"
+    if with_tables(readme, results) != readme:
+        yield "README.md", "its tables of speed are not those of bench/results.txt (docs.py --write)"
+    if page(results) != text("bench/RESULTS.md"):
+        yield "bench/RESULTS.md", "is not what bench/results.py makes of bench/results.txt (docs.py --write)"
     yield from unlisted(results)
 
 
@@ -251,9 +254,10 @@ def wrong_pictures(text=text_of):
 
 
 def write_tables():
-    page = text_of("README.md")
-    new = with_tables(page, text_of("bench/RESULTS.md"))
-    if new != page:
+    write_page()
+    readme = text_of("README.md")
+    new = with_tables(readme, text_of("bench/results.txt"))
+    if new != readme:
         (TOP / "README.md").write_text(new, encoding="utf-8")
         print("docs.py: README.md: its tables of speed are written anew")
     subprocess.run([sys.executable, TOP / "docs/pictures/draw.py"], check=True)

@@ -55,10 +55,22 @@ class Repository:
         return self.listed[name]
 
     @cached_property
+    def rows(self):
+        """The crates of crates.txt: what stands behind the name of each, and what it names."""
+        rows = re.findall(r"^(\w+)([^:#\n]*): *(.*)$", text_of(self.top / "crates.txt"), re.M)
+        return {name: (kind.split(), said.split()) for name, kind, said in rows}
+
+    @cached_property
     def libraries(self):
         """The crates of crates.txt, each with the crates of this repository that it names."""
-        listed = re.findall(r"^(\w+)[^:#\n]*: *(.*)$", text_of(self.top / "crates.txt"), re.M)
-        return {name: [word for word in said.split() if (self.crates / word).is_dir()] for name, said in listed}
+        return {name: [word for word in said if (self.crates / word).is_dir()] for name, (_, said) in self.rows.items()}
+
+    def of_kit(self, name):
+        """The crates of the toolchain that a crate names."""
+        return [word for word in self.rows[name][1] if word not in self.libraries[name]]
+
+    def is_static(self, name):
+        return "staticlib" in self.rows[name][0]
 
     def at_or_below(self, name):
         found = [name]

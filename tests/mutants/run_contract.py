@@ -1,10 +1,11 @@
 #!/usr/bin/env python3
-"""run_contract.py [CRATE [FUNCTION]]: the prover must refuse the mutants of contract/.
+"""run_contract.py [--gate | CRATE [FUNCTION]]: the prover must refuse the mutants of contract/.
 
 With CRATE it tries those of one crate, with FUNCTION those below the headings `## FUNCTION` or `## TYPE::FUNCTION`. Those
 marked `gate`, which `rt ci` tries, are left out where no function is named. It works in a copy of the repository, whose
 edits it makes of the tables. Where no function is named, mutants of different functions are tried in one check
-(rounds.py); what that leaves undecided is tried alone. Behind each refusal it says what refused: a clause, a condition (what
+(rounds.py); what that leaves undecided is tried alone. With --gate it tries those marked `single`, each by a check of its
+function alone over the libraries that `rt ci` has just proved (single.py). Behind each refusal it says what refused: a clause, a condition (what
 a call or an operation requires), an invariant (or a measure) of a loop or a type, a limit of the prover, or the shape of a
 proof file, which says nothing of the contract: such a mutant has to become a twin.
 """
@@ -19,7 +20,7 @@ TOP = Path(__file__).resolve().parent.parent.parent
 sys.path.insert(0, str(TOP / "tests"))
 
 from checks.repository import Repository  # noqa: E402
-from mutants import edits, rounds, tables  # noqa: E402
+from mutants import edits, rounds, single, tables  # noqa: E402
 
 KINDS = (
     (r"\(only by a limit of the prover", "a limit of the prover"),
@@ -106,7 +107,44 @@ def attempt(work, names):
     return ran.wait()
 
 
+def attempt_each(repository, found):
+    """Tries each mutant by a check of its function alone. Returns 1 if one of them is not refused."""
+    missed = 0
+    for name, mutant, kind in single.outcomes(repository, found):
+        print(f"{name}/{mutant.name}: {f'refused by {kind}' if kind else 'NOT REFUSED'}", flush=True)
+        missed += kind is None or kind == rounds.SHAPE
+    print(f"run_contract.py: {len(found) - missed} of {len(found)} refused, as they must be")
+    return 1 if missed else 0
+
+
+def attempt_in_copy(found, at_once):
+    """Tries the mutants of each crate in a copy of the repository, those of different functions at once where that is asked for."""
+    with tempfile.TemporaryDirectory() as folder:
+        work = Path(folder)
+        copy(work)
+        left = {name: together(work, name, mutants) if at_once else mutants for name, mutants in found.items()}
+        for name, mutants in left.items():
+            write(work, name, mutants)
+        names = names_with(left)
+        return attempt(work, names) if names else 0
+
+
+def names_with(found):
+    return [name for name, mutants in found.items() if mutants]
+
+
+def gate():
+    """Tries the mutants marked `single`."""
+    found = {name: [mutant for mutant in tables.mutants_of(name) if mutant.is_single] for name in tables.crates()}
+    repository = Repository(TOP)
+    if single.can_try(repository, names_with(found)):
+        return attempt_each(repository, [(name, mutant) for name, mutants in found.items() for mutant in mutants])
+    return attempt_in_copy({name: found[name] for name in names_with(found)}, at_once=False)
+
+
 def main():
+    if sys.argv[1:] == ["--gate"]:
+        return gate()
     crate, function = (*sys.argv[1:3], None, None)[:2]
     names = [crate] if crate else tables.crates()
     if len(sys.argv) > 3 or not set(names) <= set(tables.crates()):
@@ -114,14 +152,7 @@ def main():
     found = {name: chosen(tables.mutants_of(name), function) for name in names}
     if not any(found.values()):
         sys.exit(f"run_contract.py: no heading of {crate} is {function}")
-    with tempfile.TemporaryDirectory() as folder:
-        work = Path(folder)
-        copy(work)
-        left = {name: mutants if function else together(work, name, mutants) for name, mutants in found.items()}
-        for name, mutants in left.items():
-            write(work, name, mutants)
-        names = [name for name in names if left[name]]
-        return attempt(work, names) if names else 0
+    return attempt_in_copy(found, at_once=not function)
 
 
 if __name__ == "__main__":

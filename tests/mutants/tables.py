@@ -15,7 +15,7 @@ from dataclasses import dataclass, field
 from pathlib import Path
 
 CONTRACT = Path(__file__).resolve().parent / "contract"
-NAME = re.compile(r"(\w+)(?:: (twin|gate|twin, gate))?$")
+NAME = re.compile(r"(\w+)(?:: (twin|(?:twin, )?(?:gate|single)))?$")
 OF_TWINS = ("before", "with", "for", "parts")
 
 
@@ -38,6 +38,7 @@ class Mutant:
     file: str
     is_twin: bool = False
     is_gate: bool = False
+    is_single: bool = False
     pairs: list = field(default_factory=list)  # file, old text, new text
     body: list = field(default_factory=list)
     said: dict = field(default_factory=dict)  # what its lines before:, with:, for: and parts: say
@@ -77,11 +78,11 @@ class Reader:
         self.close()
         named = NAME.match(line)
         if not named:
-            self.fail(f"is no NAME, NAME: twin, NAME: gate or NAME: twin, gate: {line}")
+            self.fail(f"is no NAME, and no NAME with twin, gate or single behind it: {line}")
         if not self.function:
             self.fail(f"{named[1]} stands under no heading ## FUNCTION")
         marks = named[2] or ""
-        self.found.append(Mutant(named[1], self.function, self.table, self.number, self.file, "twin" in marks, "gate" in marks))
+        self.found.append(Mutant(named[1], self.function, self.table, self.number, self.file, "twin" in marks, "gate" in marks, "single" in marks))
         self.into, self.last = self.file, ""
 
     def close(self):

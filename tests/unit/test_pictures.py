@@ -7,6 +7,7 @@ from checks import release
 sys.path.insert(0, str(release.TOP / "docs/pictures"))
 
 import diagrams  # noqa: E402 (its folder is named above)
+import parallel  # noqa: E402
 import plots  # noqa: E402
 
 
@@ -23,6 +24,12 @@ class Pictures(unittest.TestCase):
         for title, pattern in plots.PANELS:
             for column, *_ in plots.SETS:
                 self.assertGreaterEqual(len(plots.points(pattern, rows, column)), 3, f"{title}: {column}")
+
+    def test_parallel(self):
+        for table, kinds in (("threads", parallel.SETS), ("steps", parallel.STEPS)):
+            rows = list(parallel.measured(table))
+            self.assertEqual({members for *_, members, _ in rows if members < 10**6} & {10**4, 10**5}, {10**4, 10**5})
+            self.assertEqual({kind for _, kind, *_ in rows}, {name.split(", ")[-1] for name in kinds})
 
     def test_crates(self):
         named = {"low": ["rayon"], "middle": ["low"], "beside": ["low"], "high": ["middle", "low"]}

@@ -61,21 +61,22 @@ class Faults(unittest.TestCase):
     def test_speed(self):
         self.finds(release.wrong_tables, "README.md", "| contains, hit | index | ", "| contains, hit | index | 1", "not those of")
         self.finds(release.wrong_tables, "README.md", "<!-- slower -->", "", "no table between")
-        self.finds(release.wrong_tables, "bench/RESULTS.md", "| walk, dense, 1M of 1M | ", "| walk, dense, 1M of 1M | 1", "not those of")
+        self.finds(release.wrong_tables, "bench/results.txt", "| walk, dense, 1M of 1M | ", "| walk, dense, 1M of 1M | 1", "not those of")
+        self.finds(release.wrong_tables, "bench/RESULTS.md", "| walk | ", "| walk | 1", "is not what bench/results.py makes")
 
     def test_pictures(self):
         self.finds(release.wrong_pictures, "docs/pictures/ratios.svg", "<circle", "<circles", "is not what draw.py draws")
 
     def test_a_slower_row(self):
         slow = "| walk, dense, 1M of 1M | 1.25 | 1.00 | 1.25 * |"
-        results = re.sub(r"^\| walk, dense, 1M of 1M (\| [^|]*){3}\|", slow, release.text_of("bench/RESULTS.md"), flags=re.M)
+        results = re.sub(r"^\| walk, dense, 1M of 1M (\| [^|]*){3}\|", slow, release.text_of("bench/results.txt"), flags=re.M)
         said = [words for _, words in release.unlisted(results)]
         self.assertEqual(len(said), 1)
         self.assertIn("1.25", said[0])
 
     def test_a_row_that_is_gone(self):
-        results = release.text_of("bench/RESULTS.md").replace("| contains, miss |", "| contains nothing |")
-        self.assertEqual(release.speed(results), release.speed(release.text_of("bench/RESULTS.md")))
+        results = release.text_of("bench/results.txt").replace("| contains, miss |", "| contains nothing |")
+        self.assertEqual(release.speed(results), release.speed(release.text_of("bench/results.txt")))
         with self.assertRaises(KeyError):
             release.speed(results.replace("| contains, hit |", "| contains something |"))
 

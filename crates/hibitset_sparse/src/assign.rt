@@ -5,11 +5,11 @@ ghost use Rattle.hibitset_base.specs.Members.{members_below};
 ghost use Rattle.hibitset_base.specs.declared.util.TheConstants.{MAX_EID};
 ghost use Rattle.hibitset_sparse.specs.SparseBitSet.{has};
 
-use crate::gather::chunks_of;
+use crate::gather::{chunks_from, chunks_of};
 use crate::kept::{Alone, Both};
+use crate::merge::{MergedWith, SymmetricDifference, Union};
 use crate::set::SparseBitSet;
 use hibitset_base::like::BitSetLike;
-use hibitset_base::virt::{BitSetOr, BitSetXor};
 use std::alloc::{AllocError, Global};
 use std::ops::{BitAndAssign, SubAssign};
 
@@ -27,7 +27,7 @@ impl SparseBitSet {
     pub fn from_set<B: BitSetLike>(alloc: Global, other: &B) -> Result<SparseBitSet, AllocError>
         ensures { IfOk result (λ set. (i : ℕ) → has set i ≡ is_member (B.holds other.now) i) }
     {
-        let chunks = chunks_of(alloc, other, other)?;
+        let chunks = chunks_of(alloc, other)?;
         Ok(SparseBitSet::of_chunks(chunks))
     }
 
@@ -39,8 +39,9 @@ impl SparseBitSet {
     ///
     /// # Cost
     ///
-    /// Only chunks in which the other has members are made anew, each beside its old form. If one of them is new, so is
-    /// the list of all chunks, 56 bytes each.
+    /// - It goes through the words of both sets once, in the chunks in which the other has members.
+    /// - These are made anew, each beside its old form and the words of the other. If one of them is new, so is the list
+    ///   of all chunks, 56 bytes each.
     pub fn bitor_assign<B: BitSetLike>(&mut self, other: &B) -> Result<(), AllocError>
         ensures members { OnOk result (IsUnion (has self.old) (is_member (B.holds other.now))
             (has self.new)) }
@@ -51,7 +52,12 @@ impl SparseBitSet {
             return Ok(());
         }
         let alloc = self.allocator();
-        let chunks = chunks_of(alloc, &BitSetOr(&*self, other), other)?;
+        let merged = MergedWith {
+            own: &*self,
+            other,
+            by: Union,
+        };
+        let chunks = chunks_from(alloc, &merged, other)?;
         self.put_chunks(chunks)
     }
 
@@ -74,7 +80,12 @@ impl SparseBitSet {
             return Ok(());
         }
         let alloc = self.allocator();
-        let chunks = chunks_of(alloc, &BitSetXor(&*self, other), other)?;
+        let merged = MergedWith {
+            own: &*self,
+            other,
+            by: SymmetricDifference,
+        };
+        let chunks = chunks_from(alloc, &merged, other)?;
         self.put_chunks(chunks)
     }
 

@@ -18,7 +18,7 @@ ghost use Rattle.hibitset_sparse.specs.declared.table.TheConstants.{PLACES_PER_T
 ghost use Rattle.hibitset_sparse.specs.declared.chunk.TheConstants.{INDICES_PER_CHUNK};
 
 use crate::chunk::Chunk;
-use crate::gather::{ChunkSource, chunks_from};
+use crate::gather::{ChunkSource, chunk_of, chunks_from};
 use crate::group::Group;
 use crate::group_view::GroupView;
 use crate::kept::{AloneSparse, BothSparse};
@@ -26,12 +26,12 @@ use crate::packed_array::PackedArray;
 use crate::rank::{is_set, take_lowest};
 use crate::set::SparseBitSet;
 use crate::table::{GROUPS_PER_TABLE, PLACES_PER_TABLE, Table};
-use hibitset_base::bits::with_bit;
+use hibitset_base::bits::{take_bit, with_bit};
 use hibitset_base::like::BitSetLike;
 use std::alloc::{AllocError, Global};
 
 /// A way to put two sets together, index by index.
-trait Merge: Drop {
+pub(crate) trait Merge: Drop {
     // Whether an index is there, by whether it is in the one and in the other.
     ghost test: { Bool → Bool → Bool };
 
@@ -58,7 +58,7 @@ trait Merge: Drop {
 
 /// What is in one or both.
 #[derive(Drop)]
-struct Union;
+pub(crate) struct Union;
 
 impl Merge for Union {
     ghost test = { λ a b. a || b };
@@ -84,7 +84,7 @@ impl Merge for Union {
 
 /// What is in one alone.
 #[derive(Drop)]
-struct SymmetricDifference;
+pub(crate) struct SymmetricDifference;
 
 impl Merge for SymmetricDifference {
     ghost test = { λ a b. differ a b };
@@ -126,15 +126,14 @@ fn take_word(view: &GroupView<'_>, bit: usize, at: &mut usize) -> usize
 
 // Appends the nonzero words that two groups give, and returns which of the 64 they are, as bits.
 #[inline]
-fn push_words<M: Merge>(items: &mut Vec<usize>, own: &GroupView<'_>, other: &GroupView<'_>) -> usize
-    requires room { length items.old.items + (count_ones own.now.word + count_ones other.now.word)
-        ≤ vec_capacity items.old }
+fn push_words<M: Merge>(
+    items: &mut Vec<usize>,
+    own: &GroupView<'_>,
+    other: &GroupView<'_>,
+) -> Result<usize, AllocError>
     ensures before { BeginsWith items.old.items items.new.items }
-    ensures pushed { AreWordsFrom (length items.old.items) result items.new.items
-        (λ b. M.merged (view_word own.now 0 b) (view_word other.now 0 b)) }
-    ensures few { length items.new.items ≤ length items.old.items
-        + (count_ones own.now.word + count_ones other.now.word) }
-    ensures capacity { vec_capacity items.new ≡ vec_capacity items.old }
+    ensures pushed { IfOk result (λ bits. AreWordsFrom (length items.old.items) bits items.new.items
+        (λ b. M.merged (view_word own.now 0 b) (view_word other.now 0 b))) }
 {
     let mut left = own.word | other.word;
     let mut own_at = own.start;
@@ -146,11 +145,11 @@ fn push_words<M: Merge>(items: &mut Vec<usize>, own: &GroupView<'_>, other: &Gro
         let second = take_word(other, bit, &mut other_at);
         let word = M::merged_word(first, second);
         if word != 0 {
-            items.push_reserved(word);
+            items.push(word)?;
             bits = with_bit(bits, bit, true);
         }
     }
-    bits
+    Ok(bits)
 }
 
 // Appends group q, made of a group of each, where no group is there from q on.
@@ -164,8 +163,6 @@ fn push_merged<M: Merge>(
 ) -> Result<(), AllocError>
     requires group { q < GROUPS_PER_TABLE }
     requires made { IsMadeUpTo q (value_in groups.old) items.old.items }
-    requires room { length items.old.items + (count_ones own.now.word + count_ones other.now.word)
-        ≤ vec_capacity items.old }
     ensures made { OnOk result (IsMadeUpTo (q + 1) (value_in groups.new) items.new.items) }
     ensures pushed { OnOk result ((p : ℕ) → p < PLACES_PER_TABLE → p / 64 ≡ q
         → IsWordOf M.test (view_has own.now) (view_has other.now) (64 * (p % 64))
@@ -173,16 +170,25 @@ fn push_merged<M: Merge>(
     ensures others { OnOk result ((p : ℕ) → p < PLACES_PER_TABLE → p / 64 ≢ q
         → value_of_place (value_in groups.new) items.new.items p
         ≡ value_of_place (value_in groups.old) items.old.items p) }
-    ensures few { OnOk result (length items.new.items ≤ length items.old.items
-        + (count_ones own.now.word + count_ones other.now.word)) }
-    ensures capacity { OnOk result (vec_capacity items.new ≡ vec_capacity items.old) }
 {
     let start = items.len();
-    let word = push_words::<M>(items, own, other);
+    let word = push_words::<M>(items, own, other)?;
     if word == 0 {
         return Ok(());
     }
     groups.push(q, Group { word, start })
+}
+
+// In how many places two chunks have words.
+fn count_places(own: &Chunk, other: &Chunk) -> usize {
+    let mut count: u32 = 0;
+    let mut left = own.layer2() | other.layer2();
+    'groups: while left != 0 {
+        let q = take_bit(&mut left);
+        let places = own.layer1(q) | other.layer1(q);
+        count = count.saturating_add(places.count_ones());
+    }
+    count as usize
 }
 
 // A chunk made of two.
@@ -194,7 +200,7 @@ fn merge_chunks<M: Merge>(alloc: Global, own: &Chunk, other: &Chunk) -> Result<C
     let mut items = Vec::new(alloc);
     let mut left = M::merged_bits(own.layer2(), other.layer2());
     groups.reserve(left.count_ones() as usize)?;
-    items.reserve(own.words.items.len() + other.words.items.len())?;
+    items.reserve(count_places(own, other))?;
     'groups: while left != 0 {
         let q = take_lowest(&mut left);
         let of_own = GroupView::of(own, q);
@@ -238,6 +244,26 @@ impl<M: Merge> ChunkSource for Merged<'_, M> {
             return other.clone();
         }
         merge_chunks::<M>(alloc, own, other)
+    }
+}
+
+/// The chunks of a set put together with any other set.
+#[derive(Drop)]
+pub(crate) struct MergedWith<'a, B: BitSetLike, M: Merge> {
+    pub(crate) own: &'a SparseBitSet,
+    pub(crate) other: &'a B,
+    pub(crate) by: M,
+}
+
+impl<B: BitSetLike, M: Merge> ChunkSource for MergedWith<'_, B, M> {
+    ghost holds = { λ s i. M.test (has s.own.now i) (B.holds s.other.now i) };
+
+    fn make_chunk(&self, alloc: Global, c: usize) -> Result<Chunk, AllocError> {
+        let other = chunk_of(alloc, self.other, c)?;
+        match self.own.chunks.get(c) {
+            Some(own) => merge_chunks::<M>(alloc, own, &other),
+            None => Ok(other),
+        }
     }
 }
 

@@ -191,7 +191,7 @@ fn flip_range(rt: HostRuntime) -> Result<(), AllocError> {
 }
 
 // One chunk is in both sets, and one is new.
-// allocates: 8, 768 bytes: hibitset_sparse::SparseBitSet::bitor_assign
+// allocates: 10, 864 bytes: hibitset_sparse::SparseBitSet::bitor_assign
 #[test]
 fn bitor_assign(rt: HostRuntime) -> Result<(), AllocError> {
     let growth = Growth {
@@ -207,7 +207,7 @@ fn bitor_assign(rt: HostRuntime) -> Result<(), AllocError> {
 }
 
 // One chunk is emptied, and one is new.
-// allocates: 8, 768 bytes: hibitset_sparse::SparseBitSet::bitxor_assign
+// allocates: 10, 864 bytes: hibitset_sparse::SparseBitSet::bitxor_assign
 #[test]
 fn bitxor_assign(rt: HostRuntime) -> Result<(), AllocError> {
     let growth = Growth {

@@ -4,11 +4,11 @@
 
 use crate::support::rattle_std::prelude::*;
 
-use crate::derived::hibitset_sparse::gather::chunks_of;
+use crate::derived::hibitset_sparse::gather::{chunks_from, chunks_of};
 use crate::derived::hibitset_sparse::kept::{Alone, Both};
+use crate::derived::hibitset_sparse::merge::{MergedWith, SymmetricDifference, Union};
 use crate::derived::hibitset_sparse::set::SparseBitSet;
 use crate::derived::hibitset_base::like::BitSetLike;
-use crate::derived::hibitset_base::virt::{BitSetOr, BitSetXor};
 use crate::support::rattle_std::alloc::{AllocError, Global};
 use crate::support::rattle_std::ops::{BitAndAssign, SubAssign};
 
@@ -30,7 +30,7 @@ impl SparseBitSet {
     /// ensures { IfOk result (λ set. (i : ℕ) → has set i ≡ is_member (B.holds other.now) i) }
     /// ```
     pub fn from_set<B: BitSetLike>(alloc: Global, other: &B) -> Result<SparseBitSet, AllocError> {
-        let chunks = chunks_of(alloc, other, other)?;
+        let chunks = chunks_of(alloc, other)?;
         Ok(SparseBitSet::of_chunks(chunks))
     }
 
@@ -42,8 +42,9 @@ impl SparseBitSet {
     ///
     /// # Cost
     ///
-    /// Only chunks in which the other has members are made anew, each beside its old form. If one of them is new, so is
-    /// the list of all chunks, 56 bytes each.
+    /// - It goes through the words of both sets once, in the chunks in which the other has members.
+    /// - These are made anew, each beside its old form and the words of the other. If one of them is new, so is the list
+    ///   of all chunks, 56 bytes each.
     ///
     /// # Contract
     ///
@@ -58,7 +59,12 @@ impl SparseBitSet {
             return Ok(());
         }
         let alloc = self.allocator();
-        let chunks = chunks_of(alloc, &BitSetOr(&*self, other), other)?;
+        let merged = MergedWith {
+            own: &*self,
+            other,
+            by: Union,
+        };
+        let chunks = chunks_from(alloc, &merged, other)?;
         self.put_chunks(chunks)
     }
 
@@ -85,7 +91,12 @@ impl SparseBitSet {
             return Ok(());
         }
         let alloc = self.allocator();
-        let chunks = chunks_of(alloc, &BitSetXor(&*self, other), other)?;
+        let merged = MergedWith {
+            own: &*self,
+            other,
+            by: SymmetricDifference,
+        };
+        let chunks = chunks_from(alloc, &merged, other)?;
         self.put_chunks(chunks)
     }
 

@@ -21,13 +21,12 @@ fn push_words<S: BitSetLike>(
     position: usize,
 ) -> Result<usize, AllocError> {
     let mut places = set.layer1(position);
-    items.reserve(places.count_ones() as usize)?;
     let mut bits = 0;
     'places: while places != 0 {
         let bit = take_lowest(&mut places);
         let word = set.layer0(64 * position + bit);
         if word != 0 {
-            items.push_reserved(word);
+            items.push(word)?;
             bits = with_bit(bits, bit, true);
         }
     }
@@ -66,12 +65,31 @@ pub(crate) fn push_group<S: BitSetLike>(
     groups.push(q, Group { word, start })
 }
 
-// What a set has of the indices of chunk c.
-fn chunk_of<S: BitSetLike>(alloc: Global, set: &S, c: usize) -> Result<Chunk, AllocError> {
+// How many words a set may have that are nonzero, of those of chunk c.
+fn count_places<S: BitSetLike>(set: &S, c: usize) -> usize {
+    let mut count: u32 = 0;
+    let mut left = set.layer2(c);
+    'groups: while left != 0 {
+        let places = set.layer1(GROUPS_PER_TABLE * c + take_bit(&mut left));
+        count = count.saturating_add(places.count_ones());
+    }
+    count as usize
+}
+
+/// What a set has of the indices of chunk c.
+///
+/// # Contract
+///
+/// ```text
+/// requires { c < PLACES_PER_TABLE }
+/// ensures { IfOk result (IsChunkOf (S.holds set.now) c) }
+/// ```
+pub(crate) fn chunk_of<S: BitSetLike>(alloc: Global, set: &S, c: usize) -> Result<Chunk, AllocError> {
     let mut groups = PackedArray::new(alloc);
     let mut items = Vec::new(alloc);
     let mut left = set.layer2(c);
     groups.reserve(left.count_ones() as usize)?;
+    items.reserve(count_places(set, c))?;
     'groups: while left != 0 {
         let q = take_lowest(&mut left);
         push_group(&mut groups, &mut items, set, GROUPS_PER_TABLE * c + q, q)?;
@@ -143,17 +161,13 @@ pub(crate) fn chunks_from<S: ChunkSource, T: BitSetLike>(
     Ok(chunks)
 }
 
-/// The chunks of a set: those in which `touched` has a member, and maybe others.
+/// The chunks of a set: those in which it has a member, and maybe others.
 ///
 /// # Contract
 ///
 /// ```text
-/// ensures { IfOk result (AreChunksOf (S.holds set.now) (T.holds touched.now)) }
+/// ensures { IfOk result (AreChunksOf (S.holds set.now) (S.holds set.now)) }
 /// ```
-pub(crate) fn chunks_of<S: BitSetLike, T: BitSetLike>(
-    alloc: Global,
-    set: &S,
-    touched: &T,
-) -> Result<Table<Chunk>, AllocError> {
-    chunks_from(alloc, &ChunksOfSet(set), touched)
+pub(crate) fn chunks_of<S: BitSetLike>(alloc: Global, set: &S) -> Result<Table<Chunk>, AllocError> {
+    chunks_from(alloc, &ChunksOfSet(set), set)
 }

@@ -5,7 +5,7 @@
 use crate::support::rattle_std::prelude::*;
 
 use crate::derived::hibitset_sparse::chunk::Chunk;
-use crate::derived::hibitset_sparse::gather::{ChunkSource, chunks_from};
+use crate::derived::hibitset_sparse::gather::{ChunkSource, chunk_of, chunks_from};
 use crate::derived::hibitset_sparse::group::Group;
 use crate::derived::hibitset_sparse::group_view::GroupView;
 use crate::derived::hibitset_sparse::kept::{AloneSparse, BothSparse};
@@ -13,12 +13,12 @@ use crate::derived::hibitset_sparse::packed_array::PackedArray;
 use crate::derived::hibitset_sparse::rank::{is_set, take_lowest};
 use crate::derived::hibitset_sparse::set::SparseBitSet;
 use crate::derived::hibitset_sparse::table::{GROUPS_PER_TABLE, PLACES_PER_TABLE, Table};
-use crate::derived::hibitset_base::bits::with_bit;
+use crate::derived::hibitset_base::bits::{take_bit, with_bit};
 use crate::derived::hibitset_base::like::BitSetLike;
 use crate::support::rattle_std::alloc::{AllocError, Global};
 
 /// A way to put two sets together, index by index.
-trait Merge {
+pub(crate) trait Merge {
     /// The bits over which there may be something, of those of the two.
     ///
     /// # Contract
@@ -39,7 +39,7 @@ trait Merge {
 }
 
 /// What is in one or both.
-struct Union;
+pub(crate) struct Union;
 
 impl Merge for Union {
     #[inline]
@@ -54,7 +54,7 @@ impl Merge for Union {
 }
 
 /// What is in one alone.
-struct SymmetricDifference;
+pub(crate) struct SymmetricDifference;
 
 impl Merge for SymmetricDifference {
     #[inline]
@@ -81,7 +81,11 @@ fn take_word(view: &GroupView<'_>, bit: usize, at: &mut usize) -> usize {
 
 // Appends the nonzero words that two groups give, and returns which of the 64 they are, as bits.
 #[inline]
-fn push_words<M: Merge>(items: &mut Vec<usize>, own: &GroupView<'_>, other: &GroupView<'_>) -> usize {
+fn push_words<M: Merge>(
+    items: &mut Vec<usize>,
+    own: &GroupView<'_>,
+    other: &GroupView<'_>,
+) -> Result<usize, AllocError> {
     let mut left = own.word | other.word;
     let mut own_at = own.start;
     let mut other_at = other.start;
@@ -92,11 +96,11 @@ fn push_words<M: Merge>(items: &mut Vec<usize>, own: &GroupView<'_>, other: &Gro
         let second = take_word(other, bit, &mut other_at);
         let word = M::merged_word(first, second);
         if word != 0 {
-            items.push_reserved(word);
+            items.push(word)?;
             bits = with_bit(bits, bit, true);
         }
     }
-    bits
+    Ok(bits)
 }
 
 // Appends group q, made of a group of each, where no group is there from q on.
@@ -109,11 +113,23 @@ fn push_merged<M: Merge>(
     q: usize,
 ) -> Result<(), AllocError> {
     let start = items.len();
-    let word = push_words::<M>(items, own, other);
+    let word = push_words::<M>(items, own, other)?;
     if word == 0 {
         return Ok(());
     }
     groups.push(q, Group { word, start })
+}
+
+// In how many places two chunks have words.
+fn count_places(own: &Chunk, other: &Chunk) -> usize {
+    let mut count: u32 = 0;
+    let mut left = own.layer2() | other.layer2();
+    'groups: while left != 0 {
+        let q = take_bit(&mut left);
+        let places = own.layer1(q) | other.layer1(q);
+        count = count.saturating_add(places.count_ones());
+    }
+    count as usize
 }
 
 // A chunk made of two.
@@ -122,7 +138,7 @@ fn merge_chunks<M: Merge>(alloc: Global, own: &Chunk, other: &Chunk) -> Result<C
     let mut items = Vec::new(alloc);
     let mut left = M::merged_bits(own.layer2(), other.layer2());
     groups.reserve(left.count_ones() as usize)?;
-    items.reserve(own.words.items.len() + other.words.items.len())?;
+    items.reserve(count_places(own, other))?;
     'groups: while left != 0 {
         let q = take_lowest(&mut left);
         let of_own = GroupView::of(own, q);
@@ -158,6 +174,23 @@ impl<M: Merge> ChunkSource for Merged<'_, M> {
             return other.try_clone();
         }
         merge_chunks::<M>(alloc, own, other)
+    }
+}
+
+/// The chunks of a set put together with any other set.
+pub(crate) struct MergedWith<'a, B: BitSetLike, M: Merge> {
+    pub(crate) own: &'a SparseBitSet,
+    pub(crate) other: &'a B,
+    pub(crate) by: M,
+}
+
+impl<B: BitSetLike, M: Merge> ChunkSource for MergedWith<'_, B, M> {
+    fn make_chunk(&self, alloc: Global, c: usize) -> Result<Chunk, AllocError> {
+        let other = chunk_of(alloc, self.other, c)?;
+        match self.own.chunks.get(c) {
+            Some(own) => merge_chunks::<M>(alloc, own, &other),
+            None => Ok(other),
+        }
     }
 }
 

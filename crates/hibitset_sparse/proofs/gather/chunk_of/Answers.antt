@@ -1,4 +1,4 @@
-use Rattle.std.proofs.Common.{◌≡◌, ◌/◌, ◌%◌, sym, ◌∙◌, ap, arith}
+use Rattle.std.proofs.Common.{◌≡◌, ◌/◌, ◌%◌, length, sym, ◌∙◌, ap, arith}
 use Rattle.std.specs.Int.{bit_at}
 use Rattle.std.specs.List.{slice_get}
 use Rattle.std.proofs.lemmas.Nat.Bits.{bit_at-zero}
@@ -11,8 +11,9 @@ use Rattle.hibitset_sparse.proofs.gather.chunk_of.Goals as goal
 pub groups-init : goal.groups-init
 groups-init g c =
     let word = g.S.BitSetLike.word c.args.set.now in
-    groups-first c.layer2-left.result (value_in c.reserve.new.self) c.new-items.result.items _
-    (let none = c.new-items.ensures.len in omega (arith, none, c.new-items.result.ok.0))
+    let empty : length c.reserve-2.new.self.items ≡ length c.new-items.result.items = ap length c.reserve-2.ensures.items in
+    groups-first c.layer2-left.result (value_in c.reserve.new.self) c.reserve-2.new.self.items _
+    (let none = c.new-items.ensures.len in omega (arith, none, empty, c.new-items.result.ok.0))
     (λ p. ap (λ w. value_from (slice_get c.reserve.new.self.items.items) w p) c.reserve.ensures.word
     ∙ (ap (λ xs. value_from (slice_get xs) c.new-groups.result.word p) c.reserve.ensures.items ∙ c.new-groups.ensures.none p))
     (λ p low off b few. holds-clear (g.S.BitSetLike.holds c.args.set.now) word (g.met.S.BitSetLike.lawful c.args.set.now) c.args.c p b c.requires low few

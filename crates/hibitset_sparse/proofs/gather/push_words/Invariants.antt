@@ -1,6 +1,4 @@
-use Rattle.std.proofs.Common.{◌+◌, ◌*◌, ◌^◌, ◌<◌, ◌≤◌, length}
-use Rattle.std.specs.Prelude.{vec_capacity}
-use Rattle.std.specs.Int.RustNames.{count_ones}
+use Rattle.std.proofs.Common.{◌+◌, ◌*◌, ◌^◌, ◌<◌, length}
 use Rattle.hibitset_sparse.specs.Parts.{BeginsWith}
 use Rattle.hibitset_sparse.proofs.AppendLemmas.{AreBeingPushed}
 use Rattle.hibitset_sparse.proofs.gather.push_words.Given as goal
@@ -9,7 +7,6 @@ abbrev pub invariant-places : goal.invariant-places
 invariant-places g l = record {
   before : BeginsWith l.fn.items.items l.items.items;
   fits : l.bits < 2 ^ 64;
-  room : length l.items.items + count_ones l.places ≤ vec_capacity l.items;
   pushed : AreBeingPushed (length l.fn.items.items) l.places l.bits l.items.items (λ b. g.S.BitSetLike.word l.fn.set 0 (64 * l.fn.position + b));
 }
 

@@ -6,24 +6,18 @@ use Rattle.hibitset_sparse.specs.Layout.{value_of_place}
 use Rattle.hibitset_sparse.specs.PackedArray.{value_in}
 use Rattle.hibitset_sparse.specs.Rank.{value_from}
 use Rattle.hibitset_sparse.proofs.AppendLemmas.{TakesLowest, groups-first, group-made}
-use Rattle.hibitset_sparse.proofs.MergeLemmas.{few-first, few-next, few-room, word-of-group, word-skipped}
+use Rattle.hibitset_sparse.proofs.MergeLemmas.{word-of-group, word-skipped}
 use Rattle.hibitset_sparse.proofs.merge.merge_chunks.Goals as goal
 
 pub groups-init : goal.groups-init
 groups-init g c =
     let empty : length c.reserve-2.new.self.items ≡ length c.new-items.result.items = ap length c.reserve-2.ensures.items in
-    record {
-      made = groups-first c.merged_bits-left.result (value_in c.reserve.new.self) c.reserve-2.new.self.items _
-          (let none = c.new-items.ensures.len in omega (arith, none, empty, c.new-items.result.ok.0))
-          (λ p. ap (λ w. value_from (slice_get c.reserve.new.self.items.items) w p) c.reserve.ensures.word
-          ∙ (ap (λ xs. value_from (slice_get xs) c.new-groups.result.word p) c.reserve.ensures.items ∙ c.new-groups.ensures.none p))
-          (λ p low off. word-skipped g.M.Merge.test c.args.own.now c.args.other.now c.layer2.result c.layer2-2.result c.merged_bits-left.result p
-          c.layer2.ensures c.layer2-2.ensures c.merged_bits-left.ensures low off);
-      few = few-first c.args.own.now c.args.other.now c.merged_bits-left.result (length c.reserve-2.new.self.items)
-          (let none = c.new-items.ensures.len in omega (arith, none, empty, c.new-items.result.ok.0));
-      room = (let ok = c.in_ok-reserve-2.ensures.ok in let first = c.len.ensures in let second = c.len-2.ensures in
-          omega (arith, ok, first, second, c.args.own.now.words.items.ok.0, c.args.other.now.words.items.ok.0));
-    }
+    groups-first c.merged_bits-left.result (value_in c.reserve.new.self) c.reserve-2.new.self.items _
+    (let none = c.new-items.ensures.len in omega (arith, none, empty, c.new-items.result.ok.0))
+    (λ p. ap (λ w. value_from (slice_get c.reserve.new.self.items.items) w p) c.reserve.ensures.word
+    ∙ (ap (λ xs. value_from (slice_get xs) c.new-groups.result.word p) c.reserve.ensures.items ∙ c.new-groups.ensures.none p))
+    (λ p low off. word-skipped g.M.Merge.test c.args.own.now c.args.other.now c.layer2.result c.layer2-2.result c.merged_bits-left.result p
+    c.layer2.ensures c.layer2-2.ensures c.merged_bits-left.ensures low off)
 
 pub groups-preserved : goal.groups-preserved
 groups-preserved g c =
@@ -36,31 +30,10 @@ groups-preserved g c =
       gone = bit.gone;
       same = bit.same;
     } in
-    let count = length c.groups.items.items in
-    record {
-      made = group-made c.groups.left c.take_lowest-q.new.word c.take_lowest-q.result (value_in c.groups.groups) c.groups.items.items _ takes c.groups.invariant.made
-          (value_in c.push_merged.new.groups) c.push_merged.new.items.items made.made
-          (λ p low here. word-of-group g.M.Merge.test c.args.own.now c.args.other.now (view_has c.of-of_own.result)
-          (view_has c.of-of_other.result) c.take_lowest-q.result p
-          (or_zero (value_of_place (value_in c.push_merged.new.groups) c.push_merged.new.items.items p)) here c.of-of_own.ensures.members c.of-of_other.ensures.members
-          (made.pushed p low here))
-          made.others;
-      few = few-next c.args.own.now c.args.other.now c.groups.left c.take_lowest-q.new.word c.take_lowest-q.result c.of-of_own.result.word c.of-of_other.result.word
-          count takes c.groups.invariant.few c.of-of_own.ensures.word c.of-of_other.ensures.word (length c.push_merged.new.items.items) made.few;
-      room = (let room = c.groups.invariant.room in let same = made.capacity in omega (arith, room, same));
-    }
-
-pub push_merged-requires-clause-room : goal.push_merged-requires-clause-room
-push_merged-requires-clause-room g c =
-    let bit = c.take_lowest-q.ensures in
-    let takes : TakesLowest c.groups.left c.take_lowest-q.new.word c.take_lowest-q.result = record {
-      below = bit.below;
-      stood = bit.stood;
-      lowest = bit.lowest;
-      gone = bit.gone;
-      same = bit.same;
-    } in
-    let few = few-room c.args.own.now c.args.other.now c.groups.left c.take_lowest-q.new.word c.take_lowest-q.result c.of-of_own.result.word
-    c.of-of_other.result.word (length c.groups.items.items) takes c.groups.invariant.few c.of-of_own.ensures.word c.of-of_other.ensures.word in
-    let room = c.groups.invariant.room in
-    omega (arith, few, room)
+    group-made c.groups.left c.take_lowest-q.new.word c.take_lowest-q.result (value_in c.groups.groups) c.groups.items.items _ takes c.groups.invariant
+    (value_in c.push_merged.new.groups) c.push_merged.new.items.items made.made
+    (λ p low here. word-of-group g.M.Merge.test c.args.own.now c.args.other.now (view_has c.of-of_own.result)
+    (view_has c.of-of_other.result) c.take_lowest-q.result p
+    (or_zero (value_of_place (value_in c.push_merged.new.groups) c.push_merged.new.items.items p)) here c.of-of_own.ensures.members c.of-of_other.ensures.members
+    (made.pushed p low here))
+    made.others

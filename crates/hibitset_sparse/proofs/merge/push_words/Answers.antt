@@ -3,8 +3,8 @@ use Rattle.std.specs.Prelude.{bit_or}
 use Rattle.std.specs.List.{insert, slice_get}
 use Rattle.std.proofs.lemmas.Nat.{or_lt}
 use Rattle.hibitset_sparse.proofs.EditLemmas.{get-insert_below}
-use Rattle.hibitset_sparse.proofs.AppendLemmas.{TakesLowest, insert-last, ones-taken, word-passed, word-pushed, words-first}
-use Rattle.hibitset_sparse.proofs.CursorLemmas.{behind-first, behind-here, behind-second, behind-taken, ones-or, or-clear}
+use Rattle.hibitset_sparse.proofs.AppendLemmas.{TakesLowest, insert-last, word-passed, word-pushed, words-first}
+use Rattle.hibitset_sparse.proofs.CursorLemmas.{behind-first, behind-here, behind-second, behind-taken, or-clear}
 use Rattle.hibitset_sparse.proofs.GroupViewLemmas.{view-clear}
 use Rattle.hibitset_sparse.proofs.merge.push_words.Goals as goal
 
@@ -16,9 +16,6 @@ places-init g c =
     record {
       before = λ k low. refl;
       fits = omega arith;
-      whole = or_lt 64 own.word other.word (omega arith) (omega arith);
-      few = omega arith;
-      capacity = refl;
       own = behind-first own.word other.word own.start;
       other = behind-second own.word other.word other.start;
       pushed = words-first (length c.args.items.now.items) all c.args.items.now.items _ refl (λ b small off.
@@ -51,21 +48,6 @@ take_word-second-requires-clause-place g c =
     behind-here c.args.other.now.word c.places.left c.take_lowest-bit.new.word c.take_lowest-bit.result c.args.other.now.start c.places.other_at takes
     c.places.invariant.other
 
-pub push_reserved-requires : goal.push_reserved-requires
-push_reserved-requires g c =
-    let bit = c.take_lowest-bit.ensures in
-    let takes : TakesLowest c.places.left c.take_lowest-bit.new.word c.take_lowest-bit.result = record {
-      below = bit.below;
-      stood = bit.stood;
-      lowest = bit.lowest;
-      gone = bit.gone;
-      same = bit.same;
-    } in
-    let fewer = ones-taken c.places.left c.take_lowest-bit.new.word c.take_lowest-bit.result takes c.places.invariant.whole (omega arith) in
-    let both = ones-or c.args.own.now.word c.args.other.now.word (omega arith) (omega arith)
-    (or_lt 64 c.args.own.now.word c.args.other.now.word (omega arith) (omega arith)) in
-    omega (arith, fewer, both, c.places.invariant.few, c.places.invariant.capacity, c.requires.room, c.places.items.ok.0)
-
 pub places-preserved-then-word-ne0 : goal.places-preserved-then-word-ne0
 places-preserved-then-word-ne0 g c =
     let bit = c.take_lowest-bit.ensures in
@@ -77,10 +59,9 @@ places-preserved-then-word-ne0 g c =
       same = bit.same;
     } in
     let xs = c.places.items.items in
-    let ys = c.push_reserved.new.self.items in
-    let pushed = c.push_reserved.ensures in
-    let long : length ys ≡ length xs + 1 = (let len = pushed.len in omega (arith, len, c.places.items.ok.0, c.push_reserved.new.self.ok.0)) in
-    let fewer = ones-taken c.places.left c.take_lowest-bit.new.word c.take_lowest-bit.result takes c.places.invariant.whole (omega arith) in
+    let ys = c.push.new.self.items in
+    let pushed = c.in_ok-push.ensures in
+    let long : length ys ≡ length xs + 1 = (let len = pushed.len in omega (arith, len, c.places.items.ok.0, c.push.new.self.ok.0)) in
     let some : 0 < c.merged_word-word.result = (let nonzero = c.if-word-ne0.true in omega (arith, nonzero)) in
     let put : ys ≡ insert xs (length xs) c.merged_word-word.result = pushed.items ∙ sym (insert-last xs c.merged_word-word.result) in
     let from : length c.args.items.now.items ≤ length xs = (let counted = c.places.invariant.pushed.counted in omega (arith, counted)) in
@@ -88,9 +69,6 @@ places-preserved-then-word-ne0 g c =
       before = λ k low. ap (λ zs. slice_get zs k) put ∙ (get-insert_below xs (length xs) c.merged_word-word.result k (omega (arith, low, from)) (omega arith)
           ∙ c.places.invariant.before k low);
       fits = omega arith;
-      whole = omega arith;
-      few = (let few = c.places.invariant.few in omega (arith, few, fewer, long));
-      capacity = pushed.capacity ∙ c.places.invariant.capacity;
       own = behind-taken c.args.own.now.word c.places.left c.take_lowest-bit.new.word c.take_lowest-bit.result c.args.own.now.start c.places.own_at takes
           c.places.invariant.own c.take_word-first.new.at c.take_word-first.ensures.place;
       other = behind-taken c.args.other.now.word c.places.left c.take_lowest-bit.new.word c.take_lowest-bit.result c.args.other.now.start c.places.other_at takes
@@ -111,13 +89,9 @@ places-preserved g c =
       gone = bit.gone;
       same = bit.same;
     } in
-    let fewer = ones-taken c.places.left c.take_lowest-bit.new.word c.take_lowest-bit.result takes c.places.invariant.whole (omega arith) in
     record {
       before = c.places.invariant.before;
       fits = c.places.invariant.fits;
-      whole = omega arith;
-      few = (let few = c.places.invariant.few in omega (arith, few, fewer));
-      capacity = c.places.invariant.capacity;
       own = behind-taken c.args.own.now.word c.places.left c.take_lowest-bit.new.word c.take_lowest-bit.result c.args.own.now.start c.places.own_at takes
           c.places.invariant.own c.take_word-first.new.at c.take_word-first.ensures.place;
       other = behind-taken c.args.other.now.word c.places.left c.take_lowest-bit.new.word c.take_lowest-bit.result c.args.other.now.start c.places.other_at takes
@@ -125,10 +99,3 @@ places-preserved g c =
       pushed = word-passed (length c.args.items.now.items) c.places.left c.take_lowest-bit.new.word c.take_lowest-bit.result c.places.bits c.places.items.items _ takes c.places.invariant.pushed
           (sym (rw (c.take_word-first.ensures.word, c.take_word-second.ensures.word) at c.merged_word-word.ensures) ∙ c.if-word-ne0.false);
     }
-
-pub returns-clause-few : goal.returns-clause-few
-returns-clause-few g c =
-    let both = ones-or c.args.own.now.word c.args.other.now.word (omega arith) (omega arith)
-    (or_lt 64 c.args.own.now.word c.args.other.now.word (omega arith) (omega arith)) in
-    let few = c.places.invariant.few in
-    omega (arith, both, few)

@@ -1,6 +1,4 @@
-use Rattle.std.proofs.Common.{◌≡◌, ◌+◌, ◌^◌, ◌<◌, ◌≤◌, length}
-use Rattle.std.specs.Prelude.{bit_or, vec_capacity}
-use Rattle.std.specs.Int.RustNames.{count_ones}
+use Rattle.std.proofs.Common.{◌+◌, ◌^◌, ◌<◌, length}
 use Rattle.hibitset_sparse.specs.GroupView.{view_word}
 use Rattle.hibitset_sparse.specs.Parts.{BeginsWith}
 use Rattle.hibitset_sparse.proofs.AppendLemmas.{AreBeingPushed}
@@ -11,9 +9,6 @@ abbrev pub invariant-places : goal.invariant-places
 invariant-places g l = record {
   before : BeginsWith l.fn.items.items l.items.items;
   fits : l.bits < 2 ^ 64;
-  whole : l.left < 2 ^ 64;
-  few : length l.items.items + count_ones l.left ≤ length l.fn.items.items + count_ones (bit_or l.fn.own.word l.fn.other.word);
-  capacity : vec_capacity l.items ≡ vec_capacity l.fn.items;
   own : IsBehind l.fn.own.word l.left l.fn.own.start l.own_at;
   other : IsBehind l.fn.other.word l.left l.fn.other.start l.other_at;
   pushed : AreBeingPushed (length l.fn.items.items) l.left l.bits l.items.items (λ b. g.M.Merge.merged (view_word l.fn.own 0 b) (view_word l.fn.other 0 b));
