@@ -42,7 +42,8 @@ class Build(build_ext):
         for extension in self.extensions:
             extension.include_dirs.append(str(headers))
             extension.extra_objects.append(str(library / LIBRARY))
-            extension.depends += [str(library / LIBRARY), str(headers / "hibitset.h"), "src/core/core.h"]
+            extension.depends += [str(library / LIBRARY), str(headers / "hibitset.h")]
+            extension.depends += ["src/core/core.h", "src/core/set.h"]
         super().run()
 
 

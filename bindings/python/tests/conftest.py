@@ -6,6 +6,8 @@ from pathlib import Path
 import pytest
 from hypothesis import HealthCheck, settings
 
+from hibitset import BitSet, SparseBitSet
+
 settings.register_profile(
     "gate",
     max_examples=int(os.environ.get("HIBITSET_EXAMPLES", "40")),
@@ -16,6 +18,15 @@ settings.register_profile(
     suppress_health_check=list(HealthCheck),
 )
 settings.load_profile("gate")
+
+
+@pytest.fixture(params=[BitSet, SparseBitSet])
+def kind(request):
+    """Each kind of sets."""
+    return request.param
+
+
+other_kind = kind  # The same beside it.
 
 
 @pytest.fixture

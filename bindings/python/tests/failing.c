@@ -1,5 +1,9 @@
-/* failing.c: makes one allocation of the module `_core` and of the library in it fail. malloc and realloc are wrapped. */
+/* failing.c: makes one allocation of the module `_core` and of the library in it fail, and sees whether two threads are in
+ * a call with a sparse set at once. malloc, realloc and hibitset_sparse_len are wrapped. */
+#include <stdatomic.h>
 #include <stddef.h>
+
+#include "hibitset.h"
 
 void *__real_malloc(size_t size);
 void *__real_realloc(void *block, size_t size);
@@ -21,3 +25,16 @@ static int fails(void) {
 
 void *__wrap_malloc(size_t size) { return fails() ? NULL : __real_malloc(size); }
 void *__wrap_realloc(void *block, size_t size) { return fails() ? NULL : __real_realloc(block, size); }
+
+size_t __real_hibitset_sparse_len(hibitset_sparse_t *set);
+
+static atomic_int inside, met;
+
+__attribute__((visibility("default"))) int have_met(void) { return met; }
+
+size_t __wrap_hibitset_sparse_len(hibitset_sparse_t *set) {
+    if (inside++ > 0) met = 1;
+    size_t len = __real_hibitset_sparse_len(set);
+    inside--;
+    return len;
+}

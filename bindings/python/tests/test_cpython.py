@@ -1,7 +1,7 @@
-"""CPython's own tests of sets, over BitSet, where Debian's testsuite of the standard library is installed.
+"""CPython's own tests of sets, over BitSet and SparseBitSet, where Debian's testsuite of the standard library is installed.
 
-The tests run as they are, with BitSet in the place of set, and with the numbers of letters in the place of letters. Those
-of DIFFERENT are about what a BitSet does otherwise.
+The tests run as they are, with one of the two in the place of set, and with the numbers of letters in the place of letters.
+Those of DIFFERENT are about what the two do otherwise.
 """
 import ast
 import importlib.util
@@ -11,7 +11,7 @@ import unittest
 
 import pytest
 
-from hibitset import BitSet
+from hibitset import BitSet, SparseBitSet
 
 SOURCE = importlib.util.find_spec("test.test_set") if importlib.util.find_spec("test") else None
 if SOURCE is None or not SOURCE.origin:
@@ -80,18 +80,19 @@ def module_over(kind):
     with open(SOURCE.origin, encoding="utf-8") as file:
         tree = ast.parse(file.read())
     tree.body = [Letters().visit(node) if getattr(node, "name", "") in OF_LETTERS else node for node in tree.body]
-    module = types.ModuleType("cpython_test_set")
+    module = types.ModuleType(f"cpython_test_set_over_{kind.__name__}")
     sys.modules[module.__name__] = module  # Pickles name it.
     module.__dict__.update(set=kind)
     exec(compile(ast.fix_missing_locations(tree), SOURCE.origin, "exec"), module.__dict__)
     return module
 
 
-MODULE = module_over(BitSet)
-for _name in CLASSES:
-    _class = getattr(MODULE, _name)
-    for _reason, _tests in DIFFERENT.items():
-        for _test in _tests:
-            if hasattr(_class, _test):
-                setattr(_class, _test, unittest.skip(_reason)(lambda self: None))
-    globals()[_name] = _class
+for _kind in [BitSet, SparseBitSet]:
+    _module = module_over(_kind)
+    for _name in CLASSES:
+        _class = getattr(_module, _name)
+        for _reason, _tests in DIFFERENT.items():
+            for _test in _tests:
+                if hasattr(_class, _test):
+                    setattr(_class, _test, unittest.skip(_reason)(lambda self: None))
+        globals()[_name + _kind.__name__] = _class

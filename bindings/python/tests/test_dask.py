@@ -11,15 +11,11 @@ dask = pytest.importorskip("dask")
 import dask.array as da  # noqa: E402
 import dask.bag as db  # noqa: E402
 
-from hibitset import BitSet  # noqa: E402
+from mixed_ids import BITS, MEMBERS, SHARDS, TOP, A, B, kinds_of  # noqa: E402
+
+from hibitset import BitSet, SparseBitSet  # noqa: E402
 from hibitset import dask as hd  # noqa: E402
 from hibitset.ids import IdSet  # noqa: E402
-
-BITS, SHARDS = 12, 7
-TOP = SHARDS << BITS
-RANDOM = np.random.default_rng(11)
-A, B = (RANDOM.integers(0, TOP, count, dtype=np.uint64) for count in (9000, 7000))
-MEMBERS = np.unique(A)
 
 
 @pytest.fixture(scope="module")
@@ -52,7 +48,8 @@ def test_two_sets(scheduler):
     a, b = made(A), made(B, 500)
     assert type(a.compute()) is IdSet
     here, there = of(A), of(B)
-    assert dask.compute(a, a & b, a | b, a - b, a ^ b) == (here, here & there, here | there, here - there, here ^ there)
+    found, expected = dask.compute(a, a & b, a | b, a - b, a ^ b), (here, here & there, here | there, here - there, here ^ there)
+    assert found == expected and list(map(kinds_of, found)) == list(map(kinds_of, expected))
     assert a.equals(made(A, 333)).compute() and not a.equals(b).compute()
     with pytest.raises(ValueError):
         a & hd.from_ids(A, bits=BITS + 1, shards=SHARDS)
@@ -113,6 +110,7 @@ def test_folders(scheduler, tmp_path):
     a = made(A)
     assert a.to_folder(at) == at
     again = hd.from_folder(at)
+    assert kinds_of(again.compute()) == kinds_of(of(A))
     assert again.compute() == of(A) == IdSet.from_folder(at) and len(again & made(B)) == len(np.intersect1d(A, B))
     # Of itself: what is read is written anew in its place.
     assert (again | made(B)).to_folder(at, compute=False).compute() == at
@@ -140,8 +138,8 @@ def test_a_folder_that_is_harmed(scheduler, tmp_path, harm, words):
 
 
 def test_tokens():
-    some = BitSet([5])
-    assert dask.base.tokenize(some) == dask.base.tokenize(BitSet([5])) != dask.base.tokenize(BitSet([6]))
+    for kind in [BitSet, SparseBitSet]:
+        assert dask.base.tokenize(kind([5])) == dask.base.tokenize(kind([5])) != dask.base.tokenize(kind([6]))
 
 
 def killed_once(ids, mark):

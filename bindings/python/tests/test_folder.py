@@ -10,15 +10,13 @@ import pytest
 
 np = pytest.importorskip("numpy")
 
-from hibitset import BitSet, folder  # noqa: E402
+from hypothesis import given  # noqa: E402
+from hypothesis import strategies as st  # noqa: E402
+from mixed_ids import BITS, MEMBERS, RANDOM, SHARDS, TOP, A, B, kinds_of  # noqa: E402
+
+from hibitset import BitSet, SparseBitSet, _shards, folder  # noqa: E402
 from hibitset.folder import FolderError  # noqa: E402
 from hibitset.ids import IdSet, split  # noqa: E402
-
-BITS, SHARDS = 12, 7
-TOP = SHARDS << BITS
-RANDOM = np.random.default_rng(11)
-A, B = (RANDOM.integers(0, TOP, count, dtype=np.uint64) for count in (9000, 7000))
-MEMBERS = np.unique(A)
 
 
 def of(ids):
@@ -60,6 +58,10 @@ def test_many_shards(shards):
 
 def test_sets_of_ids():
     some, other = of(A), of(B)
+    assert kinds_of(some) == "dense sparse dense sparse sparse dense dense" == kinds_of(some - other)
+    assert kinds_of(other) == "sparse sparse dense dense dense sparse dense"
+    assert kinds_of(some & other) == "sparse sparse dense sparse sparse sparse dense"
+    assert kinds_of(some | other) == "dense sparse dense dense dense dense dense" == kinds_of(some ^ other)
     assert len(some) == len(MEMBERS) and np.array_equal(some.to_numpy(), MEMBERS) and list(some) == MEMBERS.tolist()
     assert np.array_equal((some & other).to_numpy(), np.intersect1d(A, B))
     assert np.array_equal((some | other).to_numpy(), np.union1d(A, B))
@@ -76,6 +78,44 @@ def test_sets_of_ids():
         with pytest.raises(IndexError):
             some.select(at)
     assert pickle.loads(pickle.dumps(some)) == some == some.copy() and some != other and bool(some) and not of([])
+
+
+@given(st.sets(st.integers(0, 5000)), st.sampled_from([0, 5000, 1 << 22]))
+def test_the_smaller_kind(items, far):
+    items.add(far)
+    dense, sparse = BitSet(items), SparseBitSet(items)
+    found = [_shards.smaller(dense), _shards.smaller(sparse), _shards.built([np.array(list(items), np.uint32)]), _shards.built([dense, sparse])]
+    takes = [sys.getsizeof(kind(items)) - sys.getsizeof(kind()) for kind in (BitSet, SparseBitSet)]
+    if abs(takes[0] - takes[1]) > 16:  # The layers over a short BitSet take some bytes more than a 64th.
+        assert [type(some) for some in found] == [BitSet if takes[0] < takes[1] else SparseBitSet] * 4
+    assert all(some == items for some in found)
+
+
+def test_what_the_page_says_of_memory():
+    def shard_of(share, bits):
+        ids = np.random.default_rng(7).integers(0, 1 << bits, int(share * (1 << bits)), dtype=np.uint64)
+        return IdSet.from_numpy(ids, shards=1, bits=bits).shards[0]
+
+    for share, megabytes in [(0.01, 17.0), (0.00001, 0.12)]:
+        shard = shard_of(share, 28)
+        assert type(shard) is SparseBitSet and abs(sys.getsizeof(shard) / 1e6 - megabytes) < 0.05
+        assert abs(sys.getsizeof(BitSet(shard)) / 1e6 - 34.1) < 0.05
+    # Some ids are there twice.
+    assert [type(shard_of(share, 20)) for share in (0.05, 0.06, 0.07)] == [SparseBitSet, SparseBitSet, BitSet]
+
+
+def test_kinds_while_ids_are_added():
+    some = of([])
+    assert kinds_of(some) == " ".join(["sparse"] * SHARDS)
+    for ids in np.array_split(A, 40):
+        some.update(ids)
+        assert kinds_of(some) == kinds_of(IdSet.from_numpy(some.to_numpy(), shards=SHARDS, bits=BITS))
+    assert some == of(A)
+    some.update(np.arange(TOP))
+    assert kinds_of(some) == " ".join(["dense"] * SHARDS) and len(some) == TOP
+    some = IdSet.from_numpy([5], shards=2, bits=30)
+    some.update([1 << 29, (1 << 30) + 7])
+    assert kinds_of(some) == "sparse dense" and some.to_numpy().tolist() == [5, 1 << 29, (1 << 30) + 7]
 
 
 def test_a_long_list():
@@ -124,6 +164,9 @@ def test_round_trip(written):
     said = json.loads((written / "hibitset.json").read_text())
     assert said["bits"] == BITS and said["members"] == len(MEMBERS) and len(said["shards"]) == SHARDS
     assert IdSet.from_folder(written) == of(A) and len(list(written.iterdir())) == SHARDS + 1
+    assert kinds_of(IdSet.from_folder(written)) == kinds_of(of(A))
+    # The bytes do not tell of which kind a shard was.
+    assert folder.write_shard(written, 3, BitSet(of(A).shards[1])) == folder.write_shard(written, 3, SparseBitSet(of(A).shards[1]))
     assert BitSet.deserialize(file_of(written, 3).read_bytes()) == of(A).shards[3]
     checked = [f"{shard['sha256']}  {shard['file']}" for shard in said["shards"]]
     done = subprocess.run(["sha256sum", "-c", "--quiet"], input="\n".join(checked) + "\n", text=True, cwd=written, capture_output=True)
@@ -136,6 +179,20 @@ def test_another_set_in_its_place(written):
         assert IdSet.from_folder(written) == of(ids) and len(list(written.iterdir())) == SHARDS + 1
     IdSet.from_numpy(A, shards=1, bits=20).to_folder(written)
     assert np.array_equal(IdSet.from_folder(written).to_numpy(), MEMBERS) and len(list(written.iterdir())) == 2
+
+
+def test_a_far_id_is_read_without_a_dense_set(tmp_path):
+    """In a process with less memory than that would take."""
+    IdSet.from_numpy([(1 << 30) - 1, 1 << 30], shards=2, bits=30).to_folder(tmp_path)
+    program = (
+        "import resource, sys; from hibitset.ids import IdSet\n"
+        "used = int(open('/proc/self/statm').read().split()[0]) * 4096\n"
+        "resource.setrlimit(resource.RLIMIT_AS, (used + (64 << 20),) * 2)\n"
+        "some = IdSet.from_folder(sys.argv[1])\n"
+        "assert list(some | some) == [(1 << 30) - 1, 1 << 30], some"
+    )
+    done = subprocess.run([sys.executable, "-c", program, str(tmp_path)], capture_output=True, text=True)
+    assert done.returncode == 0, done.stderr
 
 
 def test_what_else_lies_in_a_folder_stays(written):

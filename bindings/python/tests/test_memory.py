@@ -8,7 +8,7 @@ from array import array
 
 import pytest
 
-from hibitset import BitSet, _core
+from hibitset import BitSet, SparseBitSet, _core
 
 SOME = BitSet([1, 2, 65_539])
 
@@ -23,7 +23,7 @@ def test_no_memory():
     run(
         """
         import resource, sys
-        from hibitset import BitSet
+        from hibitset import BitSet, SparseBitSet
         some, other, large = BitSet([1, 2, 3]), BitSet([1]), BitSet([2**30 - 1])
         stream = bytes.fromhex("3a300000 01000000 ff3f0000 10000000 ffff")
         resource.setrlimit(resource.RLIMIT_AS, (64 << 20, 64 << 20))
@@ -39,6 +39,8 @@ def test_no_memory():
         fails(some.flip_range, 2**30 - 5, 2**30)
         fails(some.update, [2**30 - 1])
         fails(BitSet.with_capacity, 2**30)
+        fails(BitSet, SparseBitSet([2**30 - 1]))
+        assert some | SparseBitSet([9]) == {1, 2, 3, 9} and list(SparseBitSet.deserialize(stream)) == [2**30 - 1]
         fails(BitSet.deserialize, stream)
         counted = sys.getrefcount(BitSet)
         for call in [large.copy, lambda: large | some, lambda: large ^ some, lambda: large - some]:
@@ -58,21 +60,25 @@ def test_memory_is_given_back():
     run(
         """
         import gc, pickle, resource
-        from hibitset import BitSet
-        def turn():
-            a = BitSet(range(0, 1 << 19, 3)); b = BitSet([5]); c = a | b; c &= a; c.copy(); d = BitSet.deserialize(a.serialize())
-            list(zip(c, range(5))), repr(c), c == d, (a ^ d, a - d, c[5:9], a & d, {5} - a); m = memoryview(a._words()); del m
-            pickle.loads(pickle.dumps(a, 5)); a.serialize_into(bytearray(a.serialized_len())); reversed(a); a.first_gap(0)
-            for call, error in [(lambda: BitSet.deserialize(b"abc"), ValueError), (lambda: a.add(-1), OverflowError), (lambda: a.update([1 << 30]), OverflowError),
+        from hibitset import BitSet, SparseBitSet
+        def turn(kind, other_kind):
+            a = kind(range(0, 1 << 19, 3)); b = kind([5]); c = a | b; c &= a; c.copy(); d = other_kind.deserialize(a.serialize())
+            list(zip(c, range(5))), repr(c), c == d, (a ^ d, a - d, c[5:9], a & d, d & a, {5} - a, a <= d, a.union_len(d), a.isdisjoint(d), kind(d))
+            pickle.loads(pickle.dumps(a, 5)); a.serialize_into(bytearray(a.serialized_len())); reversed(a)
+            if kind is BitSet:
+                m = memoryview(a._words()); del m; a.first_gap(0)
+            else:
+                a.shrink()
+            for call, error in [(lambda: kind.deserialize(b"abc"), ValueError), (lambda: a.add(-1), OverflowError), (lambda: a.update([1 << 30]), OverflowError),
                                 (lambda: a.remove(1), KeyError), (lambda: a & 5, TypeError), (lambda: a._or(5), TypeError), (lambda: a.serialize_into(bytearray(3)), ValueError)]:
                 try:
                     call()
                 except error:
                     continue
                 raise AssertionError
-        for _ in range(30): turn()
+        for _ in range(20): turn(BitSet, SparseBitSet), turn(SparseBitSet, BitSet)
         before = resource.getrusage(resource.RUSAGE_SELF).ru_maxrss
-        for _ in range(60): turn()
+        for _ in range(40): turn(BitSet, SparseBitSet), turn(SparseBitSet, BitSet)
         after = resource.getrusage(resource.RUSAGE_SELF).ru_maxrss
         assert after - before < 1024, (before, after)
         """
@@ -121,18 +127,19 @@ class Broken:
     __hash__ = __eq__ = lambda self, *_: 1 // 0
 
 
-def test_references():
+def test_references(kind):
     """No reference of an argument is kept or lost."""
     kept = int("77777")
-    number, broken, some, list_ = Number(kept), Broken(), BitSet(), [kept]
-    counted = [some, number, kept, broken, list_, BitSet, type(iter(some)), type(some._words())]
+    number, broken, some, list_ = Number(kept), Broken(), kind(), [kept]
+    view = some._words if kind is BitSet else bytes
+    counted = [some, number, kept, broken, list_, kind, type(iter(some)), type(view())]
     call = some.add
     gc.collect()
     before = [sys.getrefcount(each) for each in counted]
     for _ in range(1000):
         some.add(number), number in some, some.discard(number), some.rank(number), some.first_from(number), some.update(list_)
-        some.copy(), list(some), next(reversed(some)), some._words(), some & set(), some.add_new(number), some & {number}
-        memoryview(some._words())
+        some.copy(), list(some), next(reversed(some)), view(), some & set(), some.add_new(number), some & {number}
+        memoryview(view())
         some.remove(kept), iter(some).__length_hint__()
         for call in [some.add, some.rank, some.__contains__, some.discard, some.remove, some.add_new]:
             with pytest.raises(ZeroDivisionError):
@@ -145,12 +152,12 @@ def test_references():
     assert [sys.getrefcount(each) for each in counted] == before
 
 
-def test_circles_are_collected():
-    class Holder(BitSet):
+def test_circles_are_collected(kind):
+    class Holder(kind):
         """A set that may hold what holds it."""
 
     some = Holder([1])
-    some.iterator, some.view = iter(some), some._words()
+    some.iterator, some.view = iter(some), some._words() if kind is BitSet else None
     gone = []
     weakref.finalize(some, gone.append, 1)
     del some
@@ -158,23 +165,23 @@ def test_circles_are_collected():
     assert gone == [1]
 
 
-def test_buffers_are_given_back():
+def test_buffers_are_given_back(kind):
     """Of each call, also of one that fails: a buffer that is held could not grow."""
     numbers, bytes_, room, words = array("I", [1, 2, 3]), bytearray(SOME.serialize()), bytearray(40), array("L", [1, 2])
-    viewed = BitSet([1])
+    some, viewed = kind(SOME), BitSet([1])
     held = memoryview(viewed._words())
     calls = [
-        lambda: BitSet(numbers), lambda: BitSet(array("I", [1 << 31])), lambda: SOME & set(numbers), lambda: SOME._contains_many(numbers, room),
-        lambda: SOME._contains_many(numbers, bytearray(1)), lambda: SOME._contains_many(numbers, 5), lambda: SOME._contains_many(5, room),
-        lambda: BitSet()._add_common(SOME, numbers), lambda: viewed._add_common(SOME, numbers), lambda: viewed._add_many(numbers),
-        lambda: BitSet([1])._remove_many(numbers), lambda: viewed._remove_many(numbers), lambda: SOME._next_many_u64(0, 5, words),
-        lambda: SOME._next_many_u64(0, -1, words), lambda: SOME._next_many_u64(0, 5, numbers), lambda: _core.split_ids(words, 9, 5, numbers, numbers),
+        lambda: kind(numbers), lambda: kind(array("I", [1 << 31])), lambda: some & set(numbers), lambda: some._contains_many(numbers, room),
+        lambda: some._contains_many(numbers, bytearray(1)), lambda: some._contains_many(numbers, 5), lambda: some._contains_many(5, room),
+        lambda: kind()._add_common(some, numbers), lambda: viewed._add_common(some, numbers), lambda: viewed._add_many(numbers),
+        lambda: kind([1])._remove_many(numbers), lambda: viewed._remove_many(numbers), lambda: some._next_many_u64(0, 5, words),
+        lambda: some._next_many_u64(0, -1, words), lambda: some._next_many_u64(0, 5, numbers), lambda: _core.split_ids(words, 9, 5, numbers, numbers),
         lambda: _core.split_ids(words, 31, 5, numbers, numbers), lambda: _core.split_ids(words, 9, 5, numbers, words), lambda: _core.split_ids(words, 9, 5, words, numbers),
-        lambda: SOME._next_many(0, numbers), lambda: SOME._rank_many(numbers, array("L", [0, 0, 0])), lambda: SOME._rank_many(numbers, array("L")),
-        lambda: SOME._rank_many(numbers, numbers), lambda: SOME._rank_many(5, words), lambda: BitSet()._assign_words(words),
-        lambda: viewed._assign_words(words), lambda: SOME._copy_words(words), lambda: SOME._copy_words(numbers), lambda: BitSet.deserialize(bytes_),
-        lambda: BitSet.deserialize(bytes_, below=1), lambda: viewed._deserialize(bytes_, 5), lambda: SOME.serialize_into(room), lambda: SOME.serialize_into(bytearray(1)),
-        lambda: SOME.serialize_into(bytes_),
+        lambda: some._next_many(0, numbers), lambda: some._rank_many(numbers, array("L", [0, 0, 0])), lambda: some._rank_many(numbers, array("L")),
+        lambda: some._rank_many(numbers, numbers), lambda: some._rank_many(5, words), lambda: BitSet()._assign_words(words),
+        lambda: viewed._assign_words(words), lambda: SOME._copy_words(words), lambda: SOME._copy_words(numbers), lambda: kind.deserialize(bytes_),
+        lambda: kind.deserialize(bytes_, below=1), lambda: viewed._deserialize(bytes_, 5), lambda: some.serialize_into(room), lambda: some.serialize_into(bytearray(1)),
+        lambda: some.serialize_into(bytes_),
     ]  # fmt: skip
     for call in calls:
         try:

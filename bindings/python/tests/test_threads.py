@@ -6,7 +6,7 @@ import threading
 
 import pytest
 
-from hibitset import BitSet
+from hibitset import BitSet, SparseBitSet
 
 np = pytest.importorskip("numpy")
 pytestmark = pytest.mark.usefixtures("many_turns")
@@ -32,8 +32,8 @@ def run(*calls):
         raise wrong[0]
 
 
-def test_each_addition_is_new_once():
-    some, fresh = BitSet(), [0] * 4
+def test_each_addition_is_new_once(kind):
+    some, fresh = kind(), [0] * 4
 
     def add(k):
         fresh[k] = sum(some.add_new(i << 10) for i in range(20_000))
@@ -42,15 +42,15 @@ def test_each_addition_is_new_once():
     assert sum(fresh) == len(some) == 20_000
 
 
-def test_many_at_once():
-    some = BitSet()
+def test_many_at_once(kind):
+    some = kind()
     parts = [np.random.default_rng(k).integers(0, 1 << 22, 300_000, dtype=np.uint32) for k in range(4)]
     run(*(lambda part=part: some.update(part) for part in parts))
     assert np.array_equal(some.to_numpy(), np.unique(np.concatenate(parts)))
 
 
-def test_changes_beside_reads():
-    some, stop = BitSet(range(1 << 20)), threading.Event()
+def test_changes_beside_reads(kind):
+    some, stop = kind(range(1 << 20)), threading.Event()
 
     def change():
         for turn in range(60):
@@ -63,17 +63,17 @@ def test_changes_beside_reads():
 
     def read():
         while not stop.is_set():
-            mask = some.to_mask(1 << 20)
+            mask = (some if kind is BitSet else BitSet(some)).to_mask(1 << 20)
             assert mask.all() or not mask.any()
-            assert BitSet.deserialize(some.serialize()) is not None
+            assert kind.deserialize(some.serialize()) is not None
             assert (np.diff(some.to_numpy().astype(np.int64)) > 0).all()
             assert some.rank(1 << 19) in (0, 1 << 19) and (7 in some) in (False, True)
 
     run(change, read, read)
 
 
-def test_a_long_change_is_one_step():
-    some, end, stop = BitSet(), 1 << 27, threading.Event()
+def test_a_long_change_is_one_step(kind):
+    some, end, stop = kind(), 1 << 26, threading.Event()
 
     def change():
         for _ in range(12):
@@ -107,12 +107,12 @@ def test_changes_that_move_the_words():
     assert np.array_equal(some.to_numpy(), np.unique(part))
 
 
-def test_two_sets_in_both_orders():
-    a, b = BitSet(range(0, 1 << 21, 2)), BitSet(range(1, 1 << 21, 2))
+def test_two_sets_in_both_orders(kind, other_kind):
+    a, b = kind(range(0, 1 << 21, 2)), other_kind(range(1, 1 << 21, 2))
     left = [2]
 
     def assign(to, of):
-        for _ in range(100):
+        for _ in range(60):
             to |= of
             to.discard(5)
         left[0] -= 1
@@ -125,12 +125,12 @@ def test_two_sets_in_both_orders():
     assert len(a | b) >= (1 << 21) - 1
 
 
-def test_readers_in_both_orders_beside_changes():
-    a, b = BitSet(range(0, 1 << 19, 2)), BitSet(range(0, 1 << 19, 3))
+def test_readers_in_both_orders_beside_changes(kind):
+    a, b = kind(range(0, 1 << 19, 2)), kind(range(0, 1 << 19, 3))
     stop = threading.Event()
 
     def read(first, second):
-        for _ in range(1000):
+        for _ in range(500):
             first.intersection_len(second)
         stop.set()
 
@@ -142,8 +142,8 @@ def test_readers_in_both_orders_beside_changes():
     run(lambda: read(a, b), lambda: read(b, a), lambda: change(a), lambda: change(b))
 
 
-def test_a_set_with_itself_beside_changes():
-    some, stop = BitSet(range(1 << 20)), threading.Event()
+def test_a_set_with_itself_beside_changes(kind):
+    some, stop = kind(range(1 << 20)), threading.Event()
 
     def pair():
         for _ in range(200):
@@ -204,9 +204,9 @@ def test_an_iterator_that_threads_share():
     assert sorted(seen[0] + seen[1]) == list(range(len(seen[0]) + len(seen[1]))) and len(words) == 1 << 22
 
 
-def test_each_call_has_its_turn():
+def test_each_call_has_its_turn(kind):
     """Beside a thread that makes one long call after the other: a call waits for few of them."""
-    some, stop, turns, most = BitSet(range(1 << 24)), threading.Event(), [0], [0]
+    some, stop, turns, most = kind(range(1 << 24)), threading.Event(), [0], [0]
 
     def change():
         while not stop.is_set():
@@ -224,19 +224,19 @@ def test_each_call_has_its_turn():
     assert most[0] < 100
 
 
-def test_streams_and_arrays_beside_changes():
+def test_streams_and_arrays_beside_changes(kind):
     """Which the set may have between the parts of a call."""
-    some, left = BitSet(range(1 << 22)), [2]
+    some, left = kind(range(1 << 20)), [2]
 
     def change():
         while left[0]:
-            some.add_range(1 << 22, (1 << 22) + (1 << 20))
-            some.remove_range(1 << 22, 1 << 30)
+            some.add_range(1 << 20, (1 << 20) + (1 << 19))
+            some.remove_range(1 << 20, 1 << 30)
 
     def read():
         for _ in range(4):
-            for made in [BitSet.deserialize(some.serialize()), BitSet.from_numpy(some.to_numpy())]:
-                assert len(made) in (1 << 22, (1 << 22) + (1 << 20))
+            for made in [kind.deserialize(some.serialize()), kind.from_numpy(some.to_numpy())]:
+                assert len(made) in (1 << 20, (1 << 20) + (1 << 19))
         left[0] -= 1
 
     run(change, read, read)
@@ -296,7 +296,7 @@ def changed(some):
 
 @pytest.mark.parametrize("way", ["fork", "spawn"])
 def test_processes(way):
-    sets = [BitSet(range(start, 1 << 20)) for start in (0, 5)]
+    sets = [kind(range(start, 1 << 20)) for kind, start in ((BitSet, 0), (SparseBitSet, 5))]
     with multiprocessing.get_context(way).Pool(2) as pool:
         made = pool.map(changed, sets)
-    assert made == [changed(some) for some in sets]
+    assert made == [changed(some) for some in sets] and [type(some) for some in made] == [BitSet, SparseBitSet]

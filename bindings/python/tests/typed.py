@@ -4,7 +4,7 @@ from collections.abc import MutableSet, Set
 import numpy as np
 import numpy.typing as npt
 
-from hibitset import BitSet, Fault, StreamError
+from hibitset import BitSet, Fault, SparseBitSet, StreamError
 from hibitset.ids import IdSet
 
 
@@ -31,6 +31,16 @@ def kept(pages: Pages, other: BitSet, ids: npt.NDArray[np.int64]) -> BitSet:
     least: int | None = some.first_from(total(some))
     made: Pages = Pages.from_numpy(ids[hits])
     return made.union(range(5), [least or 0], np.arange(3))
+
+
+def mixed(dense: BitSet, sparse: SparseBitSet, ids: npt.NDArray[np.uint32]) -> SparseBitSet:
+    fill(sparse)
+    sparse |= dense
+    both: BitSet = dense & sparse
+    rest: SparseBitSet = sparse - both.union([5]) ^ {7}
+    some: SparseBitSet = SparseBitSet(both)[1:]
+    some.shrink()
+    return rest if rest.max() < total(dense | sparse) else SparseBitSet.from_numpy(ids)
 
 
 def fault(data: bytes) -> Fault | None:

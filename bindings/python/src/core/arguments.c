@@ -79,7 +79,7 @@ int bounds_of(PyObject *const *arguments, Py_ssize_t count, bool strict, uint32_
 
 Core *core_of(PyObject *object) {
     if (PyObject_TypeCheck(object, core_type)) return (Core *)object;
-    PyErr_SetString(PyExc_TypeError, "expected a BitSet");
+    PyErr_SetString(PyExc_TypeError, "expected a BitSet or a SparseBitSet");
     return NULL;
 }
 

@@ -1,9 +1,12 @@
 /*
  * calls.c: calls on sets, of which no two meet if one of them changes a set of the other's.
  *
- * A short call keeps the GIL from its beginning to its end. A long one marks its sets, as read or changed, and gives
+ * A short call keeps the GIL from its beginning to its end. A long one marks its sets, as shared or taken, and gives
  * the GIL up. A call waits while a mark is against it, or while a call that it may not meet has waited longer: without
  * the GIL, and with no set marked. So calls never wait for one another in a circle, and each has its turn.
+ *
+ * A call takes the set that it changes, and each sparse set: the library's functions have one alone also if they only
+ * look. It shares the dense sets that it reads.
  */
 #include "core.h"
 
@@ -39,20 +42,29 @@ static void wake(void) {
     pthread_mutex_unlock(&mutex);
 }
 
-static bool has(const Call *call, const Core *set) {
-    return set == call->changed || set == call->read[0] || set == call->read[1];
-}
+enum { SETS_OF_CALL = 3 };
+
+/* Returns one of the sets of a call, or NULL. */
+static Core *set_of(const Call *call, int i) { return i == 0 ? call->changed : call->read[i - 1]; }
+
+static bool takes(const Call *call, const Core *set) { return set == call->changed || set->set.is_sparse; }
 
 /* Returns whether two calls may not meet. */
 static bool conflicts(const Call *a, const Call *b) {
-    return (a->changed != NULL && has(b, a->changed)) || (b->changed != NULL && has(a, b->changed));
+    for (int i = 0; i < SETS_OF_CALL; i++) {
+        const Core *set = set_of(a, i);
+        if (set == NULL) continue;
+        bool is_shared = set == b->changed || set == b->read[0] || set == b->read[1];
+        if (is_shared && (takes(a, set) || takes(b, set))) return true;
+    }
+    return false;
 }
 
 /* Returns whether no mark is against a call, and no call before it. */
 static bool is_free(const Call *call) {
-    if (call->changed != NULL && call->changed->readers != 0) return false;
-    for (int i = 0; i < 2; i++) {
-        if (call->read[i] != NULL && call->read[i]->readers < 0) return false;
+    for (int i = 0; i < SETS_OF_CALL; i++) {
+        const Core *set = set_of(call, i);
+        if (set != NULL && (takes(call, set) ? set->readers != 0 : set->readers < 0)) return false;
     }
     for (const Call *other = waiting; other != NULL && other != call; other = other->next) {
         if (conflicts(call, other)) return false;
@@ -78,27 +90,22 @@ static void wait_until_free(Call *call) {
 }
 
 static void give_gil_up(Call *call) {
-    if (call->changed != NULL) call->changed->readers = -1;
-    for (int i = 0; i < 2; i++) {
-        if (call->read[i] != NULL) call->read[i]->readers++;
+    for (int i = 0; i < SETS_OF_CALL; i++) {
+        Core *set = set_of(call, i);
+        if (set != NULL) set->readers = takes(call, set) ? -1 : set->readers + 1;
     }
     call->thread = PyEval_SaveThread();
 }
 
 /* Begins a call, which keeps the GIL. */
 static bool begin_short(Call *call) {
-    if (call->read[0] == call->changed) call->read[0] = NULL;
     if (!is_free(call)) wait_until_free(call);
     if (call->changed == NULL || call->changed->views == 0) return true;
     PyErr_SetString(PyExc_BufferError, "the set can't be changed while an array of its words is held");
     return false;
 }
 
-static size_t words_of(const Core *set) {
-    size_t len = 0;
-    if (set != NULL) hibitset_words(&set->set, &len);
-    return len;
-}
+static size_t words_of(Core *set) { return set == NULL ? 0 : set_memory(&set->set) / sizeof(uint64_t); }
 
 bool begin(Call *call, size_t work) {
     if (!begin_short(call)) return false;
@@ -117,8 +124,9 @@ bool begin_walk(Call *call) { return begin_walk_and(call, 0); }
 
 bool begin_range(Call *call, uint32_t start, uint32_t bound) {
     if (!begin_short(call)) return false;
-    /* A set that grows has its words written from the first on. */
-    uint32_t from = bound > hibitset_capacity(&call->changed->set) ? 0 : start;
+    /* A dense set that grows has its words written from the first on. */
+    const Set *set = &call->changed->set;
+    uint32_t from = set->is_sparse || bound <= hibitset_capacity(&set->dense) ? start : 0;
     if (bound > from && (bound - from) / INDICES_PER_WORD > SHORT_WORK) give_gil_up(call);
     return true;
 }
@@ -126,9 +134,9 @@ bool begin_range(Call *call, uint32_t start, uint32_t bound) {
 void end(Call *call) {
     if (call->thread != NULL) {
         PyEval_RestoreThread(call->thread);
-        if (call->changed != NULL) call->changed->readers = 0;
-        for (int i = 0; i < 2; i++) {
-            if (call->read[i] != NULL) call->read[i]->readers--;
+        for (int i = 0; i < SETS_OF_CALL; i++) {
+            Core *set = set_of(call, i);
+            if (set != NULL) set->readers = takes(call, set) ? 0 : set->readers - 1;
         }
         wake();
     }

@@ -6,23 +6,24 @@
 #define Py_LIMITED_API 0x030B0000
 #include <Python.h>
 
-#include "hibitset.h"
+#include "set.h"
 
 /* ---- Sets (module.c) ---- */
 
 /* A set as an object. Calls read and change `set`; the other fields are read and written under the GIL alone. */
 typedef struct {
     PyObject_HEAD
-    hibitset_t set;
-    Py_ssize_t readers; /* How many calls without the GIL read the set; -1 if one changes it. */
+    Set set;
+    Py_ssize_t readers; /* How many calls without the GIL share the set; -1 if one has taken it. */
     Py_ssize_t views;   /* How many views of its words are held: then no call changes it. */
     size_t changes;     /* How many calls may have changed its members. */
 } Core;
 
-extern PyTypeObject *core_type;
+/* The type of all sets, and those of its two kinds. */
+extern PyTypeObject *core_type, *dense_type, *sparse_type;
 
-/* Returns an empty set of the type that methods return, or NULL with an error. */
-Core *new_set(void);
+/* Returns an empty set of the type that methods return of sets of a kind, or NULL with an error. */
+Core *new_set(bool is_sparse);
 
 /* Returns a set that a call has made, or drops it and returns NULL with the error of its status. */
 PyObject *set_or_error(Core *set, hibitset_status status);
@@ -99,8 +100,12 @@ PyObject *none_or_error(hibitset_status status);
 #define METHOD(name, function, flags, text) {name, (PyCFunction)(void (*)(void))(function), flags, text}
 #define END_OF_METHODS {NULL, NULL, 0, NULL}
 
+/* Of both kinds. */
 extern const PyMethodDef member_methods[], range_methods[], order_methods[], many_methods[], id_methods[],
-    word_methods[], stream_methods[], pair_methods[];
+    stream_methods[], pair_methods[];
+
+/* Of one kind. */
+extern const PyMethodDef dense_methods[], word_methods[], sparse_methods[];
 
 PyObject *split_ids(PyObject *module, PyObject *const *arguments, Py_ssize_t count); /* ids.c */
 

@@ -11,7 +11,7 @@ static PyObject *core_next_many_u64(PyObject *object, PyObject *const *arguments
     uint64_t base = PyLong_AsUnsignedLongLong(arguments[1]);
     if (PyErr_Occurred() || items_of(arguments[2], 8, true, &ids) < 0) return NULL;
     begin(&call, ids.len);
-    size_t written = hibitset_next_many_u64(&self->set, start, base, ids.items, ids.len);
+    size_t written = set_next_many_u64(&self->set, start, base, ids.items, ids.len);
     end(&call);
     PyBuffer_Release(&ids.view);
     return PyLong_FromSize_t(written);

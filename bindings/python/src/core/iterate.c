@@ -42,13 +42,13 @@ PyObject *core_reversed(PyObject *self, PyObject *unused) {
 }
 
 /* Reads the next members of a set that is as it was. */
-static void read_members(Iterator *self, const hibitset_t *set) {
+static void read_members(Iterator *self, Set *set) {
     self->given = 0;
     if (self->descends) {
-        self->len = (uint32_t)hibitset_prev_many(set, self->from, self->members, MEMBERS_AT_ONCE);
+        self->len = (uint32_t)set_prev_many(set, self->from, self->members, MEMBERS_AT_ONCE);
         if (self->len > 0) self->from = self->members[self->len - 1];
     } else {
-        self->len = (uint32_t)hibitset_next_many(set, self->from, self->members, MEMBERS_AT_ONCE);
+        self->len = (uint32_t)set_next_many(set, self->from, self->members, MEMBERS_AT_ONCE);
         if (self->len > 0) self->from = self->members[self->len - 1] + 1;
     }
 }
@@ -88,8 +88,8 @@ static PyObject *iterator_length_hint(PyObject *object, PyObject *unused) {
     uint32_t from = self->from, left = self->len - self->given;
     Py_INCREF((PyObject *)of); /* As in refill. */
     begin_walk(&call);
-    size_t behind = self->descends ? hibitset_rank(&of->set, from)
-                                   : hibitset_len_range(&of->set, from, HIBITSET_MAX_EID);
+    size_t behind = self->descends ? set_rank(&of->set, from)
+                                   : set_len_range(&of->set, from, HIBITSET_MAX_EID);
     end(&call);
     Py_DECREF((PyObject *)of);
     return PyLong_FromSize_t(left + behind);

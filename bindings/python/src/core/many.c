@@ -12,7 +12,7 @@ static PyObject *core_add_many(PyObject *object, PyObject *buffer) {
         PyBuffer_Release(&indices.view);
         return NULL;
     }
-    hibitset_status status = hibitset_add_many(&self->set, indices.items, indices.len, &added);
+    hibitset_status status = set_add_many(&self->set, indices.items, indices.len, &added);
     call.unchanged = added == 0;
     end(&call);
     PyBuffer_Release(&indices.view);
@@ -31,7 +31,7 @@ static PyObject *core_remove_many(PyObject *object, PyObject *buffer) {
         PyBuffer_Release(&indices.view);
         return NULL;
     }
-    size_t removed = hibitset_remove_many(&self->set, indices.items, indices.len);
+    size_t removed = set_remove_many(&self->set, indices.items, indices.len);
     call.unchanged = removed == 0;
     end(&call);
     PyBuffer_Release(&indices.view);
@@ -39,11 +39,11 @@ static PyObject *core_remove_many(PyObject *object, PyObject *buffer) {
 }
 
 /* Adds those indices of a list that are members of another set. `*all` becomes whether all are. */
-static hibitset_status add_members(hibitset_t *set, const hibitset_t *other, const uint32_t *indices, size_t len,
+static hibitset_status add_members(Set *set, Set *other, const uint32_t *indices, size_t len,
                                    bool *all) {
     for (size_t i = 0; i < len; i++) {
-        bool is_member = hibitset_contains(other, indices[i]);
-        hibitset_status status = is_member ? hibitset_add(set, indices[i]) : HIBITSET_OK;
+        bool is_member = set_contains(other, indices[i]);
+        hibitset_status status = is_member ? set_add(set, indices[i]) : HIBITSET_OK;
         if (hibitset_failed(status)) return status;
         *all = *all && is_member;
     }
@@ -81,7 +81,7 @@ static PyObject *core_contains_many(PyObject *object, PyObject *const *arguments
     bool fits = indices.len <= found.len;
     if (fits) {
         begin(&call, indices.len);
-        hibitset_contains_many(&self->set, indices.items, indices.len, found.items, found.len);
+        set_contains_many(&self->set, indices.items, indices.len, found.items, found.len);
         end(&call);
     }
     PyBuffer_Release(&indices.view);
@@ -98,7 +98,7 @@ static PyObject *core_next_many(PyObject *object, PyObject *const *arguments, Py
     if (check_count(count, 2) < 0 || bound_of(arguments[0], false, &start) < 0) return NULL;
     if (items_of(arguments[1], 4, true, &members) < 0) return NULL;
     begin(&call, members.len);
-    size_t written = hibitset_next_many(&self->set, start, members.items, members.len);
+    size_t written = set_next_many(&self->set, start, members.items, members.len);
     end(&call);
     PyBuffer_Release(&members.view);
     return PyLong_FromSize_t(written);

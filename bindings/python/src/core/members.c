@@ -7,7 +7,7 @@ static int add_one(PyObject *object, PyObject *item) {
     Call call = {.changed = self};
     uint32_t index;
     if (index_of(item, &index) < 0 || !begin_range(&call, index, index + 1)) return -1;
-    hibitset_status status = hibitset_add(&self->set, index);
+    hibitset_status status = set_add(&self->set, index);
     call.unchanged = status != HIBITSET_OK;
     end(&call);
     if (!hibitset_failed(status)) return status == HIBITSET_OK;
@@ -33,7 +33,7 @@ static int remove_one(PyObject *object, PyObject *item) {
     int found = equal_index(item, &index);
     if (found <= 0) return found;
     if (!begin(&call, 0)) return -1;
-    bool was_member = hibitset_remove(&self->set, index);
+    bool was_member = set_remove(&self->set, index);
     call.unchanged = !was_member;
     end(&call);
     return was_member;
@@ -62,13 +62,13 @@ int core_contains(PyObject *object, PyObject *item) {
     int found = equal_index(item, &index);
     if (found <= 0) return found;
     begin(&call, 0);
-    bool is_member = hibitset_contains(&self->set, index);
+    bool is_member = set_contains(&self->set, index);
     end(&call);
     return is_member;
 }
 
 /* Removes and returns a member, the least or the greatest one. */
-static PyObject *pop_by(PyObject *object, bool (*pop)(hibitset_t *set, uint32_t *index)) {
+static PyObject *pop_by(PyObject *object, bool (*pop)(Set *set, uint32_t *index)) {
     Core *self = (Core *)object;
     Call call = {.changed = self};
     uint32_t index;
@@ -83,12 +83,12 @@ static PyObject *pop_by(PyObject *object, bool (*pop)(hibitset_t *set, uint32_t 
 
 static PyObject *core_pop(PyObject *self, PyObject *unused) {
     (void)unused;
-    return pop_by(self, hibitset_pop_first);
+    return pop_by(self, set_pop_first);
 }
 
 static PyObject *core_pop_last(PyObject *self, PyObject *unused) {
     (void)unused;
-    return pop_by(self, hibitset_pop_last);
+    return pop_by(self, set_pop_last);
 }
 
 PyDoc_STRVAR(add_text, "add($self, index, /)\n--\n\n"

@@ -5,7 +5,7 @@ Py_ssize_t core_length(PyObject *object) {
     Core *self = (Core *)object;
     Call call = {.read = {self}};
     begin_walk(&call);
-    size_t len = hibitset_len(&self->set);
+    size_t len = set_len(&self->set);
     end(&call);
     return (Py_ssize_t)len;
 }
@@ -14,14 +14,13 @@ int core_bool(PyObject *object) {
     Core *self = (Core *)object;
     Call call = {.read = {self}};
     begin(&call, 0);
-    bool is_empty = hibitset_is_empty(&self->set);
+    bool is_empty = set_is_empty(&self->set);
     end(&call);
     return !is_empty;
 }
 
 /* Returns a member, the least or the greatest one. */
-static PyObject *member_at_end(PyObject *object, bool (*find)(const hibitset_t *set, uint32_t *index),
-                               const char *empty) {
+static PyObject *member_at_end(PyObject *object, bool (*find)(Set *set, uint32_t *index), const char *empty) {
     Core *self = (Core *)object;
     Call call = {.read = {self}};
     uint32_t index;
@@ -35,12 +34,12 @@ static PyObject *member_at_end(PyObject *object, bool (*find)(const hibitset_t *
 
 static PyObject *core_min(PyObject *self, PyObject *unused) {
     (void)unused;
-    return member_at_end(self, hibitset_first, "min of an empty set");
+    return member_at_end(self, set_first, "min of an empty set");
 }
 
 static PyObject *core_max(PyObject *self, PyObject *unused) {
     (void)unused;
-    return member_at_end(self, hibitset_last, "max of an empty set");
+    return member_at_end(self, set_last, "max of an empty set");
 }
 
 static PyObject *core_first_from(PyObject *object, PyObject *item) {
@@ -49,7 +48,7 @@ static PyObject *core_first_from(PyObject *object, PyObject *item) {
     uint32_t start, index;
     if (bound_of(item, false, &start) < 0) return NULL;
     begin(&call, 0);
-    size_t count = hibitset_next_many(&self->set, start, &index, 1);
+    size_t count = set_next_many(&self->set, start, &index, 1);
     end(&call);
     return index_or_none(count == 1, index);
 }
@@ -60,18 +59,7 @@ static PyObject *core_last_before(PyObject *object, PyObject *item) {
     uint32_t bound, index;
     if (bound_of(item, false, &bound) < 0) return NULL;
     begin(&call, 0);
-    bool found = hibitset_last_before(&self->set, bound, &index);
-    end(&call);
-    return index_or_none(found, index);
-}
-
-static PyObject *core_first_gap(PyObject *object, PyObject *item) {
-    Core *self = (Core *)object;
-    Call call = {.read = {self}};
-    uint32_t start, index;
-    if (bound_of(item, false, &start) < 0) return NULL;
-    begin_walk(&call);
-    bool found = hibitset_first_gap(&self->set, start, &index);
+    bool found = set_last_before(&self->set, bound, &index);
     end(&call);
     return index_or_none(found, index);
 }
@@ -82,7 +70,7 @@ static PyObject *core_rank(PyObject *object, PyObject *item) {
     uint32_t bound;
     if (bound_of(item, false, &bound) < 0) return NULL;
     begin_walk(&call);
-    size_t rank = hibitset_rank(&self->set, bound);
+    size_t rank = set_rank(&self->set, bound);
     end(&call);
     return PyLong_FromSize_t(rank);
 }
@@ -94,7 +82,7 @@ static PyObject *core_select(PyObject *object, PyObject *item) {
     uint32_t at, index;
     if (bound_of(item, false, &at) < 0) return NULL;
     begin_walk(&call);
-    bool found = hibitset_select(&self->set, at, &index);
+    bool found = set_select(&self->set, at, &index);
     end(&call);
     return index_or_none(found, index);
 }
@@ -105,7 +93,7 @@ static PyObject *core_len_range(PyObject *object, PyObject *const *arguments, Py
     uint32_t start, bound;
     if (bounds_of(arguments, count, false, &start, &bound) < 0) return NULL;
     begin_walk(&call);
-    size_t len = hibitset_len_range(&self->set, start, bound);
+    size_t len = set_len_range(&self->set, start, bound);
     end(&call);
     return PyLong_FromSize_t(len);
 }
@@ -123,7 +111,7 @@ static PyObject *core_rank_many(PyObject *object, PyObject *const *arguments, Py
     bool fits = bounds.len <= ranks.len;
     if (fits) {
         begin_walk_and(&call, bounds.len);
-        hibitset_rank_many(&self->set, bounds.items, bounds.len, ranks.items, ranks.len);
+        set_rank_many(&self->set, bounds.items, bounds.len, ranks.items, ranks.len);
         end(&call);
     }
     PyBuffer_Release(&bounds.view);
@@ -149,12 +137,6 @@ PyDoc_STRVAR(last_before_text, "last_before($self, end, /)\n--\n\n"
 ">>> BitSet([5, 70_000]).last_before(70_000)\n"
 "5");
 
-PyDoc_STRVAR(first_gap_text, "first_gap($self, start, /)\n--\n\n"
-"Return the least index from start on that is no member, or None.\n\n"
-">>> from hibitset import BitSet\n"
-">>> BitSet([5, 6, 8]).first_gap(5)\n"
-"7");
-
 PyDoc_STRVAR(rank_text, "rank($self, end, /)\n--\n\n"
 "Return how many members are less than end: the position of end, if it is a member.\n\n"
 ">>> from hibitset import BitSet\n"
@@ -169,7 +151,6 @@ const PyMethodDef order_methods[] = {
     METHOD("max", core_max, METH_NOARGS, max_text),
     METHOD("first_from", core_first_from, METH_O, first_from_text),
     METHOD("last_before", core_last_before, METH_O, last_before_text),
-    METHOD("first_gap", core_first_gap, METH_O, first_gap_text),
     METHOD("rank", core_rank, METH_O, rank_text),
     METHOD("_select", core_select, METH_O, NULL),
     METHOD("len_range", core_len_range, METH_FASTCALL, len_range_text),

@@ -1,9 +1,9 @@
-/* ranges.c: methods on ranges of indices, on all of them, and on capacity. */
+/* ranges.c: methods on ranges of indices, on all of them, and on memory. */
 #include "core.h"
 
 /* Changes the indices in a range by a function of the library. */
 static PyObject *change_range(PyObject *object, PyObject *const *arguments, Py_ssize_t count,
-                              hibitset_status (*change)(hibitset_t *set, uint32_t start, uint32_t end)) {
+                              hibitset_status (*change)(Set *set, uint32_t start, uint32_t end)) {
     Core *self = (Core *)object;
     Call call = {.changed = self};
     uint32_t start, bound;
@@ -15,11 +15,11 @@ static PyObject *change_range(PyObject *object, PyObject *const *arguments, Py_s
 }
 
 static PyObject *core_add_range(PyObject *self, PyObject *const *arguments, Py_ssize_t count) {
-    return change_range(self, arguments, count, hibitset_add_range);
+    return change_range(self, arguments, count, set_add_range);
 }
 
 static PyObject *core_flip_range(PyObject *self, PyObject *const *arguments, Py_ssize_t count) {
-    return change_range(self, arguments, count, hibitset_flip_range);
+    return change_range(self, arguments, count, set_flip_range);
 }
 
 static PyObject *core_remove_range(PyObject *object, PyObject *const *arguments, Py_ssize_t count) {
@@ -27,7 +27,7 @@ static PyObject *core_remove_range(PyObject *object, PyObject *const *arguments,
     Call call = {.changed = self};
     uint32_t start, bound;
     if (bounds_of(arguments, count, false, &start, &bound) < 0 || !begin_walk(&call)) return NULL;
-    hibitset_remove_range(&self->set, start, bound);
+    set_remove_range(&self->set, start, bound);
     end(&call);
     Py_RETURN_NONE;
 }
@@ -37,52 +37,21 @@ static PyObject *core_clear(PyObject *object, PyObject *unused) {
     Call call = {.changed = self};
     (void)unused;
     if (!begin_walk(&call)) return NULL;
-    call.unchanged = hibitset_is_empty(&self->set);
-    hibitset_free(&self->set);
+    call.unchanged = set_is_empty(&self->set);
+    set_free(&self->set);
     end(&call);
     Py_RETURN_NONE;
 }
 
-/* Makes the set an empty one with capacity for each index below a bound. */
-static PyObject *core_with_capacity(PyObject *object, PyObject *item) {
-    Core *self = (Core *)object;
-    Call call = {.changed = self};
-    uint32_t bound;
-    if (bound_of(item, true, &bound) < 0 || !begin_range(&call, 0, bound)) return NULL;
-    hibitset_status status = hibitset_with_capacity(&self->set, bound);
-    end(&call);
-    return none_or_error(status);
-}
-
-static PyObject *core_reserve(PyObject *object, PyObject *item) {
-    Core *self = (Core *)object;
-    Call call = {.changed = self, .unchanged = true};
-    uint32_t bound;
-    if (bound_of(item, true, &bound) < 0 || !begin_range(&call, 0, bound)) return NULL;
-    hibitset_status status = hibitset_reserve(&self->set, bound);
-    end(&call);
-    return none_or_error(status);
-}
-
-/* Returns how many bytes the words take. */
+/* Returns how many bytes the words and their tables take. */
 static PyObject *core_memory(PyObject *object, PyObject *unused) {
     Core *self = (Core *)object;
     Call call = {.read = {self}};
     (void)unused;
     begin(&call, 0);
-    size_t memory = hibitset_memory(&self->set);
+    size_t memory = set_memory(&self->set);
     end(&call);
     return PyLong_FromSize_t(memory);
-}
-
-static PyObject *core_capacity(PyObject *object, PyObject *unused) {
-    Core *self = (Core *)object;
-    Call call = {.read = {self}};
-    (void)unused;
-    begin(&call, 0);
-    size_t capacity = hibitset_capacity(&self->set);
-    end(&call);
-    return PyLong_FromSize_t(capacity);
 }
 
 PyDoc_STRVAR(add_range_text, "add_range($self, start, end, /)\n--\n\n"
@@ -107,20 +76,11 @@ PyDoc_STRVAR(remove_range_text, "remove_range($self, start, end, /)\n--\n\n"
 PyDoc_STRVAR(clear_text, "clear($self, /)\n--\n\n"
 "Remove all members and free their memory.");
 
-PyDoc_STRVAR(reserve_text, "reserve($self, end, /)\n--\n\n"
-"Make room, so that the indices below end can be added without an allocation, and keep the members.");
-
-PyDoc_STRVAR(capacity_text, "capacity($self, /)\n--\n\n"
-"Return a number below which each index can be added without an allocation.");
-
 const PyMethodDef range_methods[] = {
     METHOD("add_range", core_add_range, METH_FASTCALL, add_range_text),
     METHOD("flip_range", core_flip_range, METH_FASTCALL, flip_range_text),
     METHOD("remove_range", core_remove_range, METH_FASTCALL, remove_range_text),
     METHOD("clear", core_clear, METH_NOARGS, clear_text),
-    METHOD("_with_capacity", core_with_capacity, METH_O, NULL),
-    METHOD("reserve", core_reserve, METH_O, reserve_text),
     METHOD("_memory", core_memory, METH_NOARGS, NULL),
-    METHOD("capacity", core_capacity, METH_NOARGS, capacity_text),
     END_OF_METHODS,
 };

@@ -6,7 +6,7 @@ static PyObject *core_serialized_len(PyObject *object, PyObject *unused) {
     Call call = {.read = {self}};
     (void)unused;
     begin_walk(&call);
-    size_t len = hibitset_roaring_len(&self->set);
+    size_t len = set_roaring_len(&self->set);
     end(&call);
     return PyLong_FromSize_t(len);
 }
@@ -18,21 +18,21 @@ static PyObject *core_serialize_into(PyObject *object, PyObject *buffer) {
     size_t taken = 0;
     if (items_of(buffer, 1, true, &bytes) < 0) return NULL;
     begin_walk(&call);
-    hibitset_status status = hibitset_roaring_write(&self->set, bytes.items, bytes.len, &taken);
+    hibitset_status status = set_roaring_write(&self->set, bytes.items, bytes.len, &taken);
     end(&call);
     PyBuffer_Release(&bytes.view);
     return hibitset_failed(status) ? none_or_error(status) : PyLong_FromSize_t(taken);
 }
 
-/* Returns the stream if it has at most `len` bytes, as it has unless another thread has changed the set. If not, returns
- * NULL and leaves how many it has, or sets an error. */
+/* Returns the stream if it has at most `len` bytes, as it has unless another thread has changed the set. If not,
+ * returns NULL and leaves how many it has, or sets an error. */
 static PyObject *stream_of(Core *self, size_t *len) {
     Call call = {.read = {self}};
     size_t taken = 0;
     PyObject *bytes = PyBytes_FromStringAndSize(NULL, (Py_ssize_t)*len), *stream;
     if (bytes == NULL) return NULL;
     begin_walk(&call);
-    hibitset_status status = hibitset_roaring_write(&self->set, (uint8_t *)PyBytes_AsString(bytes), *len, &taken);
+    hibitset_status status = set_roaring_write(&self->set, (uint8_t *)PyBytes_AsString(bytes), *len, &taken);
     end(&call);
     if (status == HIBITSET_OK && taken == *len) return bytes;
     stream = status == HIBITSET_OK ? PyBytes_FromStringAndSize(PyBytes_AsString(bytes), (Py_ssize_t)taken) : NULL;
@@ -48,7 +48,7 @@ static PyObject *core_serialize(PyObject *object, PyObject *unused) {
     PyObject *bytes;
     (void)unused;
     begin_walk(&call);
-    size_t len = hibitset_roaring_len(&self->set);
+    size_t len = set_roaring_len(&self->set);
     end(&call);
     do bytes = stream_of(self, &len);
     while (bytes == NULL && !PyErr_Occurred());
@@ -70,7 +70,7 @@ static PyObject *core_deserialize(PyObject *object, PyObject *const *arguments, 
         PyBuffer_Release(&bytes.view);
         return NULL;
     }
-    hibitset_status status = hibitset_roaring_read_below(&self->set, bytes.items, bytes.len, keys, &fault, &at);
+    hibitset_status status = set_roaring_read_below(&self->set, bytes.items, bytes.len, keys, &fault, &at);
     call.unchanged = hibitset_failed(status);
     end(&call);
     PyBuffer_Release(&bytes.view);

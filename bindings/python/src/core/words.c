@@ -20,7 +20,7 @@ static PyObject *core_assign_words(PyObject *object, PyObject *buffer) {
         PyBuffer_Release(&words.view);
         return NULL;
     }
-    hibitset_status status = hibitset_assign_words(&self->set, words.items, words.len);
+    hibitset_status status = hibitset_assign_words(&self->set.dense, words.items, words.len);
     call.unchanged = hibitset_failed(status);
     end(&call);
     PyBuffer_Release(&words.view);
@@ -34,7 +34,7 @@ static PyObject *core_copy_words(PyObject *object, PyObject *buffer) {
     Items words;
     if (items_of(buffer, 8, true, &words) < 0) return NULL;
     begin(&call, words.len);
-    hibitset_copy_words(&self->set, 0, words.items, words.len);
+    hibitset_copy_words(&self->set.dense, 0, words.items, words.len);
     end(&call);
     PyBuffer_Release(&words.view);
     Py_RETURN_NONE;
@@ -76,7 +76,7 @@ static int words_getbuffer(PyObject *object, Py_buffer *view, int flags) {
         return -1;
     }
     begin(&call, 0);
-    const uint64_t *words = hibitset_words(&self->of->set, &len);
+    const uint64_t *words = hibitset_words(&self->of->set.dense, &len);
     self->of->views++;
     end(&call);
     self->len = (Py_ssize_t)len;

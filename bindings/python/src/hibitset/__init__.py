@@ -6,7 +6,8 @@
     >>> dirty & loaded
     BitSet([70000])
 
-A BitSet has the methods and operators of Python's set, and beside them order, ranges, numpy arrays and streams.
+A BitSet has the methods and operators of Python's set, and beside them order, ranges, numpy arrays and streams. A
+SparseBitSet has them too, and its memory goes by its members, wherever they lie.
 hibitset.ids has sets of 64-bit ids, and hibitset.dask such sets over many processes or machines.
 """
 try:
@@ -18,7 +19,8 @@ except ImportError as error:
     raise
 
 from ._bitset import BitSet
+from ._sparse import SparseBitSet
 from ._streams import Fault, StreamError
 
 __version__ = "0.1.0"
-__all__ = ["LIBRARY_VERSION", "MAX_INDEX", "BitSet", "Fault", "StreamError", "__version__"]
+__all__ = ["LIBRARY_VERSION", "MAX_INDEX", "BitSet", "Fault", "SparseBitSet", "StreamError", "__version__"]

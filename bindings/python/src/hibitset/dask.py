@@ -1,18 +1,19 @@
-"""Sets of 64-bit ids that are spread over the workers of Dask: a shard, which is a BitSet, is a task.
+"""Sets of 64-bit ids that are spread over the workers of Dask: a shard is a task.
 
     ids = hibitset.dask.from_ids(array, bits=28, shards=16)     # a Dask array, series or bag of integers
     both = (ids & other).persist()
     both.count().compute(), both.contains(asked).compute(), both.rank(2**30).compute()
     both.to_folder("both")
 
-Between processes go streams. from_folder reads what to_folder has written, also where the processes are others.
+A shard is a BitSet or a SparseBitSet, as in an IdSet: whichever takes fewer bytes. Between processes go streams.
+from_folder reads what to_folder has written, also where the processes are others.
 """
 from __future__ import annotations
 
 import operator
 import os
 import uuid
-from collections.abc import Callable, Iterable, Sequence
+from collections.abc import Callable, Sequence
 from pathlib import Path
 from typing import Any, Optional, Union
 
@@ -26,7 +27,8 @@ from dask.delayed import Delayed
 from dask.highlevelgraph import HighLevelGraph
 
 from . import folder as folders
-from ._bitset import BitSet
+from ._indexset import IndexSet
+from ._shards import Shard, built, combined
 from .folder import FolderError
 from .ids import IdSet, Parts, check_shape, ids_of, shard_at, split
 
@@ -41,13 +43,7 @@ def _split(ids: Any, bits: int, shards: int) -> list[Any]:
     return split(ids if hasattr(ids, "__array__") else list(ids), bits, shards)
 
 
-def _built(parts: Iterable[Any]) -> BitSet:
-    made = BitSet()
-    made.update(*parts)
-    return made
-
-
-def _finished(shards: Sequence[BitSet], bits: int) -> IdSet:
+def _finished(shards: Sequence[Shard], bits: int) -> IdSet:
     return IdSet(shards, bits)
 
 
@@ -55,7 +51,7 @@ def _lows(parts: Parts, high: int) -> Any:
     return parts.lows[high]
 
 
-def _read(folder: str, bits: int, *entry: Any) -> BitSet:
+def _read(folder: str, bits: int, *entry: Any) -> Shard:
     return folders.read_shard(folder, folders.Entry(*entry), bits)
 
 
@@ -119,20 +115,20 @@ class ShardedSet(DaskMethodsMixin):  # type: ignore[misc]
     def _delayed(self, name: str, tasks: dict[Any, Any], *others: Any) -> Delayed:
         return Delayed(name, HighLevelGraph.from_collections(name, tasks, dependencies=[self, *others]))
 
-    def _beside(self, other: object, call: Callable[..., Any]) -> tuple[str, dict[Any, Any]]:
-        """A task for each shard, with that of another set; and the name of these."""
+    def _beside(self, other: object, name: str, *call: Callable[..., Any]) -> tuple[str, dict[Any, Any]]:
+        """A call for each shard, with that of another set, as tasks; and the name of these."""
         if not isinstance(other, ShardedSet):
             raise TypeError(f"expected a ShardedSet, got {type(other).__name__}")
         if (other.bits, other.shards) != (self.bits, self.shards):
             raise ValueError("the two sets have other shards")
-        name = f"{call.__name__.strip('_')}-{tokenize(self, other)}"
+        name = f"{name}-{tokenize(self, other)}"
         pairs = zip(self.__dask_keys__(), other.__dask_keys__())
-        return name, {(name, high): (call, a, b) for high, (a, b) in enumerate(pairs)}
+        return name, {(name, high): (*call, a, b) for high, (a, b) in enumerate(pairs)}
 
     def _with(self, other: object, call: Callable[..., Any]) -> ShardedSet:
         if not isinstance(other, ShardedSet):
             return NotImplemented
-        name, tasks = self._beside(other, call)
+        name, tasks = self._beside(other, call.__name__.strip("_"), combined, call)
         graph = HighLevelGraph.from_collections(name, tasks, dependencies=[self, other])
         return ShardedSet(graph, name, self.shards, self.bits)
 
@@ -150,7 +146,7 @@ class ShardedSet(DaskMethodsMixin):  # type: ignore[misc]
 
     def equals(self, other: ShardedSet) -> Delayed:
         """Return whether the two have the same members, to be computed."""
-        name, tasks = self._beside(other, operator.eq)
+        name, tasks = self._beside(other, "eq", operator.eq)
         tasks[name] = (all, list(tasks))
         return self._delayed(name, tasks, other)
 
@@ -187,7 +183,7 @@ class ShardedSet(DaskMethodsMixin):  # type: ignore[misc]
         tasks = self._len_tasks(name, min(max(high, 0), self.shards))
         counts = list(tasks)
         if 0 <= high < self.shards:
-            tasks[name, high] = (BitSet.rank, (self._name, high), low)
+            tasks[name, high] = (IndexSet.rank, (self._name, high), low)
             counts.append((name, high))
         tasks[name] = (sum, counts)
         return self._delayed(name, tasks)
@@ -215,7 +211,7 @@ class ShardedSet(DaskMethodsMixin):  # type: ignore[misc]
             tasks[parts] = (Parts, key, self.bits, self.shards)
             for high, shard in enumerate(self.__dask_keys__()):
                 tasks["lows-" + name, chunk, high] = (_lows, parts, high)
-                tasks["found-" + name, chunk, high] = (BitSet.contains, shard, ("lows-" + name, chunk, high))
+                tasks["found-" + name, chunk, high] = (IndexSet.contains, shard, ("lows-" + name, chunk, high))
             found = [("found-" + name, chunk, high) for high in range(self.shards)]
             tasks[name, chunk] = (Parts.answers, parts, found)
         graph = HighLevelGraph.from_collections(name, tasks, dependencies=[self, asked])
@@ -269,8 +265,8 @@ def from_ids(ids: Any, *, bits: int = 28, shards: int = 16, parts_at_once: int =
         while len(parts) > parts_at_once:
             groups = [parts[first : first + parts_at_once] for first in range(0, len(parts), parts_at_once)]
             parts = [("union-" + name, high, len(tasks) + g) for g in range(len(groups))]
-            tasks.update({part: (_built, group) for part, group in zip(parts, groups)})
-        tasks[name, high] = (_built, parts)
+            tasks.update({part: (built, group) for part, group in zip(parts, groups)})
+        tasks[name, high] = (built, parts)
     return ShardedSet(HighLevelGraph.from_collections(name, tasks, dependencies=chunks), name, shards, bits)
 
 

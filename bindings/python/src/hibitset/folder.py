@@ -15,6 +15,8 @@ from pathlib import Path
 from typing import Any, NamedTuple, Union
 
 from ._bitset import BitSet
+from ._shards import Shard, smaller
+from ._sparse import SparseBitSet
 from ._streams import StreamError
 
 __all__ = ["MANIFEST", "Entry", "FolderError", "Manifest", "commit", "read_manifest", "read_shard", "write_shard"]
@@ -22,6 +24,7 @@ __all__ = ["MANIFEST", "Entry", "FolderError", "Manifest", "commit", "read_manif
 MANIFEST = "hibitset.json"
 FORMAT = "hibitset shards, version 1"
 LEAST_BITS, MOST_BITS = 6, 30
+INDICES_OF_MEMBER = 16  # A file with a member for this many indices or fewer is read as a BitSet at once.
 UNLISTED = re.compile(r"shard-\d{5,}-[0-9a-f]{16}\.roaring|\.(shard-|hibitset\.json).*\.part")
 
 
@@ -78,7 +81,7 @@ def _sync(folder: Path) -> None:
         os.close(handle)
 
 
-def write_shard(folder: Union[str, Path], high: int, shard: BitSet) -> Entry:
+def write_shard(folder: Union[str, Path], high: int, shard: Shard) -> Entry:
     """Write the file of a shard, and return what the manifest will say of it."""
     data = shard.serialize()
     sha256 = hashlib.sha256(data).hexdigest()
@@ -136,8 +139,11 @@ def read_manifest(folder: Union[str, Path]) -> Manifest:
     return Manifest(bits, entries)
 
 
-def read_shard(folder: Union[str, Path], entry: Entry, bits: int) -> BitSet:
-    """Return the shard that an entry names. FolderError if its file is missing, cut short, or another one."""
+def read_shard(folder: Union[str, Path], entry: Entry, bits: int) -> Shard:
+    """Return the shard that an entry names, of the kind that takes fewer bytes.
+
+    FolderError if its file is missing, cut short, or another one.
+    """
     path = Path(folder) / entry.file
     try:
         data = path.read_bytes()
@@ -147,10 +153,11 @@ def read_shard(folder: Union[str, Path], entry: Entry, bits: int) -> BitSet:
         raise FolderError(f"{path} has {len(data)} bytes, and {MANIFEST} says {entry.bytes}")
     if hashlib.sha256(data).hexdigest() != entry.sha256:
         raise FolderError(f"{path} is of another set: it has not the checksum that {MANIFEST} says")
+    kind: type[Shard] = BitSet if INDICES_OF_MEMBER * entry.members >= 1 << bits else SparseBitSet
     try:
-        shard = BitSet.deserialize(data, below=1 << bits)
+        shard: Shard = kind.deserialize(data, below=1 << bits)
     except StreamError as error:
         raise FolderError(f"{path}: {error}") from error
     if len(shard) != entry.members:
         raise FolderError(f"{path} has {len(shard)} members, and {MANIFEST} says {entry.members}")
-    return shard
+    return smaller(shard)

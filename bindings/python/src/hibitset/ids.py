@@ -1,4 +1,4 @@
-"""Sets of 64-bit ids in one process: a shard, which is a BitSet, for each value of their high bits."""
+"""Sets of 64-bit ids in one process: a shard, of the kind that takes fewer bytes, for each value of their high bits."""
 from __future__ import annotations
 
 import operator
@@ -12,8 +12,9 @@ import numpy.typing as npt
 
 from . import folder as folders
 from ._arrays import integers
-from ._bitset import BitSet
 from ._core import split_ids
+from ._shards import Shard, added, combined, fills_a_dense_set, smaller
+from ._sparse import SparseBitSet
 
 __all__ = ["IdSet"]
 
@@ -59,7 +60,7 @@ def split(given: Any, bits: int, shards: int, first: int = 0) -> list[npt.NDArra
     return parts.lows
 
 
-def ids_of(shard: BitSet, high: int, bits: int) -> npt.NDArray[np.uint64]:
+def ids_of(shard: Shard, high: int, bits: int) -> npt.NDArray[np.uint64]:
     """The ids of the members of a shard."""
     return shard._ids(high << bits)
 
@@ -82,13 +83,15 @@ class IdSet:
     >>> 1 << 33 in users, len(users), users.rank(1 << 33)
     (True, 2, 1)
 
-    Each shard is a BitSet, and takes a bit for each id up to the last that it has. A set that was computed of a
-    ShardedSet may share its shards with it: change a copy.
+    Each shard is a BitSet, which takes a bit for each id up to its last one and a 64th more, or a SparseBitSet, which
+    takes memory by its members: the kind that takes fewer bytes. It is chosen where a shard is made of an array, read,
+    or returned by an operator; add and discard keep it. One thread at a time changes an IdSet. A set that was computed
+    of a ShardedSet may share its shards with it: change a copy.
     """
 
     __slots__ = ("bits", "shards")
 
-    def __init__(self, shards: Sequence[BitSet], bits: int) -> None:
+    def __init__(self, shards: Sequence[Shard], bits: int) -> None:
         check_shape(bits, len(shards))
         self.bits = bits
         self.shards = list(shards)
@@ -99,7 +102,7 @@ class IdSet:
     def from_numpy(cls, ids: npt.ArrayLike, *, shards: int, bits: int) -> IdSet:
         """Return the set of the integers of an array. OverflowError for one that is no id, with its position."""
         check_shape(bits, shards)
-        made = cls([BitSet() for _ in range(shards)], bits)
+        made = cls([SparseBitSet() for _ in range(shards)], bits)
         made.update(ids)
         return made
 
@@ -124,7 +127,7 @@ class IdSet:
 
     # ---- Ids in and out ----
 
-    def _place(self, id_: int) -> tuple[Optional[BitSet], int]:
+    def _place(self, id_: int) -> tuple[Optional[Shard], int]:
         """The shard of an id, or None, and its low bits."""
         high, low = divmod(operator.index(id_), 1 << self.bits)
         return (self.shards[high] if 0 <= high < len(self.shards) else None), low
@@ -139,10 +142,16 @@ class IdSet:
     def update(self, ids: npt.ArrayLike) -> None:
         """Add the integers of an array. OverflowError for one that is no id, with its position: others may be added."""
         flat = integers(ids).reshape(-1)
-        for first in range(0, len(flat), IDS_AT_ONCE):
-            parts = split(flat[first : first + IDS_AT_ONCE], self.bits, len(self.shards), first)
-            for shard, lows in zip(self.shards, parts):
-                shard.update(lows)
+        fills = fills_a_dense_set(1 << self.bits, len(flat) // len(self.shards))
+        try:
+            for first in range(0, len(flat), IDS_AT_ONCE):
+                parts = split(flat[first : first + IDS_AT_ONCE], self.bits, len(self.shards), first)
+                for high, lows in enumerate(parts):
+                    if len(lows):
+                        self.shards[high] = added(self.shards[high], lows, fills)
+        finally:
+            if fills:
+                self.shards = list(map(smaller, self.shards))
 
     def discard(self, id_: int) -> None:
         """Remove an id if it is a member."""
@@ -189,12 +198,12 @@ class IdSet:
 
     # ---- Two sets ----
 
-    def _with(self, other: object, call: Callable[[BitSet, BitSet], BitSet]) -> IdSet:
+    def _with(self, other: object, call: Callable[[Any, Any], Any]) -> IdSet:
         if not isinstance(other, IdSet):
             return NotImplemented
         if (other.bits, len(other.shards)) != (self.bits, len(self.shards)):
             raise ValueError("the two sets have other shards")
-        return IdSet(list(map(call, self.shards, other.shards)), self.bits)
+        return IdSet([combined(call, a, b) for a, b in zip(self.shards, other.shards)], self.bits)
 
     def __and__(self, other: object) -> IdSet:
         return self._with(other, operator.and_)
