@@ -473,7 +473,7 @@ void hibitset_sparse_shrink_to_fit(hibitset_sparse_t *set);
 
 /* Returns how many bytes the words of the set and their tables take. The blocks of memory may be longer, for members to
  * come. */
-size_t hibitset_sparse_memory(const hibitset_sparse_t *set);
+size_t hibitset_sparse_memory(hibitset_sparse_t *set);
 
 /* Adds an index, less than HIBITSET_MAX_EID. HIBITSET_OK: it is new. HIBITSET_PRESENT: it was a member.
  * HIBITSET_NO_MEMORY (never if a member has the same index / 64), HIBITSET_OUT_OF_RANGE: the members are unchanged. */
@@ -513,7 +513,7 @@ bool hibitset_sparse_pop_last(hibitset_sparse_t *set, uint32_t *index);
 bool hibitset_sparse_contains(hibitset_sparse_t *set, uint32_t index);
 
 /* Writes for each of `len` indices whether it is a member, as hibitset_contains_many does. */
-size_t hibitset_sparse_contains_many(const hibitset_sparse_t *set, const uint32_t *indices, size_t len, uint8_t *found,
+size_t hibitset_sparse_contains_many(hibitset_sparse_t *set, const uint32_t *indices, size_t len, uint8_t *found,
                                      size_t found_len);
 
 /* Returns the number of members. */
@@ -540,11 +540,11 @@ size_t hibitset_sparse_rank(hibitset_sparse_t *set, uint32_t end);
 bool hibitset_sparse_select(hibitset_sparse_t *set, size_t at, uint32_t *index);
 
 /* Writes for each of `len` ends the number of members before it, as hibitset_rank_many does. */
-size_t hibitset_sparse_rank_many(const hibitset_sparse_t *set, const uint32_t *ends, size_t len, uint64_t *ranks,
+size_t hibitset_sparse_rank_many(hibitset_sparse_t *set, const uint32_t *ends, size_t len, uint64_t *ranks,
                                  size_t ranks_len);
 
 /* Writes for each of `len` positions the member there, as hibitset_select_many does. */
-size_t hibitset_sparse_select_many(const hibitset_sparse_t *set, const uint64_t *positions, size_t len, uint32_t *indices,
+size_t hibitset_sparse_select_many(hibitset_sparse_t *set, const uint64_t *positions, size_t len, uint32_t *indices,
                                    size_t indices_len);
 
 /* Returns the number of members from `start` on and before `end`. */
@@ -557,7 +557,7 @@ size_t hibitset_sparse_next_many(hibitset_sparse_t *set, uint32_t start, uint32_
 size_t hibitset_sparse_prev_many(hibitset_sparse_t *set, uint32_t end, uint32_t *buffer, size_t len);
 
 /* Writes the members from `start` on into `buffer`, each plus `base`, as hibitset_next_many_u64 does. */
-size_t hibitset_sparse_next_many_u64(const hibitset_sparse_t *set, uint32_t start, uint64_t base, uint64_t *buffer,
+size_t hibitset_sparse_next_many_u64(hibitset_sparse_t *set, uint32_t start, uint64_t base, uint64_t *buffer,
                                      size_t len);
 
 /* Calls `visit` with each member, ascending, and `param`, until it returns false. Returns whether it never did. `visit`
@@ -605,13 +605,13 @@ static inline bool hibitset_sparse_equals(hibitset_sparse_t *a, hibitset_sparse_
 /* ---- Streams of sparse sets, in the format of those of dense ones ---- */
 
 /* Returns how many bytes hibitset_sparse_roaring_write writes of a set. It allocates nothing. */
-size_t hibitset_sparse_roaring_len(const hibitset_sparse_t *set);
+size_t hibitset_sparse_roaring_len(hibitset_sparse_t *set);
 
 /* Writes the stream of a set's members that hibitset_roaring_write writes of a dense set, and leaves in `*taken` how many
  * bytes that takes. What lies behind them in the buffer stays. It allocates the stream, and 16 bytes for each 65,536
  * indices with members.
  * HIBITSET_SHORT_BUFFER (`len` is less than `*taken`): `buffer` is unchanged. HIBITSET_NO_MEMORY: so is `*taken`. */
-HIBITSET_MUST_USE hibitset_status hibitset_sparse_roaring_write(const hibitset_sparse_t *set, uint8_t *buffer, size_t len,
+HIBITSET_MUST_USE hibitset_status hibitset_sparse_roaring_write(hibitset_sparse_t *set, uint8_t *buffer, size_t len,
                                                                 size_t *taken);
 
 /* Makes `set` the set whose members a stream has, as hibitset_roaring_read does. Its memory goes by the stream: at most
