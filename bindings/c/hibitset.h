@@ -539,11 +539,13 @@ size_t hibitset_sparse_rank(hibitset_sparse_t *set, uint32_t end);
  * there are no more than `at` members, returns false and leaves `*index`. */
 bool hibitset_sparse_select(hibitset_sparse_t *set, size_t at, uint32_t *index);
 
-/* Writes for each of `len` ends the number of members before it, as hibitset_rank_many does. */
+/* Writes for each of `len` ends the number of members before it, as hibitset_rank_many does. Of fewer than 64 it counts for
+ * each, and allocates nothing. */
 size_t hibitset_sparse_rank_many(hibitset_sparse_t *set, const uint32_t *ends, size_t len, uint64_t *ranks,
                                  size_t ranks_len);
 
-/* Writes for each of `len` positions the member there, as hibitset_select_many does. */
+/* Writes for each of `len` positions the member there, as hibitset_select_many does. Of fewer than 64 it counts for each, and
+ * allocates nothing. */
 size_t hibitset_sparse_select_many(hibitset_sparse_t *set, const uint64_t *positions, size_t len, uint32_t *indices,
                                    size_t indices_len);
 

@@ -14,6 +14,7 @@
 //! `requires`.
 #![tactic(auto)]
 
+mod answers;
 pub mod atomic;
 pub mod atomic_set;
 pub mod build;
@@ -43,8 +44,10 @@ pub mod set_or_seat;
 pub mod shared;
 pub mod sparse;
 pub mod sparse_assign;
+pub mod sparse_lists;
 pub mod sparse_order;
 pub mod sparse_pair;
+pub mod sparse_roaring;
 pub mod sparse_set;
 pub mod status;
 pub mod words;
