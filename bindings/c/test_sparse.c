@@ -92,7 +92,7 @@ static void some_indices(uint32_t *indices, size_t len, const uint32_t *list, si
 
 /* Lists of `len` items, into buffers of `room`. What lies behind the written items stays. */
 static void check_lists(hibitset_sparse_t *set, const uint32_t *list, size_t members, uint32_t base, size_t len, size_t room) {
-    uint32_t indices[200], found[201];
+    uint32_t indices[200] = {0}, found[201];
     uint64_t positions[200], ranks[201];
     uint8_t bytes[201];
     size_t count = len < room ? len : room, end = count, i;
