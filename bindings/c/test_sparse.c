@@ -617,7 +617,7 @@ static void failing_allocations(void) {
     }
 }
 
-/* The memory for the counts of long lists is refused: the answers are the same. */
+/* The allocation of the counts for long lists fails: the results are the same. */
 static void without_counts(void) {
     hibitset_sparse_t set = hibitset_sparse_new();
     uint32_t ends[100], found[100], i;

@@ -6,8 +6,8 @@ ghost use Rattle.hibitset_base.specs.Sets.{bit_of};
 ghost use Rattle.hibitset_c.specs.Buffer.{Fills};
 ghost use Rattle.hibitset_c.specs.LentSet.{has, word_of};
 
-use crate::answers::contains_each;
 use crate::lent_set::LentSet;
+use crate::lookups::contains_each;
 
 /// Writes for each index of a list whether it is a member, 1 or 0, until the buffer is full or there are no more.
 /// Returns how many.

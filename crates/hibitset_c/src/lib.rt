@@ -14,7 +14,6 @@
 //! `requires`.
 #![tactic(auto)]
 
-mod answers;
 pub mod atomic;
 pub mod atomic_set;
 pub mod build;
@@ -30,6 +29,7 @@ pub mod hash;
 pub mod ids;
 pub mod lent_set;
 pub mod lists;
+mod lookups;
 pub mod order;
 pub mod owned_box;
 pub mod pair;

@@ -10,8 +10,8 @@ ghost use Rattle.hibitset_c.specs.LentSet.{has as other_has};
 ghost use Rattle.hibitset_c.specs.List.{RemovesAll};
 ghost use Rattle.hibitset_c.specs.Set.{has, layer0_len};
 
-use crate::answers::{rank_each, select_each};
 use crate::lent_set::LentSet;
+use crate::lookups::{rank_each, select_each};
 use crate::set::Set;
 use hibitset::{DrainableBitSet, Index, Ranked};
 use std::alloc::Global;

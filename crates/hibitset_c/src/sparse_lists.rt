@@ -12,8 +12,8 @@ ghost use Rattle.hibitset_c.specs.Buffer.{Fills};
 ghost use Rattle.hibitset_c.specs.List.{RemovesAll};
 ghost use Rattle.hibitset_c.specs.Sparse.{has, IsSame};
 
-use crate::answers::{contains_each, rank_each, select_each};
 use crate::lists::remove_list;
+use crate::lookups::{contains_each, rank_each, select_each};
 use crate::set_or_seat::SetOrSeat;
 use crate::sparse_set::SparseSet;
 use hibitset::{BitSetLike, Index, Ranked};

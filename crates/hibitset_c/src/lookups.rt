@@ -1,4 +1,4 @@
-//! What a set answers to each item of a list, written into a buffer.
+//! Lookups of the items of a list in a set, whose results are written into a buffer.
 ghost use Rattle.std.specs.Prelude.{◌≡◌, ◌<◌, ◌≤◌, IfSome, length, map, min, slice_get, slice_index, take};
 ghost use Rattle.std.specs.List.{All};
 ghost use Rattle.hibitset_base.specs.Members.{members_below};

@@ -2,7 +2,7 @@ use Rattle.std.proofs.Common.{length, min, arith}
 use Rattle.hibitset_base.specs.Members.{members_below}
 use Rattle.hibitset_base.specs.declared.util.TheConstants.{MAX_EID}
 use Rattle.hibitset_c.proofs.BulkLemmas.{fills_map}
-use Rattle.hibitset_c.proofs.answers.rank_each.Goals as goal
+use Rattle.hibitset_c.proofs.lookups.rank_each.Goals as goal
 
 pub returns : goal.returns
 returns g c =

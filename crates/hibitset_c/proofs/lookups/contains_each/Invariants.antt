@@ -1,6 +1,6 @@
 use Rattle.std.proofs.Common.{◌≡◌, drop, length, map, take}
 use Rattle.hibitset_base.specs.Sets.{bit_of}
-use Rattle.hibitset_c.proofs.answers.contains_each.Given as goal
+use Rattle.hibitset_c.proofs.lookups.contains_each.Given as goal
 
 abbrev pub invariant-loop-slot : goal.invariant-loop-slot
 invariant-loop-slot g l = record {

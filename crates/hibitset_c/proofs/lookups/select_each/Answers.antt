@@ -6,7 +6,7 @@ use Rattle.hibitset_base.specs.Members.{members_below}
 use Rattle.hibitset_base.specs.declared.util.TheConstants.{MAX_EID}
 use Rattle.hibitset_c.proofs.BulkLemmas.{next_rest, next_written}
 use Rattle.hibitset_c.proofs.SelectLemmas.{past_of_none}
-use Rattle.hibitset_c.proofs.answers.select_each.Goals as goal
+use Rattle.hibitset_c.proofs.lookups.select_each.Goals as goal
 
 pub returns-in_default-clause-stops : goal.returns-in_default-clause-stops
 returns-in_default-clause-stops g c = λ less.

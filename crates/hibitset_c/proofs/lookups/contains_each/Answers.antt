@@ -1,7 +1,7 @@
 use Rattle.std.proofs.Common.{arith}
 use Rattle.hibitset_base.specs.Sets.{bit_of}
 use Rattle.hibitset_c.proofs.BulkLemmas.{fills_map}
-use Rattle.hibitset_c.proofs.answers.contains_each.Goals as goal
+use Rattle.hibitset_c.proofs.lookups.contains_each.Goals as goal
 
 pub returns : goal.returns
 returns g c =
