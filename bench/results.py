@@ -232,6 +232,8 @@ def part_of(cell, other):
 def sparse(results):
     """The part on sets whose memory goes by their members."""
     kinds = sparse_cells(results)
+    if not kinds:
+        return
     yield f"## Sparse sets\n\n{own_head('sparse', results)}. Of the Rust crate, filled in random order.\n"
     names = list(dict.fromkeys(name for sets in kinds.values() for name in sets))
     heads = [name.strip("`") for name in names]

@@ -7,8 +7,9 @@
  *     pages.add_range(10, 20);
  *     for (std::uint32_t page : pages) { ... }
  *
- * A failed allocation throws std::bad_alloc, an index that is out of range std::out_of_range. The members are then as
- * before, but for an addition of a list: the indices before the one that failed are added.
+ * A failed allocation throws std::bad_alloc, an index that is out of range std::out_of_range, and bytes that are no stream
+ * hibitset::malformed. The members are then as before, but for an addition of a list: the indices before the one that
+ * failed are added.
  */
 #ifndef HIBITSET_HPP
 #define HIBITSET_HPP
@@ -23,6 +24,15 @@
 #include <stdexcept>
 
 namespace hibitset {
+
+/* Bytes that are no stream, or one with members out of range: `fault` says what is wrong, at byte `at`. */
+class malformed : public std::invalid_argument {
+public:
+    malformed(hibitset_fault of, std::size_t position) : std::invalid_argument(hibitset_fault_text(of)), fault(of), at(position) {}
+
+    hibitset_fault fault;
+    std::size_t at;
+};
 
 namespace internal {
 
@@ -75,7 +85,18 @@ inline hibitset_status check(hibitset_status status) {
     return status;
 }
 
+inline void check_read(hibitset_status status, hibitset_fault fault, std::size_t at) {
+    if (status == HIBITSET_MALFORMED) throw malformed(fault, at);
+    check(status);
+}
+
 } // namespace internal
+
+/* Splits ids of 64 bits into shards and indices, as hibitset_split_ids does. */
+inline std::size_t split_ids(const std::uint64_t *ids, std::size_t len, std::uint32_t bits, std::uint32_t shards,
+                             std::uint32_t *highs, std::size_t highs_len, std::uint32_t *lows, std::size_t lows_len) noexcept {
+    return hibitset_split_ids(ids, len, bits, shards, highs, highs_len, lows, lows_len);
+}
 
 class set {
 public:
@@ -114,8 +135,16 @@ public:
     void flip_range(std::uint32_t start, std::uint32_t end) { check(hibitset_flip_range(&set_, start, end)); }
     /* Returns whether the index was a member. */
     bool remove(std::uint32_t index) noexcept { return hibitset_remove(&set_, index); }
+    /* Returns how many members that takes out of the set. */
+    std::size_t remove_many(const std::uint32_t *indices, std::size_t len) noexcept {
+        return hibitset_remove_many(&set_, indices, len);
+    }
     void remove_range(std::uint32_t start, std::uint32_t end) noexcept { hibitset_remove_range(&set_, start, end); }
     void clear() noexcept { hibitset_clear(&set_); }
+    /* Makes capacity for each index below `max`. */
+    void reserve(std::uint32_t max) { check(hibitset_reserve(&set_, max)); }
+    /* Returns how many bytes the words of the set take. */
+    std::size_t memory() const noexcept { return hibitset_memory(&set_); }
 
     bool contains(std::uint32_t index) const noexcept { return hibitset_contains(&set_, index); }
     /* Writes for each of `len` indices whether it is a member, 1 or 0, into `found`, until `found_len` bytes are
@@ -124,12 +153,45 @@ public:
                               std::size_t found_len) const noexcept {
         return hibitset_contains_many(&set_, indices, len, found, found_len);
     }
+    /* Writes for each of `len` ends how many members lie before it, until `ranks_len` are written, and returns how many. */
+    std::size_t rank_many(const std::uint32_t *ends, std::size_t len, std::uint64_t *ranks, std::size_t ranks_len) const noexcept {
+        return hibitset_rank_many(&set_, ends, len, ranks, ranks_len);
+    }
+    /* Writes for each of `len` positions of the ascending list of all the member there, up to the first without one and
+     * until `indices_len` are written, and returns how many. */
+    std::size_t select_many(const std::uint64_t *positions, std::size_t len, std::uint32_t *indices,
+                            std::size_t indices_len) const noexcept {
+        return hibitset_select_many(&set_, positions, len, indices, indices_len);
+    }
+    /* Writes the members from `start` on, each plus `base`, until `len` are written or there are no more, and returns how
+     * many. */
+    std::size_t next_many_u64(std::uint32_t start, std::uint64_t base, std::uint64_t *buffer, std::size_t len) const noexcept {
+        return hibitset_next_many_u64(&set_, start, base, buffer, len);
+    }
     /* Fills `buffer` with the words of the set from position `start` on, 0 for each that is past hibitset_words. */
     void copy_words(std::size_t start, std::uint64_t *buffer, std::size_t len) const noexcept {
         hibitset_copy_words(&set_, start, buffer, len);
     }
     std::size_t size() const noexcept { return hibitset_len(&set_); }
     bool empty() const noexcept { return hibitset_is_empty(&set_); }
+
+    /* Returns how many bytes the stream of the members takes in the portable Roaring format. */
+    std::size_t roaring_len() const noexcept { return hibitset_roaring_len(&set_); }
+    /* Writes the stream, and returns how many bytes it takes. If that is more than `len`, `buffer` is left as it was. */
+    std::size_t roaring_write(std::uint8_t *buffer, std::size_t len) const {
+        std::size_t taken = 0;
+        check(hibitset_roaring_write(&set_, buffer, len, &taken));
+        return taken;
+    }
+    /* Makes it the set whose members a stream has. */
+    void roaring_read(const std::uint8_t *bytes, std::size_t len) { roaring_read_below(bytes, len, HIBITSET_ROARING_KEYS); }
+    /* The same, if each member of the stream is less than 65536 * end. */
+    void roaring_read_below(const std::uint8_t *bytes, std::size_t len, std::uint32_t end) {
+        hibitset_fault fault = HIBITSET_FAULT_TOO_SHORT;
+        std::size_t at = 0;
+        const hibitset_status status = hibitset_roaring_read_below(&set_, bytes, len, end, &fault, &at);
+        internal::check_read(status, fault, at);
+    }
 
     set &operator|=(const set &other) { return check(hibitset_or_assign(&set_, &other.set_)), *this; }
     set &operator^=(const set &other) { return check(hibitset_xor_assign(&set_, &other.set_)), *this; }
@@ -216,13 +278,49 @@ public:
     void flip_range(std::uint32_t start, std::uint32_t end) { check(hibitset_sparse_flip_range(&set_, start, end)); }
     /* Returns whether the index was a member. */
     bool remove(std::uint32_t index) noexcept { return hibitset_sparse_remove(&set_, index); }
+    /* Returns how many members that takes out of the set. */
+    std::size_t remove_many(const std::uint32_t *indices, std::size_t len) noexcept {
+        return hibitset_sparse_remove_many(&set_, indices, len);
+    }
     void remove_range(std::uint32_t start, std::uint32_t end) noexcept { hibitset_sparse_remove_range(&set_, start, end); }
     void clear() noexcept { hibitset_sparse_clear(&set_); }
     void shrink_to_fit() noexcept { hibitset_sparse_shrink_to_fit(&set_); }
+    /* Returns how many bytes the words of the set and their tables take. */
+    std::size_t memory() noexcept { return hibitset_sparse_memory(&set_); }
 
     bool contains(std::uint32_t index) noexcept { return hibitset_sparse_contains(&set_, index); }
+    /* These four write into a buffer as those of a set do. */
+    std::size_t contains_many(const std::uint32_t *indices, std::size_t len, std::uint8_t *found,
+                              std::size_t found_len) noexcept {
+        return hibitset_sparse_contains_many(&set_, indices, len, found, found_len);
+    }
+    std::size_t rank_many(const std::uint32_t *ends, std::size_t len, std::uint64_t *ranks, std::size_t ranks_len) noexcept {
+        return hibitset_sparse_rank_many(&set_, ends, len, ranks, ranks_len);
+    }
+    std::size_t select_many(const std::uint64_t *positions, std::size_t len, std::uint32_t *indices,
+                            std::size_t indices_len) noexcept {
+        return hibitset_sparse_select_many(&set_, positions, len, indices, indices_len);
+    }
+    std::size_t next_many_u64(std::uint32_t start, std::uint64_t base, std::uint64_t *buffer, std::size_t len) noexcept {
+        return hibitset_sparse_next_many_u64(&set_, start, base, buffer, len);
+    }
     std::size_t size() noexcept { return hibitset_sparse_len(&set_); }
     bool empty() noexcept { return hibitset_sparse_is_empty(&set_); }
+
+    /* Streams, as those of a set. */
+    std::size_t roaring_len() noexcept { return hibitset_sparse_roaring_len(&set_); }
+    std::size_t roaring_write(std::uint8_t *buffer, std::size_t len) {
+        std::size_t taken = 0;
+        check(hibitset_sparse_roaring_write(&set_, buffer, len, &taken));
+        return taken;
+    }
+    void roaring_read(const std::uint8_t *bytes, std::size_t len) { roaring_read_below(bytes, len, HIBITSET_ROARING_KEYS); }
+    void roaring_read_below(const std::uint8_t *bytes, std::size_t len, std::uint32_t end) {
+        hibitset_fault fault = HIBITSET_FAULT_TOO_SHORT;
+        std::size_t at = 0;
+        const hibitset_status status = hibitset_sparse_roaring_read_below(&set_, bytes, len, end, &fault, &at);
+        internal::check_read(status, fault, at);
+    }
 
     sparse_set &operator|=(sparse_set &other) { return check(hibitset_sparse_or_assign(&set_, &other.set_)), *this; }
     sparse_set &operator^=(sparse_set &other) { return check(hibitset_sparse_xor_assign(&set_, &other.set_)), *this; }

@@ -206,6 +206,107 @@ static void contains_many(void) {
     }
 }
 
+/* The other calls on lists, of either kind of set, beside std::set. */
+template <class S> static void check_lists(S &of, const std::set<uint32_t> &model, size_t len, size_t room) {
+    std::vector<uint32_t> list(len), found(len + room + 1, 7);
+    std::vector<uint64_t> positions(len), numbers(len + room + 1, 7);
+    const size_t count = std::min(len, room);
+    for (uint32_t &index : list) index = random_below(20000);
+    for (uint64_t &position : positions) position = random_below((uint32_t)model.size() + 1);
+    CHECK(of.rank_many(list.data(), len, numbers.data(), room) == count && numbers[count] == 7);
+    for (size_t at = 0; at < count; at++) {
+        CHECK(numbers[at] == (size_t)std::distance(model.begin(), model.lower_bound(list[at])));
+    }
+    const size_t there = of.select_many(positions.data(), len, found.data(), room);
+    CHECK(there <= count && (there == count || positions[there] >= model.size()) && found[there] == 7);
+    for (size_t at = 0; at < there; at++) CHECK(found[at] == *std::next(model.begin(), (std::ptrdiff_t)positions[at]));
+    const uint32_t start = random_below(20000);
+    const uint64_t base = UINT64_C(3) << 30;
+    std::vector<uint64_t> ids;
+    for (auto next = model.lower_bound(start); next != model.end() && ids.size() < room; ++next) ids.push_back(base + *next);
+    std::fill(numbers.begin(), numbers.end(), 7);
+    CHECK(of.next_many_u64(start, base, numbers.data(), room) == ids.size());
+    CHECK(std::equal(ids.begin(), ids.end(), numbers.begin()) && numbers[ids.size()] == 7);
+}
+
+template <class S> static void lists(void) {
+    for (int turn = 0; turn < 100; turn++) {
+        std::set<uint32_t> model = random_members();
+        S ours;
+        for (uint32_t index : model) ours.add(index);
+        check_lists(ours, model, random_below(100), random_below(100));
+        CHECK(ours.memory() >= model.size() / 8 && S().memory() == 0);
+        std::vector<uint32_t> gone;
+        size_t removed = 0;
+        for (uint32_t count = random_below(400); count > 0; count--) gone.push_back(random_below(20000));
+        for (uint32_t index : gone) removed += model.erase(index);
+        CHECK(ours.remove_many(gone.data(), gone.size()) == removed);
+        check_members(ours, model);
+    }
+}
+
+static void capacity(void) {
+    set a{5};
+    a.reserve(70000);
+    CHECK(hibitset_capacity(a.raw()) >= 70000 && a.memory() >= 70000 / 8);
+    allocations_left = 0;
+    CHECK(a.add(69999));
+    allocations_left = -1;
+    CHECK(sparse_set{5}.memory() == 96);
+    const uint64_t ids[] = {(UINT64_C(2) << 30) + 5, UINT64_C(9) << 30, 7};
+    uint32_t highs[4] = {7, 7, 7, 7}, lows[4] = {7, 7, 7, 7};
+    CHECK(hibitset::split_ids(ids, 3, 30, 4, highs, 4, lows, 4) == 3);
+    CHECK(highs[0] == 2 && highs[1] == 4 && highs[2] == 0 && lows[0] == 5 && lows[1] == 0 && lows[2] == 7 && lows[3] == 7);
+}
+
+template <class E, class F> static bool throws(F work) {
+    try {
+        work();
+    } catch (const E &) {
+        return true;
+    }
+    return false;
+}
+
+/* Each allocation fails in turn, and the members stay. */
+template <class S, class F> static void failing(S &&before, F work) {
+    long failed = 0;
+    for (;; failed++) {
+        auto a = before.clone();
+        allocations_left = failed;
+        const bool thrown = throws<std::bad_alloc>([&] { work(a); });
+        allocations_left = -1;
+        if (!thrown) break;
+        CHECK(a == before);
+    }
+    CHECK(failed > 0);
+}
+
+/* A stream of the one kind is read by the other. */
+template <class S, class Other> static void streams(void) {
+    S ours{5, 70000, 1 << 20};
+    std::vector<uint8_t> bytes(ours.roaring_len());
+    CHECK(ours.roaring_write(bytes.data(), bytes.size() - 1) == bytes.size() && bytes == std::vector<uint8_t>(bytes.size()));
+    CHECK(ours.roaring_write(bytes.data(), bytes.size()) == bytes.size());
+    Other theirs{9};
+    theirs.roaring_read(bytes.data(), bytes.size());
+    check_members(theirs, {5, 70000, 1 << 20});
+    theirs.roaring_read_below(bytes.data(), bytes.size(), 17);
+    try {
+        theirs.roaring_read_below(bytes.data(), bytes.size(), 16);
+        CHECK(false);
+    } catch (const hibitset::malformed &error) {
+        CHECK(error.fault == HIBITSET_FAULT_KEY_OUT_OF_RANGE && error.at == 16);
+    }
+    bytes.pop_back();
+    CHECK(throws<std::invalid_argument>([&] { theirs.roaring_read(bytes.data(), bytes.size()); }));
+    check_members(theirs, {5, 70000, 1 << 20});
+    failing(ours, [&](S &) {
+        uint8_t buffer[64];
+        ours.roaring_write(buffer, sizeof buffer);
+    });
+}
+
 /* Bit by bit. What lies behind the buffer stays. */
 static void check_words(const set &of, size_t start, size_t len) {
     std::vector<uint64_t> buffer(len + 1, 7);
@@ -266,29 +367,6 @@ template <class S> static void moves(void) {
     for (uint32_t index = 0; index < 20; index++) CHECK(many[index].contains(index) && many[index].size() == 1);
 }
 
-template <class E, class F> static bool throws(F work) {
-    try {
-        work();
-    } catch (const E &) {
-        return true;
-    }
-    return false;
-}
-
-/* Each allocation fails in turn, and the members stay. */
-template <class S, class F> static void failing(S &&before, F work) {
-    long failed = 0;
-    for (;; failed++) {
-        auto a = before.clone();
-        allocations_left = failed;
-        const bool thrown = throws<std::bad_alloc>([&] { work(a); });
-        allocations_left = -1;
-        if (!thrown) break;
-        CHECK(a == before);
-    }
-    CHECK(failed > 0);
-}
-
 static void exceptions(void) {
     set a{5};
     CHECK(throws<std::out_of_range>([&] { a.add(HIBITSET_MAX_EID); }));
@@ -347,6 +425,11 @@ int main() {
     mixed_assignments();
     sets_of_two();
     contains_many();
+    lists<set>();
+    lists<sparse_set>();
+    capacity();
+    streams<set, sparse_set>();
+    streams<sparse_set, set>();
     copy_words();
     hashes();
     moves<set>();

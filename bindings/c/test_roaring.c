@@ -21,6 +21,36 @@ static uint8_t *stream_of(const hibitset_t *set, size_t *len) {
     return bytes;
 }
 
+/* A sparse set of the same members has the same stream, and is read of it in the place of another one. */
+static void check_sparse(const hibitset_t *of, const uint8_t *bytes, size_t len) {
+    hibitset_sparse_t set = hibitset_sparse_new(), copy = hibitset_sparse_new();
+    hibitset_fault fault = (hibitset_fault)7;
+    uint32_t last = 0;
+    size_t taken = 7, at = 7, i;
+    uint8_t *buffer = malloc(len + 3);
+    CHECK(buffer != NULL && hibitset_sparse_assign_dense(&set, of) == HIBITSET_OK && hibitset_sparse_roaring_len(&set) == len);
+    memset(buffer, 0xa5, len + 3);
+    CHECK(hibitset_sparse_roaring_write(&set, buffer, len - 1, &taken) == HIBITSET_SHORT_BUFFER && taken == len);
+    CHECK(hibitset_sparse_roaring_write(&set, NULL, 0, &taken) == HIBITSET_SHORT_BUFFER && taken == len);
+    for (i = 0; i < len + 3; i++) CHECK(buffer[i] == 0xa5);
+    taken = 7;
+    CHECK(hibitset_sparse_roaring_write(&set, buffer, len + 3, &taken) == HIBITSET_OK && taken == len);
+    CHECK(memcmp(buffer, bytes, len) == 0 && buffer[len] == 0xa5 && buffer[len + 2] == 0xa5);
+    CHECK(hibitset_sparse_roaring_write(&set, buffer, len, &taken) == HIBITSET_OK && memcmp(buffer, bytes, len) == 0);
+    CHECK(hibitset_sparse_add(&copy, 12345) == HIBITSET_OK);
+    CHECK(hibitset_sparse_roaring_read(&copy, bytes, len, &fault, &at) == HIBITSET_OK && hibitset_sparse_equals(&copy, &set));
+    CHECK(fault == 7 && at == 7);
+    if (hibitset_last(of, &last)) {
+        CHECK(hibitset_sparse_roaring_read_below(&copy, bytes, len, last / 65536, &fault, &at) == HIBITSET_MALFORMED);
+        CHECK(fault == HIBITSET_FAULT_KEY_OUT_OF_RANGE && hibitset_sparse_equals(&copy, &set));
+    }
+    CHECK(hibitset_sparse_roaring_read_below(&copy, bytes, len, last / 65536 + 1, &fault, &at) == HIBITSET_OK);
+    CHECK(hibitset_sparse_equals(&copy, &set));
+    free(buffer);
+    hibitset_sparse_free(&set);
+    hibitset_sparse_free(&copy);
+}
+
 /* A set is written, and read in the place of another one. */
 static void check_round_trip(const hibitset_t *set) {
     hibitset_t copy = hibitset_new();
@@ -37,6 +67,7 @@ static void check_round_trip(const hibitset_t *set) {
     }
     CHECK(hibitset_roaring_read_below(&copy, bytes, len, last / 65536 + 1, &fault, &at) == HIBITSET_OK);
     CHECK(hibitset_equals(&copy, set));
+    check_sparse(set, bytes, len);
     free(bytes);
     hibitset_free(&copy);
 }
@@ -74,11 +105,14 @@ static const uint8_t two_runs[] = {0x3b, 0x30, 0, 0, 1, 0, 0, 3, 0, 2, 0, 0, 0, 
 
 static void check_list(const uint8_t *bytes, size_t len, const uint32_t *list, size_t members) {
     hibitset_t set = hibitset_new();
+    hibitset_sparse_t sparse = hibitset_sparse_new();
     hibitset_fault fault;
     size_t at, i;
     CHECK(hibitset_roaring_read(&set, bytes, len, &fault, &at) == HIBITSET_OK && hibitset_len(&set) == members);
-    for (i = 0; i < members; i++) CHECK(hibitset_contains(&set, list[i]));
+    CHECK(hibitset_sparse_roaring_read(&sparse, bytes, len, &fault, &at) == HIBITSET_OK && hibitset_sparse_len(&sparse) == members);
+    for (i = 0; i < members; i++) CHECK(hibitset_contains(&set, list[i]) && hibitset_sparse_contains(&sparse, list[i]));
     hibitset_free(&set);
+    hibitset_sparse_free(&sparse);
 }
 
 static void streams_of_another_library(void) {
@@ -100,6 +134,17 @@ static void streams_of_another_library(void) {
 
 /* ---- Bytes that are no stream ---- */
 
+static void check_sparse_refused(const uint8_t *bytes, size_t len, uint32_t wanted, size_t position) {
+    hibitset_sparse_t set = hibitset_sparse_new();
+    hibitset_fault fault = (hibitset_fault)0;
+    size_t at = SIZE_MAX;
+    CHECK(hibitset_sparse_roaring_read(&set, bytes, len, &fault, &at) == HIBITSET_MALFORMED && hibitset_sparse_is_empty(&set));
+    CHECK(fault == wanted && at == position && hibitset_sparse_add(&set, 12345) == HIBITSET_OK);
+    CHECK(hibitset_sparse_roaring_read_below(&set, bytes, len, UINT32_MAX, &fault, &at) == HIBITSET_MALFORMED);
+    CHECK(fault == wanted && at == position && hibitset_sparse_len(&set) == 1 && hibitset_sparse_contains(&set, 12345));
+    hibitset_sparse_free(&set);
+}
+
 /* Reads bytes into a set of one member, and sees that they are refused for this fault, at this position. */
 static void check_refused(const uint8_t *bytes, size_t len, uint32_t wanted, size_t position) {
     hibitset_t set = hibitset_new();
@@ -110,6 +155,7 @@ static void check_refused(const uint8_t *bytes, size_t len, uint32_t wanted, siz
     CHECK(fault == wanted && at == position);
     CHECK(hibitset_len(&set) == 1 && hibitset_contains(&set, 12345) && hibitset_capacity(&set) == 12352);
     hibitset_free(&set);
+    check_sparse_refused(bytes, len, wanted, position);
 }
 
 /* Where the part of `arrays` begins in which a stream of `len` bytes ends. */
@@ -175,6 +221,19 @@ static void bounds(void) {
     hibitset_free(&set);
 }
 
+static void sparse_bounds(void) {
+    hibitset_sparse_t set = hibitset_sparse_new();
+    hibitset_fault fault;
+    size_t at;
+    CHECK(hibitset_sparse_roaring_read_below(&set, arrays, sizeof arrays, 1, &fault, &at) == HIBITSET_MALFORMED);
+    CHECK(fault == HIBITSET_FAULT_KEY_OUT_OF_RANGE && at == 12 && hibitset_sparse_is_empty(&set));
+    CHECK(hibitset_sparse_roaring_read_below(&set, arrays, sizeof arrays, 2, &fault, &at) == HIBITSET_OK);
+    CHECK(hibitset_sparse_roaring_read_below(&set, arrays, sizeof arrays, UINT32_MAX, &fault, &at) == HIBITSET_OK);
+    CHECK(hibitset_sparse_roaring_read_below(&set, arrays, sizeof arrays, 0, &fault, &at) == HIBITSET_MALFORMED && at == 8);
+    CHECK(hibitset_sparse_len(&set) == 3);
+    hibitset_sparse_free(&set);
+}
+
 /* ---- Each allocation fails in turn ---- */
 
 /* Reads a stream into a set with or without members, the first `met` allocations of which succeed. Returns whether all did. */
@@ -214,6 +273,63 @@ static bool write_meets(const hibitset_t *set, long met) {
     return status == HIBITSET_OK;
 }
 
+/* The same of sparse sets. */
+static bool sparse_read_meets(bool has_member, long met) {
+    hibitset_sparse_t set = hibitset_sparse_new();
+    hibitset_fault fault = (hibitset_fault)7;
+    size_t at = 7;
+    hibitset_status status;
+    if (has_member) CHECK(hibitset_sparse_add(&set, 5) == HIBITSET_OK);
+    allocations_left = met;
+    status = hibitset_sparse_roaring_read(&set, arrays, sizeof arrays, &fault, &at);
+    allocations_left = -1;
+    CHECK(fault == 7 && at == 7);
+    if (status != HIBITSET_OK) {
+        CHECK(status == HIBITSET_NO_MEMORY && hibitset_sparse_len(&set) == has_member);
+        CHECK(hibitset_sparse_contains(&set, 5) == has_member);
+        CHECK(hibitset_sparse_roaring_read(&set, arrays, sizeof arrays, &fault, &at) == HIBITSET_OK);
+    }
+    CHECK(hibitset_sparse_len(&set) == 3 && hibitset_sparse_contains(&set, 65539));
+    hibitset_sparse_free(&set);
+    return status == HIBITSET_OK;
+}
+
+static bool sparse_write_meets(hibitset_sparse_t *set, long met) {
+    uint8_t bytes[sizeof arrays];
+    size_t taken = 7, i;
+    hibitset_status status;
+    memset(bytes, 0xa5, sizeof bytes);
+    allocations_left = met;
+    status = hibitset_sparse_roaring_write(set, bytes, sizeof bytes, &taken);
+    allocations_left = -1;
+    if (status != HIBITSET_OK) {
+        CHECK(status == HIBITSET_NO_MEMORY && taken == 7);
+        for (i = 0; i < sizeof bytes; i++) CHECK(bytes[i] == 0xa5);
+        CHECK(hibitset_sparse_roaring_write(set, bytes, sizeof bytes, &taken) == HIBITSET_OK);
+    }
+    CHECK(taken == sizeof arrays && memcmp(bytes, arrays, sizeof bytes) == 0);
+    return status == HIBITSET_OK;
+}
+
+static void sparse_failing_allocations(void) {
+    hibitset_sparse_t set = hibitset_sparse_new();
+    hibitset_fault fault;
+    size_t at;
+    int has_member;
+    long met;
+    for (has_member = 0; has_member < 2; has_member++) {
+        for (met = 0; !sparse_read_meets(has_member, met); met++) CHECK(met < 100);
+        CHECK(met > 0);
+    }
+    CHECK(hibitset_sparse_roaring_read(&set, arrays, sizeof arrays, &fault, &at) == HIBITSET_OK);
+    for (met = 0; !sparse_write_meets(&set, met); met++) CHECK(met < 100);
+    CHECK(met > 0);
+    allocations_left = 0;
+    CHECK(hibitset_sparse_roaring_len(&set) == sizeof arrays);
+    allocations_left = -1;
+    hibitset_sparse_free(&set);
+}
+
 static void failing_allocations(void) {
     hibitset_t set = hibitset_new();
     hibitset_fault fault;
@@ -238,7 +354,9 @@ int main(void) {
     prefixes();
     malformed();
     bounds();
+    sparse_bounds();
     failing_allocations();
+    sparse_failing_allocations();
     puts("test_roaring.c: ok");
     return 0;
 }

@@ -69,6 +69,65 @@ static void check_order(hibitset_sparse_t *set, const uint32_t *list, size_t mem
     check_backwards(set, list, members, UINT32_MAX);
 }
 
+/* How many of the members begin a new one of the blocks of so many indices. */
+static size_t blocks_of(const uint32_t *list, size_t members, uint32_t size) {
+    size_t blocks = members > 0, i;
+    for (i = 1; i < members; i++) blocks += list[i] / size != list[i - 1] / size;
+    return blocks;
+}
+
+static void check_memory(hibitset_sparse_t *set, const uint32_t *list, size_t members) {
+    CHECK(hibitset_sparse_memory(set) == 8 * blocks_of(list, members, 64) + 16 * blocks_of(list, members, 4096) +
+                                             56 * blocks_of(list, members, 262144) + 16 * blocks_of(list, members, 16777216));
+}
+
+/* Members and indices at random; the first three are the first index and two out of range. */
+static void some_indices(uint32_t *indices, size_t len, const uint32_t *list, size_t members, uint32_t base) {
+    size_t i;
+    for (i = 0; i < len; i++) {
+        indices[i] = members > 0 && random_below(2) == 0 ? list[random_below((uint32_t)members)] : base + random_below(RANGE);
+    }
+    if (len > 2) indices[0] = 0, indices[1] = HIBITSET_MAX_EID, indices[2] = UINT32_MAX;
+}
+
+/* Lists of `len` items, into buffers of `room`. What lies behind the written items stays. */
+static void check_lists(hibitset_sparse_t *set, const uint32_t *list, size_t members, uint32_t base, size_t len, size_t room) {
+    uint32_t indices[200] = {0}, found[201];
+    uint64_t positions[200], ranks[201];
+    uint8_t bytes[201];
+    size_t count = len < room ? len : room, end = count, i;
+    CHECK(len <= 200 && room <= 200);
+    some_indices(indices, len, list, members, base);
+    memset(bytes, 7, sizeof bytes);
+    memset(ranks, 7, sizeof ranks);
+    memset(found, 7, sizeof found);
+    CHECK(hibitset_sparse_contains_many(set, indices, len, bytes, room) == count);
+    for (i = 0; i < count; i++) CHECK(bytes[i] == hibitset_sparse_contains(set, indices[i]));
+    for (; i < 201; i++) CHECK(bytes[i] == 7);
+    CHECK(hibitset_sparse_rank_many(set, indices, len, ranks, room) == count);
+    for (i = 0; i < count; i++) CHECK(ranks[i] == hibitset_sparse_rank(set, indices[i]));
+    for (; i < 201; i++) CHECK(ranks[i] == UINT64_C(0x0707070707070707));
+    for (i = 0; i < len; i++) positions[i] = members > 0 ? random_below((uint32_t)members) : 0;
+    if (len > 0 && random_below(2) == 0) positions[random_below((uint32_t)len)] = members + random_below(2);
+    for (i = count; i > 0; i--) {
+        if (positions[i - 1] >= members) end = i - 1;
+    }
+    CHECK(hibitset_sparse_select_many(set, positions, len, found, room) == end);
+    for (i = 0; i < end; i++) CHECK(found[i] == list[positions[i]]);
+    for (; i < 201; i++) CHECK(found[i] == 0x07070707);
+}
+
+static void check_ids(hibitset_sparse_t *set, uint32_t start, uint64_t added) {
+    uint32_t indices[64];
+    uint64_t ids[65];
+    size_t count, i;
+    memset(ids, 7, sizeof ids);
+    count = hibitset_sparse_next_many(set, start, indices, 64);
+    CHECK(hibitset_sparse_next_many_u64(set, start, added, ids, 64) == count);
+    for (i = 0; i < count; i++) CHECK(ids[i] == added + indices[i]);
+    for (; i < 65; i++) CHECK(ids[i] == UINT64_C(0x0707070707070707));
+}
+
 static void check_members(hibitset_sparse_t *set, const unsigned char *model, uint32_t base) {
     static uint32_t list[RANGE];
     uint32_t index = 12345, *next = list, i;
@@ -81,6 +140,9 @@ static void check_members(hibitset_sparse_t *set, const unsigned char *model, ui
     index = 12345;
     CHECK(hibitset_sparse_last(set, &index) == (members > 0) && index == (members > 0 ? list[members - 1] : 12345));
     check_order(set, list, members, base);
+    check_memory(set, list, members);
+    check_lists(set, list, members, base, random_below(201), random_below(3) ? 200 : random_below(201));
+    check_ids(set, base + random_below(RANGE), UINT64_MAX - random_below(3) * (uint64_t)base);
     CHECK(hibitset_sparse_iterate(set, visit_in_order, &next) && next == list + members);
     CHECK(hibitset_sparse_iterate(set, stop_at_once, &index) == (members == 0));
     CHECK(members == 0 || index == list[0]);
@@ -201,6 +263,21 @@ static void add_list(hibitset_sparse_t *set, unsigned char *model, uint32_t base
     CHECK(hibitset_sparse_add_many(set, list, 300, &added) == HIBITSET_OK && added == 300);
 }
 
+/* A list that has some indices twice, and some that are no members. */
+static void remove_list(hibitset_sparse_t *set, unsigned char *model, uint32_t base) {
+    uint32_t list[302], index;
+    size_t members = 0, i;
+    for (i = 0; i < 300; i++) {
+        index = random_below(RANGE) / (1 + random_below(3000));
+        list[i] = base + index;
+        members += model[index];
+        model[index] = 0;
+    }
+    list[300] = HIBITSET_MAX_EID;
+    list[301] = UINT32_MAX;
+    CHECK(hibitset_sparse_remove_many(set, list, 302) == members && hibitset_sparse_remove_many(set, list, 302) == 0);
+}
+
 static void pop_some(hibitset_sparse_t *set, unsigned char *model, uint32_t base) {
     uint32_t first = 0, last = RANGE, index;
     int i;
@@ -219,7 +296,7 @@ static void pop_some(hibitset_sparse_t *set, unsigned char *model, uint32_t base
 static void change(hibitset_sparse_t *x, hibitset_sparse_t *y, unsigned char *a, unsigned char *b, uint32_t base) {
     uint32_t i, start = random_below(RANGE), end = start + random_below(random_below(3) ? 300 : 100000);
     if (end > RANGE) end = RANGE;
-    switch (random_below(11)) {
+    switch (random_below(12)) {
     case 0:
     case 1: change_some(x, a, base, true); break;
     case 2: change_some(x, a, base, false); break;
@@ -243,6 +320,7 @@ static void change(hibitset_sparse_t *x, hibitset_sparse_t *y, unsigned char *a,
         memset(a, 0, RANGE);
         break;
     case 9: hibitset_sparse_shrink_to_fit(x); break;
+    case 10: remove_list(x, a, base); break;
     default: assign(x, y, a, b, base);
     }
 }
@@ -289,10 +367,21 @@ static hibitset_sparse_t empty_set(int way) {
 
 /* Looks at an empty set by each function, and changes it by those that leave it so. None allocates. */
 static void check_empty(hibitset_sparse_t *set, hibitset_sparse_t *other) {
+    static const uint32_t indices[] = {0, 3};
+    static const uint64_t positions[] = {0, 3};
     uint32_t index = 7, buffer[4] = {7, 7, 7, 7}, *next = buffer;
+    uint64_t ids[4] = {7, 7, 7, 7};
+    uint8_t found[4] = {7, 7, 7, 7};
     size_t added = 7;
     long before = allocations;
-    CHECK(hibitset_sparse_len(set) == 0 && hibitset_sparse_is_empty(set) && !hibitset_sparse_contains(set, 0));
+    CHECK(hibitset_sparse_contains_many(set, indices, 2, found, 4) == 2 && found[0] == 0 && found[1] == 0 && found[2] == 7);
+    CHECK(hibitset_sparse_contains_many(set, NULL, 0, found, 4) == 0 && hibitset_sparse_contains_many(set, indices, 2, NULL, 0) == 0);
+    CHECK(hibitset_sparse_next_many_u64(set, 0, 9, ids, 4) == 0 && hibitset_sparse_next_many_u64(set, 0, 9, NULL, 0) == 0);
+    CHECK(hibitset_sparse_select_many(set, positions, 2, buffer, 4) == 0 && hibitset_sparse_select_many(set, NULL, 0, NULL, 0) == 0);
+    CHECK(ids[0] == 7 && hibitset_sparse_rank_many(set, indices, 2, ids, 4) == 2 && ids[0] == 0 && ids[1] == 0 && ids[2] == 7);
+    CHECK(hibitset_sparse_rank_many(set, NULL, 0, NULL, 0) == 0 && hibitset_sparse_memory(set) == 0);
+    CHECK(hibitset_sparse_roaring_len(set) == 8 && hibitset_sparse_remove_many(set, indices, 2) == 0);
+    CHECK(hibitset_sparse_remove_many(set, NULL, 0) == 0 && hibitset_sparse_len(set) == 0 && hibitset_sparse_is_empty(set) && !hibitset_sparse_contains(set, 0));
     CHECK(!hibitset_sparse_first(set, &index) && !hibitset_sparse_last(set, &index));
     CHECK(!hibitset_sparse_last_before(set, 9, &index) && !hibitset_sparse_select(set, 0, &index));
     CHECK(hibitset_sparse_rank(set, 9) == 0 && hibitset_sparse_len_range(set, 0, 9) == 0);
@@ -407,6 +496,42 @@ static void out_of_range(void) {
     hibitset_sparse_free(&set);
 }
 
+/* ---- The borders of words, groups and chunks ---- */
+
+static void borders(void) {
+    static const uint32_t all[] = {0, 63, 64, 4095, 4096, 262143, 262144, 16777215, 16777216, HIBITSET_MAX_EID - 1};
+    static const struct { size_t len, room; } rows[] = {{0, 5}, {5, 0}, {10, 3}, {63, 70}, {64, 64}, {100, 200}};
+    size_t first, len, i;
+    for (first = 0; first < 10; first++) {
+        for (len = 0; first + len <= 10; len++) {
+            const uint32_t *list = all + first;
+            hibitset_sparse_t set = hibitset_sparse_new();
+            size_t added;
+            CHECK(hibitset_sparse_add_many(&set, list, len, &added) == HIBITSET_OK && added == len);
+            check_memory(&set, list, len);
+            for (i = 0; i < sizeof rows / sizeof *rows; i++) check_lists(&set, list, len, 0, rows[i].len, rows[i].room);
+            check_ids(&set, first == 0 ? 0 : all[first - 1] + 1, (uint64_t)first << 30);
+            CHECK(hibitset_sparse_remove_many(&set, all, 10) == len && hibitset_sparse_is_empty(&set));
+            CHECK(hibitset_sparse_memory(&set) == 0);
+            hibitset_sparse_free(&set);
+        }
+    }
+}
+
+/* One member takes 96 bytes, and the second one what it does not share with the first. */
+static void memory_of_two(void) {
+    static const struct { uint32_t second; size_t bytes; } rows[] = {
+        {63, 96}, {4095, 104}, {262143, 120}, {16777215, 176}, {HIBITSET_MAX_EID - 1, 192}};
+    size_t i;
+    for (i = 0; i < sizeof rows / sizeof *rows; i++) {
+        hibitset_sparse_t set = hibitset_sparse_new();
+        CHECK(hibitset_sparse_add(&set, 0) == HIBITSET_OK && hibitset_sparse_memory(&set) == 96);
+        CHECK(hibitset_sparse_add(&set, rows[i].second) == HIBITSET_OK && hibitset_sparse_memory(&set) == rows[i].bytes);
+        CHECK(hibitset_sparse_remove(&set, 0) && hibitset_sparse_memory(&set) == 96);
+        hibitset_sparse_free(&set);
+    }
+}
+
 static void one_set_twice(void) {
     hibitset_sparse_t set = hibitset_sparse_new();
     CHECK(hibitset_sparse_add(&set, 3) == HIBITSET_OK && hibitset_sparse_assign(&set, &set) == HIBITSET_OK);
@@ -492,6 +617,22 @@ static void failing_allocations(void) {
     }
 }
 
+/* The allocation of the counts for long lists fails: the results are the same. */
+static void without_counts(void) {
+    hibitset_sparse_t set = hibitset_sparse_new();
+    uint32_t ends[100], found[100], i;
+    uint64_t positions[100], ranks[100];
+    for (i = 0; i < 100; i++) CHECK(hibitset_sparse_add(&set, ends[i] = i * 10007) == HIBITSET_OK);
+    for (i = 0; i < 100; i++) positions[i] = 99 - i;
+    allocations_left = 0;
+    CHECK(hibitset_sparse_rank_many(&set, ends, 100, ranks, 100) == 100);
+    CHECK(hibitset_sparse_select_many(&set, positions, 100, found, 100) == 100);
+    for (i = 0; i < 100; i++) CHECK(ranks[i] == i && found[i] == ends[99 - i]);
+    CHECK(hibitset_sparse_remove_many(&set, ends, 50) == 50 && hibitset_sparse_len(&set) == 50);
+    allocations_left = -1;
+    hibitset_sparse_free(&set);
+}
+
 /* A member lies among the same 64 indices: nothing is allocated. Nor is where members are removed. */
 static void without_memory(void) {
     hibitset_sparse_t set = hibitset_sparse_new(), other = hibitset_sparse_new();
@@ -560,8 +701,11 @@ int main(void) {
     for (i = 0; i < sizeof bases / sizeof *bases; i++) random_changes(bases[i]);
     empty_sets();
     out_of_range();
+    borders();
+    memory_of_two();
     one_set_twice();
     failing_allocations();
+    without_counts();
     without_memory();
     copies_for_threads();
     puts("test_sparse.c: ok");

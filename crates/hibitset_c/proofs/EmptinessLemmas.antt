@@ -1,12 +1,13 @@
 -- A set that there is not has no member.
-use Rattle.std.proofs.Common.{◌≡◌, ℕ, false, List, [], length, take, zero, suc, Option, None, Some, refl, sym, ap, arith}
+use Rattle.std.proofs.Common.{◌≡◌, ℕ, ◌-◌, ◌^◌, ◌==◌, Bool, false, not, List, [], length, map, take, zero, suc, Option, None, Some, refl, sym, ap, arith}
 use mathlib.Core.Bool.{true≢false}
 use Rattle.std.specs.Prelude.{is_some, reverse, slice_get}
 use Rattle.hibitset_base.specs.Members.{members}
 use Rattle.hibitset_base.proofs.MemberLemmas.{members-none}
+use Rattle.hibitset_sparse.specs.Memory.{memory_of}
 use Rattle.hibitset_c.specs.Atomic.{has_in}
 use Rattle.hibitset_c.specs.Buffer.{Fills}
-use Rattle.hibitset_c.specs.Sparse.{has_in as sparse_in}
+use Rattle.hibitset_c.specs.Sparse.{has_in as sparse_in, word_in}
 use Rattle.hibitset_c.specs.declared.set_or_seat.SetOrSeat.{SetOrSeat}
 
 take_none : (n : ℕ) → take {A = ℕ} n [] ≡ []
@@ -47,3 +48,22 @@ fills_no_sparse content none start count buffer = fills_nothing (members (sparse
 
 pub fills_back_no_sparse : (content : Option SetOrSeat) → is_some content ≡ false → (start count : ℕ) (buffer : List ℕ) → Fills (reverse (members (sparse_in content) start count)) buffer 0 buffer
 fills_back_no_sparse content none start count buffer = fills_nothing (reverse (members (sparse_in content) start count)) buffer (ap reverse (no_sparse content none start count))
+
+pub fills_above_no_sparse : (content : Option SetOrSeat) → is_some content ≡ false → (f : ℕ → ℕ) (start count : ℕ) (buffer : List ℕ) → Fills (map f (members (sparse_in content) start count)) buffer 0 buffer
+fills_above_no_sparse content none f start count buffer = fills_nothing (map f (members (sparse_in content) start count)) buffer (ap (map f) (no_sparse content none start count))
+
+-- it is as any set without a member
+pub as_none : (content : Option SetOrSeat) → is_some content ≡ false → (p : ℕ → Bool) → ((i : ℕ) → p i ≡ false) → p ≡ sparse_in content
+as_none None none p empty = λ j i. empty i j
+as_none (Some content) none p empty = absurd (true≢false none)
+
+-- and has no word
+pub no_bytes : (content : Option SetOrSeat) → is_some content ≡ false → 0 ≡ memory_of (word_in content)
+no_bytes None none =
+    let words = λ (l : ℕ). ap length (members-none (λ p. not (word_in None l p == 0)) 0 (64 ^ (4 - l)) (λ i from below. refl)) in
+    let zeroth = words 0 in
+    let first = words 1 in
+    let second = words 2 in
+    let third = words 3 in
+    omega (arith, zeroth, first, second, third)
+no_bytes (Some content) none = absurd (true≢false none)

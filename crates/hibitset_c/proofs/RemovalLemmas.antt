@@ -6,10 +6,7 @@ use Rattle.std.proofs.lemmas.List.Elements.{Contains-append_left, Contains-push,
 use Rattle.hibitset_base.specs.Members.{members_below}
 use Rattle.hibitset_base.specs.declared.util.TheConstants.{MAX_EID}
 use Rattle.hibitset_base.proofs.MemberLemmas.{members-same}
-use Rattle.hibitset.specs.BitSet.{has}
-use Rattle.hibitset.specs.declared.set.BitSet.{BitSet}
 use Rattle.hibitset.proofs.MemberCountLemmas.{members-without}
-use Rattle.hibitset.proofs.WithinLemmas.{has_within}
 use Rattle.hibitset_c.specs.List.{RemovesAll}
 
 apart : (was : Bool) (i x : ℕ) → (was && not (i == x)) ≡ true → (was ≡ true) × (i ≢ x)
@@ -43,11 +40,15 @@ module _ (list : List ℕ) (count : ℕ) (below : count < length list) where
       )
 
 -- How many members are left, and how many are gone.
-module _ (middle new : BitSet) (x total count : ℕ) (removed : (i : ℕ) → has new i ≡ (has middle i && not (i == x))) (before : total ≡ count + length (members_below MAX_EID (has middle))) where
-  pub one_less : has middle x ≡ true → total ≡ count + 1 + length (members_below MAX_EID (has new))
-  one_less there = let one = members-without (has middle) (has new) x MAX_EID removed there (has_within middle x there) in omega (arith, one, before)
+module _ (middle new : ℕ → Bool) (x total count : ℕ) (removed : (i : ℕ) → new i ≡ (middle i && not (i == x))) (before : total ≡ count + length (members_below MAX_EID middle)) where
+  pub one_less : middle x ≡ true → x < MAX_EID → total ≡ count + 1 + length (members_below MAX_EID new)
+  one_less there below = let one = members-without middle new x MAX_EID removed there below in omega (arith, one, before)
 
-  pub none_less : has middle x ≡ false → total ≡ count + length (members_below MAX_EID (has new))
+  pub none_less : middle x ≡ false → total ≡ count + length (members_below MAX_EID new)
   none_less clear =
-      let still = ap length (members-same (has new) (has middle) 0 MAX_EID (λ i from below. removed i ∙ same (has middle i) i x (λ here. ap (has middle) here ∙ clear))) in
+      let still = ap length (members-same new middle 0 MAX_EID (λ i from below. removed i ∙ same (middle i) i x (λ here. ap middle here ∙ clear))) in
       omega (arith, still, before)
+
+-- what is left lies where all lay
+pub still_within : (middle new : ℕ → Bool) (x : ℕ) → ((i : ℕ) → new i ≡ (middle i && not (i == x))) → ((i : ℕ) → middle i ≡ true → i < MAX_EID) → (i : ℕ) → new i ≡ true → i < MAX_EID
+still_within middle new x removed within i on = within i (apart (middle i) i x (sym (removed i) ∙ on)).0

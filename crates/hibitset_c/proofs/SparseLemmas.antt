@@ -32,7 +32,8 @@ word_of_near set i j same on = elim (cases_lt 0 (word_of set 0 (i / 64))) [
 pub not_near : (set : SparseBitSet) (i : ℕ) → word_of set 0 (i / 64) ≡ 0 → ¬ ((j : ℕ) × (j / 64 ≡ i / 64) × (has set j ≡ true))
 not_near set i none near = member_apart set near.0 i near.2 none near.1
 
-within : (set : SparseBitSet) (i : ℕ) → has set i ≡ true → i < MAX_EID
+-- a member lies in the range
+pub within : (set : SparseBitSet) (i : ℕ) → has set i ≡ true → i < MAX_EID
 unfolding has word_of
 within set i on = members-within set.chunks i on
 

@@ -7,7 +7,7 @@ ghost use Rattle.hibitset_c.specs.Buffer.{Fills};
 ghost use Rattle.hibitset_c.specs.LentSet.{has, word_of};
 
 use crate::lent_set::LentSet;
-use hibitset::BitSetLike;
+use crate::lookups::contains_each;
 
 /// Writes for each index of a list whether it is a member, 1 or 0, until the buffer is full or there are no more.
 /// Returns how many.
@@ -19,11 +19,7 @@ pub extern "C" fn hibitset_contains_many(
 ) -> usize
     ensures { Fills (map (λ i. bit_of (has set.now i)) indices.now) found.old result found.new }
 {
-    let count = indices.len().min(found.len());
-    for slot in 0..count {
-        found[slot] = u8::from(set.contains(indices[slot]));
-    }
-    count
+    contains_each(set, indices, found)
 }
 
 /// Fills the buffer with the words of layer 0 from position `start` on, which are 0 past the set's last.

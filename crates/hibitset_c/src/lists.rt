@@ -1,33 +1,20 @@
 //! Calls that take a list of indices, ends or positions.
 #![tactic(auto)]
 
-ghost use Rattle.std.specs.Prelude.{◌≡◌, ◌+◌, ◌<◌, ◌≤◌, IfSome, length, map, min, slice_get, slice_index, take};
+ghost use Rattle.std.specs.Prelude.{◌≡◌, ℕ, ◌+◌, ◌<◌, ◌≤◌, true, length, map, min, slice_index, take};
 ghost use Rattle.std.specs.List.{All};
 ghost use Rattle.hibitset_base.specs.Members.{members_below};
-ghost use Rattle.hibitset_base.specs.Ranked.{counted_set};
 ghost use Rattle.hibitset_base.specs.declared.util.TheConstants.{MAX_EID};
-ghost use Rattle.hibitset.specs.BitSet.{has as bits_have, slice_len};
 ghost use Rattle.hibitset_c.specs.Buffer.{Fills};
 ghost use Rattle.hibitset_c.specs.LentSet.{has as other_has};
 ghost use Rattle.hibitset_c.specs.List.{RemovesAll};
 ghost use Rattle.hibitset_c.specs.Set.{has, layer0_len};
 
 use crate::lent_set::LentSet;
+use crate::lookups::{rank_each, select_each};
 use crate::set::Set;
-use hibitset::{BitSet, BitSetLike, Index, Ranked};
+use hibitset::{DrainableBitSet, Index, Ranked};
 use std::alloc::Global;
-
-// How many members lie before `end`, by the counts of the set if there are any.
-#[inline]
-fn rank_by(counted: &Option<Ranked<LentSet<'_>>>, set: &LentSet<'_>, end: u32) -> usize
-    requires { IfSome counted.now (λ ranked. counted_set ranked ≡ set.now) }
-    ensures { result ≡ length (members_below (min end MAX_EID) (other_has set.now)) }
-{
-    match counted {
-        Some(ranked) => ranked.rank(end),
-        None => set.rank(end),
-    }
-}
 
 /// Writes for each end of a list how many members lie before it, until the buffer is full or there are no more ends.
 /// Returns how many were written.
@@ -45,23 +32,7 @@ pub extern "C" fn hibitset_rank_many(
         ends.now) ranks.old result ranks.new }
 {
     let counted = Ranked::new(alloc, *set).ok();
-    let count = ends.len().min(ranks.len());
-    for slot in 0..count {
-        ranks[slot] = rank_by(&counted, set, ends[slot]);
-    }
-    count
-}
-
-// Returns the member at a position, by the counts of the set if there are any.
-#[inline]
-fn select_by(counted: &Option<Ranked<LentSet<'_>>>, set: &LentSet<'_>, at: usize) -> Option<Index>
-    requires { IfSome counted.now (λ ranked. counted_set ranked ≡ set.now) }
-    ensures { result ≡ slice_get (members_below MAX_EID (other_has set.now)) at }
-{
-    match counted {
-        Some(ranked) => ranked.select(at),
-        None => set.select(at),
-    }
+    rank_each(&counted, set, ends, ranks)
 }
 
 /// Writes the member at each position of a list, until the buffer is full, there are no more positions, or the set has
@@ -84,23 +55,17 @@ pub extern "C" fn hibitset_select_many(
         → length (members_below MAX_EID (other_has set.now)) ≤ slice_index positions.now result }
 {
     let counted = Ranked::new(alloc, *set).ok();
-    let most = positions.len().min(indices.len());
-    for slot in 0..most {
-        let Some(index) = select_by(&counted, set, positions[slot]) else {
-            return slot;
-        };
-        indices[slot] = index;
-    }
-    most
+    select_each(&counted, set, positions, indices)
 }
 
-// Removes the indices of a list. Returns how many of them were members.
+// Removes the indices of a list. Returns how many of them were members. No member is out of range.
 #[inline]
-fn remove_list(set: &mut BitSet, list: &[Index]) -> usize
-    ensures removed { RemovesAll list.now (bits_have set.old) (bits_have set.new) }
-    ensures count { length (members_below MAX_EID (bits_have set.old))
-        ≡ result + length (members_below MAX_EID (bits_have set.new)) }
-    ensures length { slice_len set.new 0 ≡ slice_len set.old 0 }
+pub(crate) fn remove_list<T: DrainableBitSet>(set: &mut T, list: &[Index]) -> usize
+    requires { (i : ℕ) → T.holds set.old i ≡ true → i < MAX_EID }
+    ensures removed { RemovesAll list.now (T.holds set.old) (T.holds set.new) }
+    ensures count { length (members_below MAX_EID (T.holds set.old))
+        ≡ result + length (members_below MAX_EID (T.holds set.new)) }
+    ensures keeps { T.keeps_room set.old set.new }
 {
     let mut count = 0;
     for slot in 0..list.len() {

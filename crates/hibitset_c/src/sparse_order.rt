@@ -1,14 +1,15 @@
 //! Calls that look at a sparse set, and go by the order of its members.
 #![tactic(auto)]
 
-ghost use Rattle.std.specs.Prelude.{◌≡◌, ◌-◌, ◌↔◌, true, false, [], None, Some, IsTrue, length, min, reverse, slice_get};
+ghost use Rattle.std.specs.Prelude.{◌≡◌, ◌+◌, ◌-◌, ◌%◌, ◌^◌, ◌↔◌, true, false, [], None, Some, IsTrue, length, map, min, reverse, slice_get};
 ghost use Rattle.hibitset_base.specs.First.{HasNone, IsFirst, IsLast};
 ghost use Rattle.hibitset_base.specs.Members.{members, members_below};
 ghost use Rattle.hibitset_base.specs.declared.util.TheConstants.{MAX_EID};
+ghost use Rattle.hibitset_sparse.specs.Memory.{memory_of};
 ghost use Rattle.hibitset_c.specs.Buffer.{Fills};
-ghost use Rattle.hibitset_c.specs.Sparse.{has, IsSame};
+ghost use Rattle.hibitset_c.specs.Sparse.{has, word_of, IsSame};
 
-use crate::fill::{fill, fill_back};
+use crate::fill::{fill, fill_above, fill_back};
 use crate::set_or_seat::SetOrSeat;
 use crate::sparse_set::SparseSet;
 use hibitset::BitSetLike;
@@ -218,4 +219,43 @@ pub extern "C" fn hibitset_sparse_prev_many(
         unreachable!()
     };
     fill_back(&*members, end, buffer)
+}
+
+/// Writes the members from `start` on into the buffer as `hibitset_sparse_next_many` does, each plus `base`, modulo
+/// 2^64. Returns how many.
+#[tactic(auto, using(crate::proofs::EmptinessLemmas::fills_above_no_sparse))]
+#[unsafe(no_mangle)]
+pub extern "C" fn hibitset_sparse_next_many_u64(
+    set: &mut SparseSet,
+    start: u32,
+    base: u64,
+    buffer: &mut [u64],
+) -> usize
+    ensures answer { Fills (map (λ i. (base + i) % 2 ^ 64) (members (has set.old) start
+        (MAX_EID - start))) buffer.old result buffer.new }
+    ensures same { IsSame set.old set.new }
+{
+    if !set.made {
+        return 0;
+    }
+    let SetOrSeat::Sparse(members) = set.handle.as_mut() else {
+        unreachable!()
+    };
+    fill_above(&*members, start, base, buffer)
+}
+
+/// Returns how many bytes the nonzero words of a set and their tables take.
+#[tactic(auto, using(crate::proofs::EmptinessLemmas::no_bytes))]
+#[unsafe(no_mangle)]
+pub extern "C" fn hibitset_sparse_memory(set: &mut SparseSet) -> usize
+    ensures answer { result ≡ memory_of (word_of set.old) }
+    ensures same { IsSame set.old set.new }
+{
+    if !set.made {
+        return 0;
+    }
+    let SetOrSeat::Sparse(members) = set.handle.as_mut() else {
+        unreachable!()
+    };
+    members.memory()
 }

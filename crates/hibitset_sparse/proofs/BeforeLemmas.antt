@@ -25,7 +25,7 @@ same-length true x y xs ys same = omega arith
 same-length false x y xs ys same = same
 
 -- two sets have as many members in ranges in which they are the same
-shifted : (p q : ℕ → Bool) (a b n : ℕ) → ((i : ℕ) → i < n → p (a + i) ≡ q (b + i)) → length (members p a n) ≡ length (members q b n)
+pub shifted : (p q : ℕ → Bool) (a b n : ℕ) → ((i : ℕ) → i < n → p (a + i) ≡ q (b + i)) → length (members p a n) ≡ length (members q b n)
 unfolding members
 shifted p q a b zero same = refl
 shifted p q a b (suc n) same =

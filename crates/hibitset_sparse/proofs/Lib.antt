@@ -26,3 +26,4 @@ pub mod EntryLemmas
 pub mod MembersOfLemmas
 pub mod CountLemmas
 pub mod BeforeLemmas
+pub mod MemoryLemmas

@@ -16,3 +16,4 @@ pub mod Extension
 pub mod AddedWords
 pub mod Walk
 pub mod WholeWalk
+pub mod Memory

@@ -38,6 +38,7 @@ mod group;
 mod group_view;
 mod kept;
 pub mod laws;
+mod memory;
 pub mod merge;
 pub mod ops;
 mod packed_array;
