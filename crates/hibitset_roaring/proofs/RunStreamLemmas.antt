@@ -12,23 +12,27 @@ use Rattle.hibitset_roaring.specs.Format.{has_runs, container_count, keys_at, ha
 use Rattle.hibitset_roaring.specs.Words.{ones_under}
 use Rattle.hibitset_roaring.specs.Streams.{flat_bytes, AreHeads}
 use Rattle.hibitset_roaring.specs.Runs.{members_under, begins_run, count_of_runs, are_runs_shorter}
+use Rattle.hibitset_roaring.specs.Kinds.{cardinality_under, none_are_runs}
 use Rattle.hibitset_roaring.specs.RunStreams.{IsRunOptimizedStream, IsCanonicalRunStream}
 use Rattle.hibitset_roaring.specs.RunParts.{best_bytes, start_from, fields_after, first_after_runs, AreRunCounts, AreRunsOf, IsBestWritten, IsRunHeaded}
 use Rattle.hibitset_roaring.proofs.HeaderLemmas.{runs_from, count_with, keys_with, offsets_at_is}
 use Rattle.hibitset_roaring.proofs.LayoutLemmas.{at_first, at_next}
 use Rattle.hibitset_roaring.proofs.StreamLemmas.{holds_from}
-use Rattle.hibitset_roaring.proofs.UniqueLemmas.{ones_members, no_run, count_same, key_same, cardinality_same}
+use Rattle.hibitset_roaring.proofs.CardinalityLemmas.{ones_counted}
+use Rattle.hibitset_roaring.proofs.KindLemmas.{no_run, of_plain}
+use Rattle.hibitset_roaring.proofs.UniqueLemmas.{cardinality_of_it}
+use Rattle.hibitset_roaring.proofs.StartLemmas.{count_under, count_is as count_of_it, key_is as key_of_it}
 use Rattle.hibitset_roaring.proofs.RunLemmas.{none_shorter}
 use Rattle.hibitset_roaring.proofs.RunPartLemmas.{run_numbers, best_runs, best_flat, from_first, from_next}
 
 -- runs have as many numbers as there are members
 pub runs_total : (words out : List ℕ) (at key runs : ℕ) → ((p : ℕ) → get_or words p 0 < 2 ^ 64) → AreRunsOf words out at key runs → run_total out at (run_count out at) ≡ ones_under words key
-unfolding in_runs
+unfolding in_runs cardinality_under
 runs_total words out at key runs fits w =
     let numbers = run_numbers out at runs w.apart runs 65536 (omega arith) w.within in
     let same : length (members (λ v. any_below runs (λ r. in_run out at r v)) 0 65536) ≡ length (members (λ v. stands_in words (65536 * key + v)) 0 65536) =
     ap length (members-same (λ v. any_below runs (λ r. in_run out at r v)) (λ v. stands_in words (65536 * key + v)) 0 65536 (λ v from below. ap (λ n. any_below n (λ r. in_run out at r v)) (sym w.number) ∙ w.members v (omega (arith, below)))) in
-    ap (λ n. run_total out at n) w.number ∙ (sym numbers ∙ (same ∙ sym (ones_members words fits key 1024)))
+    ap (λ n. run_total out at n) w.number ∙ (sym numbers ∙ (same ∙ sym (ones_counted words key fits)))
 
 module _ (words out keys counts runs : List ℕ) (bound : ℕ) (fits : (p : ℕ) → get_or words p 0 < 2 ^ 64) (heads : AreHeads words keys counts bound) (upto : bound ≤ 16384) (numbers : AreRunCounts words keys counts runs) (headed : IsRunHeaded out keys counts runs) where
   runs_written : has_runs out ≡ true
@@ -172,11 +176,12 @@ module _ (words bytes keys counts runs : List ℕ) (bound : ℕ) (fits : (p : �
     stream = is.stream;
     members = is.members;
     kinds = λ k below.
-        let c = count_same bytes is.are is.stream words keys counts bound fits heads short is.members in
+        let plain = of_plain (stands_in words) bytes is in
+        let c = count_of_it words keys counts bound fits heads short none_are_runs bytes plain in
         let b : k < length keys = omega (arith, below, c) in
         let h = heads.same in
-        let key = key_same bytes is.are is.stream words keys counts bound fits heads short is.members k below in
-        let count = cardinality_same bytes is.are is.stream words keys counts bound fits heads short is.members k below in
+        let key = key_of_it words keys counts bound fits heads short none_are_runs bytes plain k b in
+        let count : cardinality_of bytes k ≡ get_or counts k 0 = cardinality_of_it (stands_in words) none_are_runs bytes plain k below ∙ (ap (cardinality_under (stands_in words)) key ∙ sym (count_under words keys counts bound fits heads short k b)) in
         no_run bytes is.plain k ∙ sym (ap (λ x. are_runs_shorter (count_of_runs (members_under (stands_in words) x)) (cardinality_of bytes k)) key
         ∙ (ap (λ n. are_runs_shorter (count_of_runs (members_under (stands_in words) (get_or keys k 0))) n) count ∙ (sym (numbers.each k b).kind ∙ none k (omega (arith, b, h)))));
     cookie = λ on. absurd (both_ways (has_runs bytes) is.plain on);

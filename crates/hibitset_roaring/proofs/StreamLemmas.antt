@@ -15,33 +15,11 @@ use Rattle.hibitset_roaring.specs.Format.{HasKeysBelow}
 use Rattle.hibitset_roaring.specs.Words.{ones_under}
 use Rattle.hibitset_roaring.specs.Streams.{flat_bytes, start, AreHeads, IsWritten, IsHeaded}
 use Rattle.hibitset_roaring.proofs.TestLemmas.{any_true, any_some}
+use Rattle.hibitset_roaring.proofs.MemberLemmas.{some_under, word_there}
 use Rattle.hibitset_roaring.proofs.HeaderLemmas.{u32_is, no_runs_from, count_without, keys_without, offsets_at_is}
 use Rattle.hibitset_roaring.proofs.LayoutLemmas.{at_first, at_next}
 use Rattle.hibitset_roaring.proofs.WordLemmas.{ones_more, ones_mono}
 use Rattle.hibitset_roaring.proofs.HeadsLemmas.{start_first, start_next}
-
--- a member's key has ones
-pub some_under : (words : List ℕ) (i : ℕ) → stands_in words i ≡ true → 0 < ones_under words (i / 65536)
-some_under words i on =
-    let base : ℕ = 1024 * (i / 65536) in
-    let q : ℕ = i / 64 % 1024 in
-    let p : base + q ≡ i / 64 = omega arith in
-    let more = ones_more words base q in
-    let most = ones_mono words base (q + 1) 1024 (omega arith) in
-    let word : 0 < get_or words (i / 64) 0 = elim (cases_lt 0 (get_or words (i / 64) 0)) [
-      | inl some ↦ some
-      | inr none ↦ absurd (let z : get_or words (i / 64) 0 ≡ 0 = omega (arith, none) in both_ways (stands_in words i) (ap (λ x. bit_at x (i % 64) == 1) z ∙ ap (λ x. x == 1) (bit_at-zero (i % 64))) on)
-    ] in
-    let ones = some_ones (get_or words (i / 64) 0) word in
-    let here : count_ones (get_or words (base + q) 0) ≡ count_ones (get_or words (i / 64) 0) = ap (λ r. count_ones (get_or words r 0)) p in
-    omega (arith, more, most, ones, here)
-
--- a member's word is there
-pub word_there : (words : List ℕ) (i : ℕ) → stands_in words i ≡ true → i / 64 < length words
-word_there words i on = elim (cases_lt (i / 64) (length words)) [
-  | inl there ↦ there
-  | inr past ↦ absurd (let z = get_or_past words (i / 64) 0 past in both_ways (stands_in words i) (ap (λ x. bit_at x (i % 64) == 1) z ∙ ap (λ x. x == 1) (bit_at-zero (i % 64))) on)
-]
 
 -- A number is held if the container with its key has it.
 module _ (words out keys counts : List ℕ) (bound : ℕ) (heads : AreHeads words keys counts bound) (count : container_count out ≡ length keys) (keyed : (k : ℕ) → k < length keys → key_of out k ≡ get_or keys k 0) (listed : (k v : ℕ) → k < length keys → v < 65536 → in_container out k v ≡ stands_in words (65536 * get_or keys k 0 + v)) where

@@ -9,4 +9,5 @@ pub mod Streams
 pub mod Transfers
 pub mod Runs
 pub mod RunStreams
+pub mod Kinds
 pub mod RunParts

@@ -6,7 +6,7 @@ use Rattle.hibitset_roaring.specs.RunStreams.{IsRunOptimizedStream}
 use Rattle.hibitset_roaring.specs.RunParts.{start_from, first_after_runs}
 use Rattle.hibitset_roaring.proofs.RunPartLemmas.{from_start}
 use Rattle.hibitset_roaring.proofs.RunStreamLemmas.{plain_optimized}
-use Rattle.hibitset_roaring.proofs.RunSameLemmas.{same_optimized}
+use Rattle.hibitset_roaring.proofs.KindLemmas.{one_optimized}
 use Rattle.hibitset_roaring.proofs.run_writer.write_best_stream.Goals as goal
 
 pub write_run_stream-requires-clause-some : goal.write_run_stream-requires-clause-some
@@ -34,7 +34,7 @@ write_stream-requires-clause-room c =
 pub returns-then-some-clause-stream : goal.returns-then-some-clause-stream
 returns-then-some-clause-stream c = record {
   optimized = c.write_run_stream.ensures.stream;
-  only = λ other is. same_optimized c.args.words.now c.args.keys.now c.args.counts.now c.args.runs.now 16384 (λ p. omega (arith, c.type_inv.words p)) c.requires.heads (let short = c.requires.short in omega (arith, short)) c.requires.runs c.args.some c.requires.some c.requires.none c.write_run_stream.new.out other c.write_run_stream.ensures.stream is;
+  only = λ other is. one_optimized (stands_in c.args.words.now) c.write_run_stream.new.out other c.write_run_stream.ensures.stream is;
 }
 
 pub returns-else-some-clause-stream : goal.returns-else-some-clause-stream
@@ -51,5 +51,5 @@ returns-else-some-clause-stream c =
     plain_optimized words out keys counts runs bound fits c.requires.heads (omega (arith, short)) c.requires.runs (rw c.new.ensures at c.write_stream.ensures.stream.plain) (c.requires.none c.if-some.false) in
     record {
       optimized = optimized;
-      only = λ other is. same_optimized words keys counts runs bound fits c.requires.heads (omega (arith, short)) c.requires.runs c.args.some c.requires.some c.requires.none out other optimized is;
+      only = λ other is. one_optimized (stands_in words) out other optimized is;
     }

@@ -2,7 +2,7 @@ use Rattle.std.proofs.Common.{◌≡◌, ℕ, ◌+◌, ◌<◌, List, [], ◌∷
 use Rattle.std.proofs.lemmas.List.{length_push}
 use Rattle.hibitset_roaring.specs.Streams.{AreHeads, start}
 use Rattle.hibitset_roaring.proofs.HeadsLemmas.{heads_none, heads_skip, heads_push, heads_upto, start_first, start_most, start_pushed, flat_from, flat_most}
-use Rattle.hibitset_roaring.proofs.UniqueLemmas.{plain_length}
+use Rattle.hibitset_roaring.proofs.StartLemmas.{plain_length}
 use Rattle.hibitset_roaring.proofs.writer.len_of_source.Goals as goal
 use Rattle.hibitset_roaring.proofs.writer.len_of_source.Goals.{then-count-ne0, else-count-ne0}
 

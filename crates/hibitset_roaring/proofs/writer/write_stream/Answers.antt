@@ -6,7 +6,7 @@ use Rattle.hibitset_roaring.specs.Streams.{IsHeaded}
 use Rattle.hibitset_roaring.proofs.FrameLemmas.{headed_same, u32_same}
 use Rattle.hibitset_roaring.proofs.HeadsLemmas.{start_first, start_mono}
 use Rattle.hibitset_roaring.proofs.StreamLemmas.{holds_written, stream_written, range_written, plain_written}
-use Rattle.hibitset_roaring.proofs.UniqueLemmas.{same_bytes}
+use Rattle.hibitset_roaring.proofs.KindLemmas.{one_plain}
 use Rattle.hibitset_roaring.proofs.writer.write_stream.Goals as goal
 
 pub returns-clause-stream : goal.returns-clause-stream
@@ -38,7 +38,7 @@ returns-clause-stream g c =
     } in
     record {
       plain = plain;
-      only = λ other is. same_bytes words keys counts bound (g.met.S.ContainerSource.fits c.args.source.now) c.requires.heads (omega (arith, short)) out other plain is;
+      only = λ other is. one_plain (stands_in words) out other plain is;
     }
 
 pub write_header-requires-clause-room : goal.write_header-requires-clause-room

@@ -1,6 +1,6 @@
 use Rattle.std.proofs.Common.{◌≡◌, ℕ, List, length, sym, ap, ◌∙◌, arith}
 use Rattle.hibitset_roaring.specs.Streams.{start}
-use Rattle.hibitset_roaring.proofs.UniqueLemmas.{plain_length}
+use Rattle.hibitset_roaring.proofs.StartLemmas.{plain_length}
 use Rattle.hibitset_roaring.proofs.writer.write_words.Goals as goal
 
 pub returns-clause-len : goal.returns-clause-len
