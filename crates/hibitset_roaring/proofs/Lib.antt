@@ -24,7 +24,6 @@ pub mod CountLemmas
 pub mod MemberLemmas
 pub mod RunLemmas
 pub mod RunPartLemmas
-pub mod RunStreamLemmas
 pub mod CardinalityLemmas
 pub mod KeyLemmas
 pub mod SameContainerLemmas

@@ -4,7 +4,7 @@ use Rattle.std.specs.Prelude.{nat_le}
 use Rattle.std.specs.Int.{bit_at}
 use Rattle.std.proofs.lemmas.Nat.Bits.{bit_at-lt, same_from_bits_below}
 use Rattle.std.proofs.lemmas.Bool.{cases_lt, cases_Bool, both_ways, and_parts, and_from, le-leb, leb-true, eqb-true, false_from_ne_true}
-use Rattle.hibitset_base.specs.Decisions.{eq_same, eq_other}
+use Rattle.hibitset_base.specs.Decisions.{eq_same}
 use Rattle.hibitset_base.proofs.MemberLemmas.{members-same}
 use Rattle.hibitset_roaring.specs.Numbers.{u16_at, u32_at, u64_at, any_below}
 use Rattle.hibitset_roaring.specs.Format.{run_count, run_first, run_last, in_run, in_bits, AreBytes}
@@ -86,12 +86,18 @@ next_bytes a b at n same each = record {
   ];
 }
 
--- bits that are tested alike are the same
-pub bit_same : (x y : ℕ) → x < 2 → y < 2 → (x == 1) ≡ (y == 1) → x ≡ y
-bit_same zero zero small small' e = refl
-bit_same zero (suc y) small small' e = absurd (let one : suc y ≡ 1 = omega (arith, small') in both_ways (0 == 1) (eq_other 0 1 (λ h. absurd (omega (arith, h)))) (e ∙ eq_same (suc y) 1 one))
-bit_same (suc x) zero small small' e = absurd (let one : suc x ≡ 1 = omega (arith, small) in both_ways (0 == 1) (eq_other 0 1 (λ h. absurd (omega (arith, h)))) (sym e ∙ eq_same (suc x) 1 one))
-bit_same (suc x) (suc y) small small' e = omega (arith, small, small')
+bit_clear : (bit : ℕ) → bit < 2 → (bit == 1) ≡ false → bit ≡ 0
+bit_clear bit small off = elim (cases_lt 0 bit) [
+  | inl some ↦ absurd (both_ways (bit == 1) off (eq_same bit 1 (omega (arith, some, small))))
+  | inr none ↦ omega (arith, none)
+]
+
+-- numbers whose bits are tested alike are the same
+pub same_tests : (n x y : ℕ) → x < 2 ^ n → y < 2 ^ n → ((i : ℕ) → i < n → (bit_at x i == 1) ≡ (bit_at y i == 1)) → x ≡ y
+same_tests n x y fits_x fits_y same = same_from_bits_below n x y fits_x fits_y (λ i small. elim (cases_Bool (bit_at x i == 1)) [
+  | inl on ↦ eqb-true (bit_at x i) 1 on ∙ sym (eqb-true (bit_at y i) 1 (sym (same i small) ∙ on))
+  | inr off ↦ bit_clear (bit_at x i) (bit_at-lt x i) off ∙ sym (bit_clear (bit_at y i) (bit_at-lt y i) (sym (same i small) ∙ off))
+])
 
 -- ---- runs by their members
 
@@ -248,6 +254,5 @@ bit_is bytes at q i small =
 
 pub same_bits : (a b : List ℕ) → AreBytes a → AreBytes b → (at : ℕ) → ((v : ℕ) → v < 65536 → in_bits b at v ≡ in_bits a at v) → SameBefore at a b → SameBefore (at + 8192) a b
 same_bits a b ab bb at alike same = before_less (at + 8 * 1024) (at + 8192) a b (omega arith) (next_words a b ab bb at 1024 same (λ q within.
-    same_from_bits_below 64 (u64_at b (at + 8 * q)) (u64_at a (at + 8 * q)) (u64_small b bb (at + 8 * q)) (u64_small a ab (at + 8 * q)) (λ i small.
-    bit_same (bit_at (u64_at b (at + 8 * q)) i) (bit_at (u64_at a (at + 8 * q)) i) (bit_at-lt (u64_at b (at + 8 * q)) i) (bit_at-lt (u64_at a (at + 8 * q)) i)
-    (sym (bit_is b at q i small) ∙ (alike (64 * q + i) (omega (arith, within, small)) ∙ bit_is a at q i small)))))
+    same_tests 64 (u64_at b (at + 8 * q)) (u64_at a (at + 8 * q)) (u64_small b bb (at + 8 * q)) (u64_small a ab (at + 8 * q)) (λ i small.
+    sym (bit_is b at q i small) ∙ (alike (64 * q + i) (omega (arith, within, small)) ∙ bit_is a at q i small))))

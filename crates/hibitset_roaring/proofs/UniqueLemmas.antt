@@ -2,7 +2,6 @@
 use Rattle.std.proofs.Common.{◌≡◌, ℕ, zero, suc, ◌+◌, ◌*◌, ◌/◌, ◌%◌, ◌<◌, ◌≤◌, ◌==◌, ◌&&◌, ◌||◌, Bool, true, false, cond, not, List, get_or, length, refl, sym, ap, ◌∙◌, add-one, arith, inl, inr}
 use Rattle.std.specs.Prelude.{nat_le}
 use Rattle.std.specs.Int.{bit_at}
-use Rattle.std.proofs.lemmas.Nat.Bits.{bit_at-lt, same_from_bits_below}
 use Rattle.std.proofs.lemmas.Grind.{same_number_lists}
 use Rattle.std.proofs.lemmas.Bool.{cases_lt, cases_Bool, cond-true, cond-false, both_ways, and_parts, and_from, eqb-true, false_from_ne_true}
 use Rattle.hibitset_base.specs.Decisions.{eq_same}
@@ -20,7 +19,7 @@ use Rattle.hibitset_roaring.proofs.ContainerLemmas.{in_runs_is, in_array_is, in_
 use Rattle.hibitset_roaring.proofs.FrameLemmas.{before_less}
 use Rattle.hibitset_roaring.proofs.CardinalityLemmas.{cardinality_counted, member_under}
 use Rattle.hibitset_roaring.proofs.KeyLemmas.{AreKeys, as_many_keys, same_keys}
-use Rattle.hibitset_roaring.proofs.SameContainerLemmas.{next_u16, next_u32, next_offsets, next_bytes, bit_same, runs_counted, RunsAt, ArrayAt, same_runs, same_arrays, same_bits}
+use Rattle.hibitset_roaring.proofs.SameContainerLemmas.{next_u16, next_u32, next_offsets, next_bytes, same_tests, runs_counted, RunsAt, ArrayAt, same_runs, same_arrays, same_bits}
 
 -- ---- one stream of some members
 
@@ -201,9 +200,8 @@ module _ (has runs : ℕ → Bool) (a b : List ℕ) (first : IsStreamOf has runs
 
   flags_same : has_runs a ≡ true → SameBefore 4 a b → SameBefore (4 + (container_count a + 7) / 8) a b
   flags_same on same = next_bytes a b 4 ((container_count a + 7) / 8) same (λ j below.
-      same_from_bits_below 8 (get_or b (4 + j) 0) (get_or a (4 + j) 0) (second.are.small (4 + j)) (first.are.small (4 + j)) (λ i small.
-      bit_same (bit_at (get_or b (4 + j) 0) i) (bit_at (get_or a (4 + j) 0) i) (bit_at-lt (get_or b (4 + j) 0) i) (bit_at-lt (get_or a (4 + j) 0) i)
-      (flag b (sym cookie_same ∙ on) j i small ∙ (flag_same (8 * j + i) (omega (arith, below, small)) ∙ sym (flag a on j i small)))))
+      same_tests 8 (get_or b (4 + j) 0) (get_or a (4 + j) 0) (second.are.small (4 + j)) (first.are.small (4 + j)) (λ i small.
+      flag b (sym cookie_same ∙ on) j i small ∙ (flag_same (8 * j + i) (omega (arith, below, small)) ∙ sym (flag a on j i small))))
 
   front_with : has_runs a ≡ true → SameBefore (keys_at a) a b
   unfolding has_runs

@@ -1,5 +1,5 @@
 -- Streams by their members and by which containers are runs. These two fix a stream: no other bytes are one.
-use Rattle.std.specs.Prelude.{◌≡◌, ℕ, ◌+◌, ◌*◌, ◌/◌, ◌<◌, ◌≤◌, Bool, true, false, if◌then◌else◌, List, length}
+use Rattle.std.specs.Prelude.{◌≡◌, ℕ, ◌+◌, ◌*◌, ◌/◌, ◌<◌, ◌≤◌, Bool, true, false, ◌&&◌, if◌then◌else◌, List, length}
 use Rattle.hibitset_base.specs.Members.{members}
 use Rattle.hibitset_roaring.specs.Format.{has_runs, container_count, key_of, is_run, holds, IsStream, AreBytes}
 use Rattle.hibitset_roaring.specs.Streams.{flat_bytes}
@@ -16,6 +16,10 @@ none_are_runs key = false
 -- and if those are that take fewer bytes so
 unfoldable pub shorter_are_runs : (ℕ → Bool) → ℕ → Bool
 shorter_are_runs has key = are_runs_shorter (count_of_runs (members_under has key)) (cardinality_under has key)
+
+-- One of the two.
+abbrev pub chosen_are_runs : Bool → (ℕ → Bool) → ℕ → Bool
+chosen_are_runs optimized has key = optimized && shorter_are_runs has key
 
 -- how many bytes the container of a key takes
 unfoldable pub bytes_under : (ℕ → Bool) → (ℕ → Bool) → ℕ → ℕ

@@ -10,4 +10,3 @@ pub mod Transfers
 pub mod Runs
 pub mod RunStreams
 pub mod Kinds
-pub mod RunParts

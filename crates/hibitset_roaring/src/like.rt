@@ -7,12 +7,14 @@ ghost use Rattle.hibitset_roaring.specs.Sources.{word_at, words_of, words_short,
 ghost use Rattle.hibitset_roaring.specs.Words.{ones_under};
 ghost use Rattle.hibitset_roaring.specs.declared.header.TheConstants.{KEYS};
 
+use crate::encode::{len_of_source, write_source};
+use crate::encode_container::write_kind;
 use crate::header::KEYS;
 use crate::heads::count_members;
 use crate::layout::CONTAINER_WORDS;
+use crate::runs::count_runs;
 use crate::slots::{CONTAINER_BLOCKS, next_bit, take_lowest};
 use crate::source::ContainerSource;
-use crate::writer::{len_of_source, write_flat, write_source};
 use hibitset::BitSetLike;
 use std::alloc::{AllocError, Global};
 
@@ -116,11 +118,18 @@ impl<T: BitSetLike> ContainerSource for LikeSource<'_, T> {
         count_members(&words, &above, 0)
     }
 
-    fn write_container(&self, out: &mut [u8], at: usize, key: usize, count: usize) {
+    fn count_runs(&self, key: usize, count: usize) -> usize {
         let mut words = [0; CONTAINER_WORDS];
         let mut above = [0; CONTAINER_BLOCKS];
         gather(self.0, key, &mut words, &mut above);
-        write_flat(out, at, &words, &above, 0, count);
+        count_runs(&words, &above, 0, count)
+    }
+
+    fn write_container(&self, out: &mut [u8], at: usize, key: usize, count: usize, runs: usize) {
+        let mut words = [0; CONTAINER_WORDS];
+        let mut above = [0; CONTAINER_BLOCKS];
+        gather(self.0, key, &mut words, &mut above);
+        write_kind(out, at, &words, &above, 0, count, runs);
     }
 }
 
@@ -149,5 +158,5 @@ pub fn serialized_len_like<T: BitSetLike>(set: &T) -> usize
     ensures { (bytes : List ℕ) → IsPlainStream (is_member (T.holds set.now)) bytes
         → length bytes ≡ result }
 {
-    len_of_source(&LikeSource(set))
+    len_of_source(&LikeSource(set), false)
 }

@@ -8,7 +8,7 @@ ghost use Rattle.hibitset_roaring.specs.Format.{HasKeysBelow, IsPlainStream, IsC
 ghost use Rattle.hibitset_roaring.specs.Transfers.{Writes, WritesFront};
 ghost use Rattle.hibitset_roaring.specs.declared.header.TheConstants.{KEYS};
 
-use crate::writer::write;
+use crate::encode::write;
 use hibitset::BitSet;
 use std::alloc::Global;
 use std::io::{self, ErrorKind, Write};

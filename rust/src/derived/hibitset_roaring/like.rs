@@ -4,12 +4,14 @@
 
 use crate::support::rattle_std::prelude::*;
 
+use crate::derived::hibitset_roaring::encode::{len_of_source, write_source};
+use crate::derived::hibitset_roaring::encode_container::write_kind;
 use crate::derived::hibitset_roaring::header::KEYS;
 use crate::derived::hibitset_roaring::heads::count_members;
 use crate::derived::hibitset_roaring::layout::CONTAINER_WORDS;
+use crate::derived::hibitset_roaring::runs::count_runs;
 use crate::derived::hibitset_roaring::slots::{CONTAINER_BLOCKS, next_bit, take_lowest};
 use crate::derived::hibitset_roaring::source::ContainerSource;
-use crate::derived::hibitset_roaring::writer::{len_of_source, write_flat, write_source};
 use crate::derived::hibitset::BitSetLike;
 use crate::support::rattle_std::alloc::{AllocError, Global};
 
@@ -79,11 +81,18 @@ impl<T: BitSetLike> ContainerSource for LikeSource<'_, T> {
         count_members(&words, &above, 0)
     }
 
-    fn write_container(&self, out: &mut [u8], at: usize, key: usize, count: usize) {
+    fn count_runs(&self, key: usize, count: usize) -> usize {
         let mut words = [0; CONTAINER_WORDS];
         let mut above = [0; CONTAINER_BLOCKS];
         gather(self.0, key, &mut words, &mut above);
-        write_flat(out, at, &words, &above, 0, count);
+        count_runs(&words, &above, 0, count)
+    }
+
+    fn write_container(&self, out: &mut [u8], at: usize, key: usize, count: usize, runs: usize) {
+        let mut words = [0; CONTAINER_WORDS];
+        let mut above = [0; CONTAINER_BLOCKS];
+        gather(self.0, key, &mut words, &mut above);
+        write_kind(out, at, &words, &above, 0, count, runs);
     }
 }
 
@@ -120,5 +129,5 @@ pub fn write_like<T: BitSetLike>(alloc: Global, set: &T) -> Result<Vec<u8>, Allo
 ///     → length bytes ≡ result }
 /// ```
 pub fn serialized_len_like<T: BitSetLike>(set: &T) -> usize {
-    len_of_source(&LikeSource(set))
+    len_of_source(&LikeSource(set), false)
 }

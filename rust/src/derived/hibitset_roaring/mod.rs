@@ -6,6 +6,8 @@ use crate::support::rattle_std::prelude::*;
 
 mod array;
 mod container;
+mod encode;
+mod encode_container;
 mod error;
 mod header;
 mod heads;
@@ -16,21 +18,21 @@ mod like;
 mod number;
 mod output;
 mod reader;
-mod run_writer;
 mod runs;
 mod sink;
 mod slots;
 mod source;
 mod sparse;
 mod words;
-mod writer;
 
+pub use encode::{
+    len_of_words, run_optimized_len, serialized_len, write, write_run_optimized,
+    write_run_optimized_to, write_to, write_words,
+};
 pub use error::{Fault, Malformed, ReadError, ReadFromError};
 pub use header::KEYS;
 pub use input::read_from;
 pub use like::{serialized_len_like, write_like};
 pub use output::write_into;
 pub use reader::{read, read_below};
-pub use run_writer::{run_optimized_len, write_run_optimized, write_run_optimized_to};
 pub use sparse::{read_sparse, read_sparse_below, read_sparse_from};
-pub use writer::{len_of_words, serialized_len, write, write_to, write_words};

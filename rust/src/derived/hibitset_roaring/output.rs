@@ -4,7 +4,7 @@
 
 use crate::support::rattle_std::prelude::*;
 
-use crate::derived::hibitset_roaring::writer::write;
+use crate::derived::hibitset_roaring::encode::write;
 use crate::derived::hibitset::BitSet;
 use crate::support::rattle_std::alloc::Global;
 use crate::support::rattle_std::io::{self, ErrorKind, Write};
