@@ -19,9 +19,8 @@ pub(crate) fn read_containers<S: ContainerSink>(
 ) -> Result<(), ReadError> {
     let mut at = header.first;
     'containers: for k in 0..header.count {
-        let end = header.end(bytes, k, at);
         sink.take_container(bytes, header, k, at)?;
-        at = end;
+        at += header.size(bytes, k, at);
     }
     Ok(())
 }

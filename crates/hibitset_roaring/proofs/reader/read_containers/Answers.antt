@@ -1,10 +1,15 @@
-use Rattle.std.proofs.Common.{◌≡◌, ℕ, ◌+◌, ◌-◌, ◌/◌, ◌%◌, ◌<◌, ◌==◌, ◌&&◌, ◌||◌, ap, sym, ◌∙◌, arith, inl, inr}
+use Rattle.std.proofs.Common.{◌≡◌, ℕ, ◌+◌, ◌-◌, ◌/◌, ◌%◌, ◌<◌, ◌==◌, ◌&&◌, ◌||◌, List, length, ◌≤◌, ap, sym, ◌∙◌, arith, inl, inr}
 use Rattle.std.proofs.lemmas.Bool.{cases_lt}
 use Rattle.hibitset_roaring.specs.Numbers.{any_below}
-use Rattle.hibitset_roaring.specs.Format.{container_count, key_of, in_container, holds}
+use Rattle.hibitset_roaring.specs.Format.{container_count, container_at, key_of, in_container, holds}
 use Rattle.hibitset_roaring.proofs.TestLemmas.{any_none, any_next, or_comm, eq_comm}
-use Rattle.hibitset_roaring.proofs.LayoutLemmas.{at_first, at_mono}
+use Rattle.hibitset_roaring.proofs.LayoutLemmas.{at_first, at_mono, next_at}
+use Rattle.hibitset_roaring.proofs.ContainerLemmas.{size_runs}
 use Rattle.hibitset_roaring.proofs.reader.read_containers.Goals as goal
+
+-- each container ends within the bytes
+next_within : (bytes : List ℕ) (k n : ℕ) → k < n → n ≡ container_count bytes → container_at bytes (container_count bytes) ≡ length bytes → container_at bytes (k + 1) ≤ length bytes
+next_within bytes k n below is whole = let m = at_mono bytes (k + 1) (container_count bytes) (omega (arith, is, below)) in omega (arith, m, whole)
 
 pub containers-init : goal.containers-init
 containers-init g c = record {
@@ -15,23 +20,22 @@ containers-init g c = record {
   members = λ i. c.requires.empty i ∙ sym (any_none (λ k. (key_of c.args.bytes.now k == i / 65536) && in_container c.args.bytes.now k (i % 65536)));
 }
 
-pub end-end-requires-clause-within : goal.end-end-requires-clause-within
-end-end-requires-clause-within g c =
-    let t = c.containers-test.true in
-    let n = c.requires.header.count_is in
-    let below : c.containers.k < container_count c.args.bytes.now = omega (arith, t, n) in
-    let m = at_mono c.args.bytes.now (c.containers.k + 1) (container_count c.args.bytes.now) (omega (arith, below)) in
-    let w = c.requires.whole in
-    omega (arith, m, w)
-
 pub take_container-requires-clause-within : goal.take_container-requires-clause-within
-take_container-requires-clause-within g c =
-    let t = c.containers-test.true in
-    let n = c.requires.header.count_is in
-    let below : c.containers.k < container_count c.args.bytes.now = omega (arith, t, n) in
-    let m = at_mono c.args.bytes.now (c.containers.k + 1) (container_count c.args.bytes.now) (omega (arith, below)) in
-    let w = c.requires.whole in
-    omega (arith, m, w)
+take_container-requires-clause-within g c = next_within c.args.bytes.now c.containers.k c.args.header.now.count c.containers-test.true c.requires.header.count_is c.requires.whole
+
+pub size-at-requires-clause-within : goal.size-at-requires-clause-within
+size-at-requires-clause-within g c = λ run.
+    let within = next_within c.args.bytes.now c.containers.k c.args.header.now.count c.containers-test.true c.requires.header.count_is c.requires.whole in
+    let next = next_at c.args.bytes.now c.containers.k c.containers.at c.containers.invariant.at_is in
+    let s = size_runs c.args.bytes.now c.containers.k c.containers.at run in
+    omega (arith, within, next, s)
+
+pub overflow_add-at : goal.overflow_add-at
+overflow_add-at g c =
+    let within = next_within c.args.bytes.now c.containers.k c.args.header.now.count c.containers-test.true c.requires.header.count_is c.requires.whole in
+    let next = next_at c.args.bytes.now c.containers.k c.containers.at c.containers.invariant.at_is in
+    let s = c.size-at.ensures.size in
+    omega (arith, within, next, s)
 
 pub take_container-requires-clause-key : goal.take_container-requires-clause-key
 take_container-requires-clause-key g c = c.requires.keys c.containers.k (let t = c.containers-test.true in let n = c.requires.header.count_is in omega (arith, t, n))
@@ -71,7 +75,7 @@ containers-preserved g c =
     let k : ℕ = c.containers.k in
     let bytes = c.args.bytes.now in
     record {
-      at_is = c.end-end.ensures;
+      at_is = (let n = next_at bytes k c.containers.at h.at_is in let s = c.size-at.ensures.size in omega (arith, n, s));
       containers = λ i below. elim (cases_lt i k) [
         | inl lower ↦ h.containers i lower
         | inr upper ↦ (let e : i ≡ k = omega (arith, below, upper) in rw e c.in_ok-take_container.ensures.container)
