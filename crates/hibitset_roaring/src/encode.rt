@@ -15,10 +15,10 @@ ghost use Rattle.hibitset_roaring.specs.Kinds.{chosen_are_runs, IsStreamOf};
 
 use crate::encode_container::container_size;
 use crate::header::{KEYS, NO_RUNS, RUNS, first_after, keys_after, offsets_are};
-use crate::heads::Heads;
+use crate::key_counts::Heads;
+use crate::nonzero_words::word_of;
 use crate::number::{put_u8, put_u16, put_u32};
 use crate::runs::are_shorter;
-use crate::slots::word_of;
 use crate::source::{ContainerSource, WordSource};
 use hibitset::BitSet;
 use hibitset_base::bits::with_bit;

@@ -5,10 +5,10 @@ ghost use Rattle.hibitset.specs.BitSet.{has};
 ghost use Rattle.hibitset_sparse.specs.SparseBitSet.{has as sparse_has};
 ghost use Rattle.hibitset_roaring.specs.declared.error.ReadError.TheVariants as errors;
 
+use crate::decode::read;
 use crate::encode::{write, write_run_optimized};
+use crate::encode_like::write_like;
 use crate::error::ReadError;
-use crate::like::write_like;
-use crate::reader::read;
 use crate::sparse::read_sparse;
 use hibitset::BitSet;
 use hibitset_sparse::SparseBitSet;

@@ -9,8 +9,8 @@ ghost use Rattle.hibitset_roaring.specs.Runs.{members_under, count_of_runs, are_
 
 use crate::header::CONTAINER_NUMBERS;
 use crate::layout::{CONTAINER_WORDS, MAX_ARRAY_LEN};
+use crate::nonzero_words::{next_bit, next_slot, word_of};
 use crate::number::put_u16;
-use crate::slots::{next_bit, next_slot, word_of};
 
 // From this many runs on, bits take no more bytes.
 const RUNS_OF_BITS: usize = 2048;

@@ -9,7 +9,7 @@ ghost use Rattle.hibitset_roaring.specs.declared.header.TheConstants.{KEYS};
 
 use crate::encode_container::write_kind;
 use crate::header::KEYS;
-use crate::heads::count_members;
+use crate::key_counts::count_members;
 use crate::layout::CONTAINER_WORDS;
 use crate::runs::count_runs;
 use hibitset::BitSet;

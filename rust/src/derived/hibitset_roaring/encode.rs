@@ -6,10 +6,10 @@ use crate::support::rattle_std::prelude::*;
 
 use crate::derived::hibitset_roaring::encode_container::container_size;
 use crate::derived::hibitset_roaring::header::{KEYS, NO_RUNS, RUNS, first_after, keys_after, offsets_are};
-use crate::derived::hibitset_roaring::heads::Heads;
+use crate::derived::hibitset_roaring::key_counts::Heads;
+use crate::derived::hibitset_roaring::nonzero_words::word_of;
 use crate::derived::hibitset_roaring::number::{put_u8, put_u16, put_u32};
 use crate::derived::hibitset_roaring::runs::are_shorter;
-use crate::derived::hibitset_roaring::slots::word_of;
 use crate::derived::hibitset_roaring::source::{ContainerSource, WordSource};
 use crate::derived::hibitset::BitSet;
 use crate::derived::hibitset_base::bits::with_bit;

@@ -6,7 +6,7 @@ use crate::support::rattle_std::prelude::*;
 
 use crate::derived::hibitset_roaring::encode_container::write_kind;
 use crate::derived::hibitset_roaring::header::KEYS;
-use crate::derived::hibitset_roaring::heads::count_members;
+use crate::derived::hibitset_roaring::key_counts::count_members;
 use crate::derived::hibitset_roaring::layout::CONTAINER_WORDS;
 use crate::derived::hibitset_roaring::runs::count_runs;
 use crate::derived::hibitset::BitSet;
