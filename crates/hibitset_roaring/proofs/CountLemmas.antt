@@ -11,20 +11,20 @@ module _ (p : ℕ → Bool) where
   pub counted_none : length (members p 0 0) ≡ 0
   counted_none = ap length (members-none p 0 0 (λ i from below. absurd (omega (arith, below))))
 
-  split : (a n : ℕ) → length (members p 0 (a + n)) ≡ length (members p 0 a) + length (members p a n)
-  split a n =
+  pub counted_more : (a n : ℕ) → length (members p 0 (a + n)) ≡ length (members p 0 a) + length (members p a n)
+  counted_more a n =
       let z : 0 + a ≡ a = omega arith in
       ap length (members-append p 0 a n) ∙ (length-append (members p 0 a) (members p (0 + a) n) ∙ ap (λ s. length (members p 0 a) + length (members p s n)) z)
 
   -- a number that passes
   pub counted_one : (a : ℕ) → p a ≡ true → length (members p 0 (a + 1)) ≡ length (members p 0 a) + 1
-  counted_one a on = split a (suc zero) ∙ ap (λ n. length (members p 0 a) + n) (one_there p a on)
+  counted_one a on = counted_more a (suc zero) ∙ ap (λ n. length (members p 0 a) + n) (one_there p a on)
 
   -- numbers of which none passes
   pub counted_past : (a b : ℕ) → a ≤ b → ((v : ℕ) → a ≤ v → v < b → p v ≡ false) → length (members p 0 b) ≡ length (members p 0 a)
   counted_past a b order none =
       let e : a + (b - a) ≡ b = omega (arith, order) in
-      let s : length (members p 0 b) ≡ length (members p 0 a) + length (members p a (b - a)) = ap (λ n. length (members p 0 n)) (sym e) ∙ split a (b - a) in
+      let s : length (members p 0 b) ≡ length (members p 0 a) + length (members p a (b - a)) = ap (λ n. length (members p 0 n)) (sym e) ∙ counted_more a (b - a) in
       let z : length (members p a (b - a)) ≡ 0 = ap length (members-none p a (b - a) (λ i from below. none i from (omega (arith, below, e)))) in
       omega (arith, s, z)
 
@@ -46,5 +46,5 @@ module _ (p : ℕ → Bool) where
   pub counted_mono : (a b : ℕ) → a ≤ b → length (members p 0 a) ≤ length (members p 0 b)
   counted_mono a b order =
       let e : a + (b - a) ≡ b = omega (arith, order) in
-      let s : length (members p 0 b) ≡ length (members p 0 a) + length (members p a (b - a)) = ap (λ n. length (members p 0 n)) (sym e) ∙ split a (b - a) in
+      let s : length (members p 0 b) ≡ length (members p 0 a) + length (members p a (b - a)) = ap (λ n. length (members p 0 n)) (sym e) ∙ counted_more a (b - a) in
       omega (arith, s)

@@ -1,9 +1,9 @@
 -- What is read of bytes that were not written.
-use Rattle.std.proofs.Common.{◌≡◌, ℕ, zero, suc, ◌+◌, ◌*◌, ◌/◌, ◌%◌, ◌^◌, ◌<◌, ◌≤◌, ◌==◌, ◌||◌, Bool, List, get_or, length, refl, ap, ◌∙◌, arith}
+use Rattle.std.proofs.Common.{◌≡◌, ℕ, zero, suc, ◌+◌, ◌*◌, ◌/◌, ◌%◌, ◌^◌, ◌<◌, ◌≤◌, ◌==◌, ◌||◌, Bool, List, get_or, refl, ap, ◌∙◌, arith}
 use Rattle.std.specs.Int.RustNames.{count_ones}
 use Rattle.hibitset_roaring.specs.Numbers.{u16_at, u32_at, u64_at, any_below, ones_in}
 use Rattle.hibitset_roaring.specs.Format.{in_array, IsArray, in_bits}
-use Rattle.hibitset_roaring.specs.Streams.{SameBefore, IsWritten, IsHeaded}
+use Rattle.hibitset_roaring.specs.Streams.{SameBefore, IsWritten}
 
 pub any_same : (n : ℕ) (p q : ℕ → Bool) → ((j : ℕ) → j < n → p j ≡ q j) → any_below n p ≡ any_below n q
 unfolding any_below
@@ -61,13 +61,4 @@ module _ (end : ℕ) (old new : List ℕ) (same : SameBefore end old new) where
     listed = λ small v below. in_array_same at count v (few small) ∙ w.listed small v below;
     bits = λ large. ones_same at 1024 (many large) ∙ w.bits large;
     marked = λ large v below. in_bits_same at v (many large) below ∙ w.marked large v below;
-  }
-
-  -- a header that was written before stays
-  pub headed_same : (keys counts : List ℕ) → 8 + 4 * length keys ≤ end → IsHeaded old keys counts → IsHeaded new keys counts
-  headed_same keys counts within h = record {
-    cookie = u32_same 0 (omega (arith, within)) ∙ h.cookie;
-    count_is = u32_same 4 (omega (arith, within)) ∙ h.count_is;
-    keys_are = λ k below. u16_same (8 + 4 * k) (omega (arith, within, below)) ∙ h.keys_are k below;
-    counts_are = λ k below. ap (λ x. x + 1) (u16_same (8 + 4 * k + 2) (omega (arith, within, below))) ∙ h.counts_are k below;
   }

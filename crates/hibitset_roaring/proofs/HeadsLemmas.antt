@@ -4,7 +4,7 @@ use Rattle.std.specs.Prelude.{nat_le}
 use Rattle.std.proofs.lemmas.Bool.{cases_lt, cond_both, cond-true, cond-false, leb-true, le-leb, lt-leb}
 use Rattle.std.proofs.lemmas.List.{length_push, get_or_push, get_or_append_left}
 use Rattle.hibitset_roaring.specs.Words.{ones_under}
-use Rattle.hibitset_roaring.specs.Streams.{flat_bytes, start, AreHeads}
+use Rattle.hibitset_roaring.specs.Streams.{flat_bytes, AreHeads}
 
 pub heads_none : (words : List ℕ) → AreHeads words [] [] 0
 heads_none words = record {
@@ -83,27 +83,8 @@ heads_upto words keys counts m (suc n) order none heads = elim (cases_lt n m) [
       subst (λ b. AreHeads words keys counts b) e (heads_skip words keys counts n (heads_upto words keys counts m n upto (λ key from below. none key from (omega (arith, below))) heads) (none n upto (omega arith)))
 ]
 
-pub start_first : (counts : List ℕ) → start counts 0 ≡ 8 + 8 * length counts
-unfolding start
-start_first counts = refl
-
-pub start_next : (counts : List ℕ) (k : ℕ) → start counts (k + 1) ≡ start counts k + flat_bytes (get_or counts k 0)
-unfolding start
-start_next counts k = rw add-one refl
-
 pub flat_most : (count : ℕ) → flat_bytes count ≤ 8192
 flat_most count = cond_both (nat_le count 4096) (2 * count) 8192 (λ x. x ≤ 8192) (λ small. (let s = leb-true count 4096 small in omega (arith, s))) (λ _. omega arith)
-
-pub start_mono : (counts : List ℕ) (m n : ℕ) → m ≤ n → start counts m ≤ start counts n
-start_mono counts m zero below = let e : m ≡ 0 = omega (arith, below) in rw e (omega arith)
-start_mono counts m (suc n) below = elim (cases_lt n m) [
-  | inl above ↦ (let e : m ≡ suc n = omega (arith, above, below) in rw e (omega arith))
-  | inr upto ↦ (let h = start_mono counts m n upto in let next : start counts (suc n) ≡ start counts n + flat_bytes (get_or counts n 0) = rw (← add-one) (start_next counts n) in omega (arith, h, next))
-]
-
-pub start_most : (counts : List ℕ) (k : ℕ) → start counts k ≤ 8 + 8 * length counts + 8192 * k
-start_most counts zero = let f = start_first counts in omega (arith, f)
-start_most counts (suc k) = let h = start_most counts k in let f = flat_most (get_or counts k 0) in let next : start counts (suc k) ≡ start counts k + flat_bytes (get_or counts k 0) = rw (← add-one) (start_next counts k) in omega (arith, h, f, next)
 
 pub flat_from : (count n : ℕ) → (count ≤ 4096 → n ≡ 2 * count) → (4096 < count → n ≡ 8192) → n ≡ flat_bytes count
 flat_from count n small large = elim (cases_lt 4096 count) [
@@ -116,29 +97,3 @@ flat_is_small count small = cond-true (nat_le count 4096) (2 * count) 8192 (le-l
 
 pub flat_is_large : (count : ℕ) → 4096 < count → flat_bytes count ≡ 8192
 flat_is_large count large = cond-false (nat_le count 4096) (2 * count) 8192 (lt-leb count 4096 large)
-
--- one container more moves the others by the eight bytes that the header has for it
-start_push : (counts : List ℕ) (count k : ℕ) → k ≤ length counts → start (counts ++ count ∷ []) k ≡ start counts k + 8
-start_push counts count zero order =
-    let a = start_first counts in
-    let b = start_first (counts ++ count ∷ []) in
-    let n = length_push counts count in
-    omega (arith, a, b, n)
-start_push counts count (suc k) order =
-    let e : k + 1 ≡ suc k = omega arith in
-    let h = start_push counts count k (omega (arith, order)) in
-    let a = start_next counts k in
-    let b = start_next (counts ++ count ∷ []) k in
-    let o : get_or (counts ++ count ∷ []) k 0 ≡ get_or counts k 0 = get_or_append_left counts (count ∷ []) 0 k (omega (arith, order)) in
-    let f = ap (λ n. flat_bytes n) o in
-    let x : start (counts ++ count ∷ []) (k + 1) ≡ start (counts ++ count ∷ []) (suc k) = ap (λ n. start (counts ++ count ∷ []) n) e in
-    let y : start counts (k + 1) ≡ start counts (suc k) = ap (λ n. start counts n) e in
-    omega (arith, h, a, b, f, x, y)
-
-pub start_pushed : (counts : List ℕ) (count n : ℕ) → n ≡ length counts → start (counts ++ count ∷ []) (n + 1) ≡ start counts n + 8 + flat_bytes count
-start_pushed counts count n is =
-    let h = start_push counts count n (omega (arith, is)) in
-    let a = start_next (counts ++ count ∷ []) n in
-    let o : get_or (counts ++ count ∷ []) n 0 ≡ count = get_or_push counts count 0 n (sym is) in
-    let f = ap (λ n. flat_bytes n) o in
-    omega (arith, h, a, f)

@@ -24,7 +24,9 @@ pub mod CountLemmas
 pub mod MemberLemmas
 pub mod RunLemmas
 pub mod RunPartLemmas
-pub mod RunStreamLemmas
-pub mod RunUniqueLemmas
+pub mod CardinalityLemmas
+pub mod KeyLemmas
+pub mod SameContainerLemmas
+pub mod KindLemmas
+pub mod StartLemmas
 pub mod SizeLemmas
-pub mod RunSameLemmas

@@ -1,5 +1,5 @@
 -- The words of any set: what its members are, and what its containers have.
-use Rattle.std.proofs.Common.{◌≡◌, ℕ, zero, suc, ◌+◌, ◌-◌, ◌*◌, ◌/◌, ◌%◌, ◌^◌, ◌<◌, ◌==◌, ◌&&◌, Bool, List, get_or, length, bit_and, sym, ap, ◌∙◌, arith, inl, inr}
+use Rattle.std.proofs.Common.{◌≡◌, ℕ, zero, suc, ◌+◌, ◌-◌, ◌*◌, ◌/◌, ◌%◌, ◌^◌, ◌<◌, ◌==◌, ◌&&◌, Bool, true, List, get_or, length, bit_and, sym, ap, ◌∙◌, arith, inl, inr}
 use Rattle.std.specs.Prelude.{min}
 use Rattle.std.specs.Int.{bit_at}
 use Rattle.std.specs.Int.RustNames.{count_ones}
@@ -13,9 +13,11 @@ use Rattle.hibitset_base.specs.declared.util.TheConstants.{LAYERS}
 use Rattle.hibitset_base.proofs.MembershipLemmas.{bit_test}
 use Rattle.hibitset.specs.WordBits.{stands_in}
 use Rattle.hibitset_roaring.specs.Sources.{word_at, words_of, words_short, word_is}
-use Rattle.hibitset_roaring.specs.Streams.{IsWritten}
+use Rattle.hibitset_roaring.specs.Streams.{IsRunCount, IsWritten, IsKindWritten}
+use Rattle.hibitset_roaring.specs.Runs.{members_under, count_of_runs, are_runs_shorter}
 use Rattle.hibitset_roaring.specs.Words.{ones_from, ones_under, AreSummaries}
 use Rattle.hibitset_roaring.proofs.MemberLemmas.{by_bit}
+use Rattle.hibitset_roaring.proofs.RunLemmas.{runs_same_count}
 use Rattle.hibitset_roaring.proofs.SlotLemmas.{ones_skip}
 use Rattle.hibitset_roaring.proofs.WordLemmas.{ones_first, ones_more}
 
@@ -118,10 +120,25 @@ module _ (holds : ℕ → Bool) (word : ℕ → ℕ → ℕ) (lawful : IsLawful 
         ∙ (ap (λ w. bit_at w (v % 64) == 1) (ap (λ p. get_or words p 0) e ∙ alike (v / 64) (omega (arith, small)))
         ∙ sym (by_bit (words_of word) key (v / 64) (v % 64) v at (omega arith)))
 
-    pub gathered_written : (out : List ℕ) (at count : ℕ) → IsWritten words out at 0 count → IsWritten (words_of word) out at key count
+    gathered_written : (out : List ℕ) (at count : ℕ) → IsWritten words out at 0 count → IsWritten (words_of word) out at key count
     gathered_written out at count written = record {
       array = written.array;
       listed = λ few v small. written.listed few v small ∙ same_member v small;
       bits = written.bits;
       marked = λ many v small. written.marked many v small ∙ same_member v small;
+    }
+
+    pub gathered_runs : count_of_runs (members_under (stands_in (words_of word)) key) ≡ count_of_runs (members_under (stands_in words) 0)
+    gathered_runs = runs_same_count (members_under (stands_in (words_of word)) key) (members_under (stands_in words) 0) (λ v small. sym (same_member v small))
+
+    pub gathered_count : (count runs : ℕ) → IsRunCount words 0 count runs → IsRunCount (words_of word) key count runs
+    gathered_count count runs number = record {
+      kind = number.kind ∙ ap (λ n. are_runs_shorter n count) (sym gathered_runs);
+      exact = λ on. number.exact on ∙ sym gathered_runs;
+    }
+
+    pub gathered_kind : (out : List ℕ) (at count runs : ℕ) → IsKindWritten words out at 0 count runs → IsKindWritten (words_of word) out at key count runs
+    gathered_kind out at count runs written = record {
+      flat = λ off. gathered_written out at count (written.flat off);
+      as_runs = λ on. (let w = written.as_runs on in record { number = w.number; within = w.within; apart = w.apart; members = λ v small. w.members v small ∙ same_member v small });
     }

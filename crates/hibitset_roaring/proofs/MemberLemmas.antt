@@ -1,8 +1,14 @@
 -- Members of a container by the bits of its words.
-use Rattle.std.proofs.Common.{◌≡◌, ℕ, ◌+◌, ◌-◌, ◌*◌, ◌/◌, ◌%◌, ◌^◌, ◌<◌, ◌≤◌, ◌==◌, true, false, List, get_or, sym, ap, ◌∙◌, arith, w64}
+use Rattle.std.proofs.Common.{◌≡◌, ℕ, ◌+◌, ◌-◌, ◌*◌, ◌/◌, ◌%◌, ◌^◌, ◌<◌, ◌≤◌, ◌==◌, true, false, List, get_or, length, sym, ap, ◌∙◌, arith, inl, inr, w64}
 use Rattle.std.specs.Int.{bit_at, bit_not}
+use Rattle.std.specs.Int.RustNames.{count_ones}
+use Rattle.std.proofs.lemmas.Bool.{cases_lt, both_ways}
+use Rattle.std.proofs.lemmas.List.{get_or_past}
 use Rattle.std.proofs.lemmas.Nat.Bits.{bit_at-zero, bit_at-lt, bit_at_not}
+use Rattle.hibitset_base.proofs.OneCountLemmas.{some_ones}
 use Rattle.hibitset.specs.WordBits.{stands_in}
+use Rattle.hibitset_roaring.specs.Words.{ones_under}
+use Rattle.hibitset_roaring.proofs.WordLemmas.{ones_more, ones_mono}
 
 module _ (words : List ℕ) (key : ℕ) where
   -- the test of a number is that of a bit
@@ -54,3 +60,28 @@ module _ (word b : ℕ) (fits : word < 2 ^ 64) (small : b < 64) where
       let e : 1 - bit_at word b ≡ 1 = sym (bit_at_not w64 word b fits small) ∙ on in
       let l = bit_at-lt word b in
       omega (arith, e, l)
+
+-- ---- words by their members
+
+-- a member's key has ones
+pub some_under : (words : List ℕ) (i : ℕ) → stands_in words i ≡ true → 0 < ones_under words (i / 65536)
+some_under words i on =
+    let base : ℕ = 1024 * (i / 65536) in
+    let q : ℕ = i / 64 % 1024 in
+    let p : base + q ≡ i / 64 = omega arith in
+    let more = ones_more words base q in
+    let most = ones_mono words base (q + 1) 1024 (omega arith) in
+    let word : 0 < get_or words (i / 64) 0 = elim (cases_lt 0 (get_or words (i / 64) 0)) [
+      | inl some ↦ some
+      | inr none ↦ absurd (let z : get_or words (i / 64) 0 ≡ 0 = omega (arith, none) in both_ways (stands_in words i) (ap (λ x. bit_at x (i % 64) == 1) z ∙ ap (λ x. x == 1) (bit_at-zero (i % 64))) on)
+    ] in
+    let ones = some_ones (get_or words (i / 64) 0) word in
+    let here : count_ones (get_or words (base + q) 0) ≡ count_ones (get_or words (i / 64) 0) = ap (λ r. count_ones (get_or words r 0)) p in
+    omega (arith, more, most, ones, here)
+
+-- a member's word is there
+pub word_there : (words : List ℕ) (i : ℕ) → stands_in words i ≡ true → i / 64 < length words
+word_there words i on = elim (cases_lt (i / 64) (length words)) [
+  | inl there ↦ there
+  | inr past ↦ absurd (let z = get_or_past words (i / 64) 0 past in both_ways (stands_in words i) (ap (λ x. bit_at x (i % 64) == 1) z ∙ ap (λ x. x == 1) (bit_at-zero (i % 64))) on)
+]

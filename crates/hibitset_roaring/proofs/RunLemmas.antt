@@ -3,6 +3,7 @@ use Rattle.std.proofs.Common.{◌≡◌, ℕ, zero, suc, ◌+◌, ◌-◌, ◌*�
 use Rattle.std.specs.Prelude.{nat_le, nat_lt}
 use Rattle.std.proofs.lemmas.Bool.{cases_lt, both_ways, and_parts, and_from, and_left, and_right, not_from_true, not_from_false, not-true, cond-true, cond-false, lt-ltb, le-ltb, le-leb, lt-leb, ltb-true, ltb-false}
 use Rattle.hibitset_base.specs.Members.{members}
+use Rattle.hibitset_base.proofs.MemberLemmas.{members-same}
 use Rattle.hibitset_roaring.specs.Runs.{begins_run, count_of_runs, are_runs_shorter}
 use Rattle.hibitset_roaring.proofs.CountLemmas.{counted_none, counted_one, counted_past, counted_mono}
 
@@ -164,3 +165,15 @@ module _ (test : ℕ → Bool) where
                   ])))
             ]
       ]
+
+-- ---- two tests that numbers below 65536 pass alike
+
+module _ (p q : ℕ → Bool) (same : (v : ℕ) → v < 65536 → p v ≡ q v) where
+  begins_same : (v : ℕ) → v < 65536 → begins_run p v ≡ begins_run q v
+  unfolding begins_run
+  begins_same zero small = same 0 small
+  begins_same (suc v) small = ap (λ t. t && not (p v)) (same (suc v) small) ∙ ap (λ t. q (suc v) && not t) (same v (omega (arith, small)))
+
+  pub runs_same_count : count_of_runs p ≡ count_of_runs q
+  unfolding count_of_runs
+  runs_same_count = ap length (members-same (begins_run p) (begins_run q) 0 65536 (λ v from below. begins_same v (omega (arith, below))))

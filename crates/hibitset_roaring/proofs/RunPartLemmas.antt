@@ -8,13 +8,12 @@ use Rattle.hibitset_base.specs.Members.{members}
 use Rattle.hibitset_base.proofs.MemberLemmas.{members-none, members-same}
 use Rattle.hibitset_roaring.specs.Numbers.{any_below}
 use Rattle.hibitset_roaring.specs.Format.{run_count, run_first, run_last, in_run, in_runs, run_total}
-use Rattle.hibitset_roaring.specs.Streams.{SameBefore, flat_bytes, start}
 use Rattle.hibitset_roaring.specs.Runs.{are_runs_shorter}
-use Rattle.hibitset_roaring.specs.RunParts.{best_bytes, start_from, fields_after, first_after_runs, AreRunsOf, IsBestWritten, IsRunHeaded}
+use Rattle.hibitset_roaring.specs.Streams.{SameBefore, flat_bytes, container_bytes, start_from, fields_after, offsets_after, first_after, AreRunsOf, IsKindWritten, IsFront, IsHeaded}
 use Rattle.hibitset_roaring.proofs.TestLemmas.{any_next, any_none, any_some}
 use Rattle.hibitset_roaring.proofs.PartLemmas.{first_is, last_is, total_none, total_next}
-use Rattle.hibitset_roaring.proofs.FrameLemmas.{any_same, u16_same, written_same}
-use Rattle.hibitset_roaring.proofs.HeadsLemmas.{start_first, start_next, flat_most, flat_is_small, flat_is_large}
+use Rattle.hibitset_roaring.proofs.FrameLemmas.{any_same, u16_same, u32_same, written_same}
+use Rattle.hibitset_roaring.proofs.HeadsLemmas.{flat_most, flat_is_small, flat_is_large}
 use Rattle.hibitset_roaring.proofs.CountLemmas.{counted_past, counted_all}
 use Rattle.hibitset_roaring.proofs.RunLemmas.{shorter_few}
 
@@ -103,30 +102,30 @@ module _ (bytes : List ℕ) (at : ℕ) where
 -- ---- containers that may be runs
 
 module _ (count runs : ℕ) where
-  pub best_runs : are_runs_shorter runs count ≡ true → best_bytes count runs ≡ 2 + 4 * runs
-  unfolding best_bytes
-  best_runs on = cond-true (are_runs_shorter runs count) (2 + 4 * runs) (flat_bytes count) on
+  pub bytes_as_runs : are_runs_shorter runs count ≡ true → container_bytes count runs ≡ 2 + 4 * runs
+  unfolding container_bytes
+  bytes_as_runs on = cond-true (are_runs_shorter runs count) (2 + 4 * runs) (flat_bytes count) on
 
-  pub best_flat : are_runs_shorter runs count ≡ false → best_bytes count runs ≡ flat_bytes count
-  unfolding best_bytes
-  best_flat off = cond-false (are_runs_shorter runs count) (2 + 4 * runs) (flat_bytes count) off
+  pub bytes_flat : are_runs_shorter runs count ≡ false → container_bytes count runs ≡ flat_bytes count
+  unfolding container_bytes
+  bytes_flat off = cond-false (are_runs_shorter runs count) (2 + 4 * runs) (flat_bytes count) off
 
-  pub best_most : best_bytes count runs ≤ 8192
-  best_most = elim (cases_Bool (are_runs_shorter runs count)) [
-    | inl on ↦ (let b = best_runs on in let f = shorter_few runs count on in omega (arith, b, f))
-    | inr off ↦ (let b = best_flat off in let f = flat_most count in omega (arith, b, f))
+  pub bytes_most : container_bytes count runs ≤ 8192
+  bytes_most = elim (cases_Bool (are_runs_shorter runs count)) [
+    | inl on ↦ (let b = bytes_as_runs on in let f = shorter_few runs count on in omega (arith, b, f))
+    | inr off ↦ (let b = bytes_flat off in let f = flat_most count in omega (arith, b, f))
   ]
 
 -- a container that was written before stays
-pub best_same : (end : ℕ) (old new : List ℕ) → SameBefore end old new → (words : List ℕ) (at key count runs : ℕ) → at + best_bytes count runs ≤ end → IsBestWritten words old at key count runs → IsBestWritten words new at key count runs
-best_same end old new same words at key count runs within w = record {
+pub kind_written_same : (end : ℕ) (old new : List ℕ) → SameBefore end old new → (words : List ℕ) (at key count runs : ℕ) → at + container_bytes count runs ≤ end → IsKindWritten words old at key count runs → IsKindWritten words new at key count runs
+kind_written_same end old new same words at key count runs within w = record {
   flat = λ off.
-      let b = best_flat count runs off in
+      let b = bytes_flat count runs off in
       written_same end old new same words at key count
       (λ small. (let f = flat_is_small count small in omega (arith, b, f, within)))
       (λ large. (let f = flat_is_large count large in omega (arith, b, f, within)))
       (w.flat off);
-  as_runs = λ on. (let b = best_runs count runs on in runs_of_same end old new same at words key runs (omega (arith, b, within)) (w.as_runs on));
+  as_runs = λ on. (let b = bytes_as_runs count runs on in runs_of_same end old new same at words key runs (omega (arith, b, within)) (w.as_runs on));
 }
 
 module _ (first : ℕ) (counts runs : List ℕ) where
@@ -134,7 +133,7 @@ module _ (first : ℕ) (counts runs : List ℕ) where
   unfolding start_from
   from_first = refl
 
-  pub from_next : (k : ℕ) → start_from first counts runs (k + 1) ≡ start_from first counts runs k + best_bytes (get_or counts k 0) (get_or runs k 0)
+  pub from_next : (k : ℕ) → start_from first counts runs (k + 1) ≡ start_from first counts runs k + container_bytes (get_or counts k 0) (get_or runs k 0)
   unfolding start_from
   from_next k = rw add-one refl
 
@@ -142,44 +141,39 @@ module _ (first : ℕ) (counts runs : List ℕ) where
   from_mono m zero below = let e : m ≡ 0 = omega (arith, below) in rw e (omega arith)
   from_mono m (suc n) below = elim (cases_lt n m) [
     | inl above ↦ (let e : m ≡ suc n = omega (arith, above, below) in rw e (omega arith))
-    | inr upto ↦ (let h = from_mono m n upto in let next : start_from first counts runs (suc n) ≡ start_from first counts runs n + best_bytes (get_or counts n 0) (get_or runs n 0) = rw (← add-one) (from_next n) in omega (arith, h, next))
+    | inr upto ↦ (let h = from_mono m n upto in let next : start_from first counts runs (suc n) ≡ start_from first counts runs n + container_bytes (get_or counts n 0) (get_or runs n 0) = rw (← add-one) (from_next n) in omega (arith, h, next))
   ]
 
   pub from_most : (k : ℕ) → start_from first counts runs k ≤ first + 8192 * k
   from_most zero = let f = from_first in omega (arith, f)
   from_most (suc k) =
       let h = from_most k in
-      let b = best_most (get_or counts k 0) (get_or runs k 0) in
-      let next : start_from first counts runs (suc k) ≡ start_from first counts runs k + best_bytes (get_or counts k 0) (get_or runs k 0) = rw (← add-one) (from_next k) in
+      let b = bytes_most (get_or counts k 0) (get_or runs k 0) in
+      let next : start_from first counts runs (suc k) ≡ start_from first counts runs k + container_bytes (get_or counts k 0) (get_or runs k 0) = rw (← add-one) (from_next k) in
       omega (arith, h, b, next)
 
--- with no runs the containers lie where they do in a stream without
-pub from_start : (counts runs : List ℕ) (k : ℕ) → k ≤ length counts → ((i : ℕ) → i < length counts → are_runs_shorter (get_or runs i 0) (get_or counts i 0) ≡ false) → start_from (8 + 8 * length counts) counts runs k ≡ start counts k
-from_start counts runs zero order none = from_first (8 + 8 * length counts) counts runs ∙ sym (start_first counts)
-from_start counts runs (suc k) order none =
-    let e : k + 1 ≡ suc k = omega arith in
-    let h = from_start counts runs k (omega (arith, order)) none in
-    let a = from_next (8 + 8 * length counts) counts runs k in
-    let b = start_next counts k in
-    let f = best_flat (get_or counts k 0) (get_or runs k 0) (none k (omega (arith, order))) in
-    let x : start_from (8 + 8 * length counts) counts runs (k + 1) ≡ start_from (8 + 8 * length counts) counts runs (suc k) = ap (λ n. start_from (8 + 8 * length counts) counts runs n) e in
-    let y : start counts (k + 1) ≡ start counts (suc k) = ap (λ n. start counts n) e in
-    omega (arith, h, a, b, f, x, y)
+-- ---- where the keys begin and the first container
 
--- ---- where the first container begins
+module _ (some : Bool) (n : ℕ) where
+  pub fields_on : some ≡ true → fields_after some n ≡ 4 + (n + 7) / 8
+  fields_on on = cond-true some (4 + (n + 7) / 8) 8 on
 
-pub first_reckoned : (n : ℕ) (offsets : Bool) (keys first : ℕ) → offsets ≡ nat_le 4 n → keys ≡ fields_after n → first ≡ cond offsets (keys + 4 * n + 4 * n) (keys + 4 * n) → first ≡ first_after_runs n
-first_reckoned n offsets keys first offsets_is keys_is is =
-    is ∙ (ap (λ o. cond o (keys + 4 * n + 4 * n) (keys + 4 * n)) offsets_is ∙ ap (λ k. cond (nat_le 4 n) (k + 4 * n + 4 * n) (k + 4 * n)) keys_is)
+  pub fields_off : some ≡ false → fields_after some n ≡ 8
+  fields_off off = cond-false some (4 + (n + 7) / 8) 8 off
 
-pub first_few : (n : ℕ) → n ≤ 16384 → first_after_runs n ≤ 262144
-first_few n few = cond_both (nat_le 4 n) (fields_after n + 4 * n + 4 * n) (fields_after n + 4 * n) (λ x. x ≤ 262144) (λ _. omega (arith, few)) (λ _. omega (arith, few))
+  pub fields_few : n ≤ 16384 → fields_after some n ≤ 4096
+  fields_few few = cond_both some (4 + (n + 7) / 8) 8 (λ x. x ≤ 4096) (λ _. omega (arith, few)) (λ _. omega arith)
 
-pub fields_first : (n : ℕ) → fields_after n + 4 * n ≤ first_after_runs n
-fields_first n = cond_both (nat_le 4 n) (fields_after n + 4 * n + 4 * n) (fields_after n + 4 * n) (λ x. fields_after n + 4 * n ≤ x) (λ _. omega arith) (λ _. omega arith)
+  pub first_few : n ≤ 16384 → first_after some n ≤ 262144
+  first_few few =
+      let f = fields_few few in
+      cond_both (offsets_after some n) (fields_after some n + 4 * n + 4 * n) (fields_after some n + 4 * n) (λ x. x ≤ 262144) (λ _. omega (arith, few, f)) (λ _. omega (arith, few, f))
 
-pub offsets_first : (n : ℕ) → 4 ≤ n → fields_after n + 4 * n + 4 * n ≤ first_after_runs n
-offsets_first n some = cond_both (nat_le 4 n) (fields_after n + 4 * n + 4 * n) (fields_after n + 4 * n) (λ x. fields_after n + 4 * n + 4 * n ≤ x) (λ _. omega arith) (λ off. absurd (let less = leb-false 4 n off in omega (arith, less, some)))
+  pub fields_first : fields_after some n + 4 * n ≤ first_after some n
+  fields_first = cond_both (offsets_after some n) (fields_after some n + 4 * n + 4 * n) (fields_after some n + 4 * n) (λ x. fields_after some n + 4 * n ≤ x) (λ _. omega arith) (λ _. omega arith)
+
+  pub offsets_first : offsets_after some n ≡ true → fields_after some n + 4 * n + 4 * n ≤ first_after some n
+  offsets_first on = let e = cond-true (offsets_after some n) (fields_after some n + 4 * n + 4 * n) (fields_after some n + 4 * n) on in omega (arith, e)
 
 -- ---- flags
 
@@ -189,11 +183,19 @@ low_byte n b small =
     sym (ap (λ m. bit_at m b) (sym e) ∙ bit_at_cat_low (n / 256) 8 (n % 256) b small)
 
 -- a header that was written before stays
-pub run_headed_same : (end : ℕ) (old new : List ℕ) → SameBefore end old new → (keys counts runs : List ℕ) → fields_after (length keys) + 4 * length keys ≤ end → IsRunHeaded old keys counts runs → IsRunHeaded new keys counts runs
-run_headed_same end old new same keys counts runs within h = record {
-  cookie = u16_same end old new same 0 (omega (arith, within)) ∙ h.cookie;
-  count_is = ap (λ x. x + 1) (u16_same end old new same 2 (omega (arith, within))) ∙ h.count_is;
-  flags = λ k below. ap (λ x. bit_at x (k % 8) == 1) (same.byte (4 + k / 8) (omega (arith, within, below))) ∙ h.flags k below;
-  keys_are = λ k below. u16_same end old new same (fields_after (length keys) + 4 * k) (omega (arith, within, below)) ∙ h.keys_are k below;
-  counts_are = λ k below. ap (λ x. x + 1) (u16_same end old new same (fields_after (length keys) + 4 * k + 2) (omega (arith, within, below))) ∙ h.counts_are k below;
-}
+module _ (end : ℕ) (old new : List ℕ) (same : SameBefore end old new) (some : Bool) (counts runs : List ℕ) where
+  pub front_same : fields_after some (length counts) ≤ end → IsFront some old counts runs → IsFront some new counts runs
+  front_same within h = record {
+    cookie_with = λ on. (let f = fields_on some (length counts) on in u16_same end old new same 0 (omega (arith, within, f)) ∙ h.cookie_with on);
+    count_with = λ on. (let f = fields_on some (length counts) on in ap (λ x. x + 1) (u16_same end old new same 2 (omega (arith, within, f))) ∙ h.count_with on);
+    cookie_without = λ off. (let f = fields_off some (length counts) off in u32_same end old new same 0 (omega (arith, within, f)) ∙ h.cookie_without off);
+    count_without = λ off. (let f = fields_off some (length counts) off in u32_same end old new same 4 (omega (arith, within, f)) ∙ h.count_without off);
+    flags = λ on k below. (let f = fields_on some (length counts) on in ap (λ x. bit_at x (k % 8) == 1) (same.byte (4 + k / 8) (omega (arith, within, f, below))) ∙ h.flags on k below);
+  }
+
+  pub headed_same : (keys : List ℕ) → fields_after some (length counts) + 4 * length keys ≤ end → IsHeaded some old keys counts runs → IsHeaded some new keys counts runs
+  headed_same keys within h = record {
+    front = front_same (omega (arith, within)) h.front;
+    keys_are = λ k below. u16_same end old new same (fields_after some (length counts) + 4 * k) (omega (arith, within, below)) ∙ h.keys_are k below;
+    counts_are = λ k below. ap (λ x. x + 1) (u16_same end old new same (fields_after some (length counts) + 4 * k + 2) (omega (arith, within, below))) ∙ h.counts_are k below;
+  }

@@ -9,4 +9,4 @@ pub mod Streams
 pub mod Transfers
 pub mod Runs
 pub mod RunStreams
-pub mod RunParts
+pub mod Kinds

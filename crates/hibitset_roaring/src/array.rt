@@ -9,8 +9,8 @@ ghost use Rattle.hibitset_roaring.specs.Streams.{SameBefore};
 ghost use Rattle.hibitset_roaring.specs.Words.{in_word, ones_from, ones_under, AreSummaries};
 
 use crate::layout::CONTAINER_WORDS;
+use crate::nonzero_words::{blocks_over, slot_after, slot_from, take_lowest, word_of};
 use crate::number::put_u16;
-use crate::slots::{blocks_over, slot_after, slot_from, take_lowest, word_of};
 
 // Writes the bits of a word, whose first bit has the number `first`, behind the `len` numbers of an array, and returns
 // how many it has then.

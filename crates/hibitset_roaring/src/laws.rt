@@ -5,12 +5,11 @@ ghost use Rattle.hibitset.specs.BitSet.{has};
 ghost use Rattle.hibitset_sparse.specs.SparseBitSet.{has as sparse_has};
 ghost use Rattle.hibitset_roaring.specs.declared.error.ReadError.TheVariants as errors;
 
+use crate::decode::read;
+use crate::encode::{write, write_run_optimized};
+use crate::encode_like::write_like;
 use crate::error::ReadError;
-use crate::like::write_like;
-use crate::reader::read;
-use crate::run_writer::write_run_optimized;
 use crate::sparse::read_sparse;
-use crate::writer::write;
 use hibitset::BitSet;
 use hibitset_sparse::SparseBitSet;
 use hibitset_sparse::laws::sparse_laws;

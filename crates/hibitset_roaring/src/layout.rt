@@ -2,7 +2,7 @@
 
 ghost use Rattle.std.specs.Prelude.{◌≡◌, ℕ, ◌+◌, ◌*◌, ◌^◌, ◌<◌, ◌≤◌, true, false, length, IfOk, IfErr, OnOk};
 ghost use Rattle.hibitset_roaring.specs.Numbers.{u32_at};
-ghost use Rattle.hibitset_roaring.specs.Format.{container_count, has_offsets, offsets_at, container_at, size};
+ghost use Rattle.hibitset_roaring.specs.Format.{container_count, has_offsets, offsets_at, is_run, container_at, size};
 ghost use Rattle.hibitset_roaring.specs.Faults.{IsFault};
 ghost use Rattle.hibitset_roaring.specs.Headers.{IsHeader};
 
@@ -31,40 +31,33 @@ pub(crate) fn flat_size(cardinality: usize) -> usize
 }
 
 impl Header {
-    // How many bytes a container takes.
-    fn size(&self, bytes: &[u8], k: usize, at: usize) -> Result<usize, Malformed>
+    // How many bytes a container takes. If it is runs, their number lies within the bytes.
+    pub(crate) fn size(&self, bytes: &[u8], k: usize, at: usize) -> usize
         requires header { IsHeader bytes.now self.now }
         requires which { k < self.now.count }
-        requires at { at ≡ container_at bytes.now k }
-        requires within { at ≤ length bytes.now }
-        ensures size { IfOk result (λ found. found ≡ size bytes.now k at) }
-        ensures fits { IfOk result (λ found. found < 2 ^ 20) }
-        ensures fault { IfErr result (λ m. (end : ℕ) → IsFault bytes.now end m.fault m.at) }
-    {
-        if !self.is_run(bytes, k) {
-            return Ok(flat_size(self.cardinality(bytes, k)));
-        }
-        if bytes.len() - at < 2 {
-            return Err(Malformed {
-                fault: Fault::TooShort,
-                at,
-            });
-        }
-        Ok(2 + 4 * read_u16(bytes, at))
-    }
-
-    // Where a container ends that lies within the bytes.
-    pub(crate) fn end(&self, bytes: &[u8], k: usize, at: usize) -> usize
-        requires header { IsHeader bytes.now self.now }
-        requires which { k < self.now.count }
-        requires at { at ≡ container_at bytes.now k }
-        requires within { container_at bytes.now (k + 1) ≤ length bytes.now }
-        ensures { result ≡ container_at bytes.now (k + 1) }
+        requires within { is_run bytes.now k ≡ true → at + 2 ≤ length bytes.now }
+        ensures size { result ≡ size bytes.now k at }
+        ensures fits { result < 2 ^ 20 }
     {
         if self.is_run(bytes, k) {
-            return at + 2 + 4 * read_u16(bytes, at);
+            return 2 + 4 * read_u16(bytes, at);
         }
-        at + flat_size(self.cardinality(bytes, k))
+        flat_size(self.cardinality(bytes, k))
+    }
+
+    // Returns whether a container lies within the bytes.
+    fn is_within(&self, bytes: &[u8], k: usize, at: usize) -> bool
+        requires header { IsHeader bytes.now self.now }
+        requires which { k < self.now.count }
+        requires within { at ≤ length bytes.now }
+        ensures within { result ≡ true → at + size bytes.now k at ≤ length bytes.now }
+        ensures cut { result ≡ false → length bytes.now < at + size bytes.now k at }
+    {
+        let left = bytes.len() - at;
+        if left < 2 && self.is_run(bytes, k) {
+            return false;
+        }
+        self.size(bytes, k, at) <= left
     }
 
     // Checks that a container begins where its offset says and lies within the bytes, and returns where it ends.
@@ -80,14 +73,13 @@ impl Header {
         ensures fault { IfErr result (λ m. (end : ℕ) → IsFault bytes.now end m.fault m.at) }
     {
         self.check_offset(bytes, k, at)?;
-        let size = self.size(bytes, k, at)?;
-        if bytes.len() - at < size {
+        if !self.is_within(bytes, k, at) {
             return Err(Malformed {
                 fault: Fault::TooShort,
                 at,
             });
         }
-        Ok(at + size)
+        Ok(at + self.size(bytes, k, at))
     }
 
     // Checks that the containers begin where the offsets say, and that the bytes end with the last.

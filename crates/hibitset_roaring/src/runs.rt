@@ -3,15 +3,14 @@
 ghost use Rattle.std.specs.Prelude.{◌≡◌, ℕ, ◌+◌, ◌*◌, ◌<◌, ◌≤◌, true, false, length};
 ghost use Rattle.hibitset.specs.WordBits.{stands_in};
 ghost use Rattle.hibitset_roaring.specs.Numbers.{u16_at};
-ghost use Rattle.hibitset_roaring.specs.Streams.{SameBefore};
+ghost use Rattle.hibitset_roaring.specs.Streams.{SameBefore, IsRunCount, AreRunsOf};
 ghost use Rattle.hibitset_roaring.specs.Words.{AreSummaries};
 ghost use Rattle.hibitset_roaring.specs.Runs.{members_under, count_of_runs, are_runs_shorter};
-ghost use Rattle.hibitset_roaring.specs.RunParts.{IsRunCount, AreRunsOf};
 
 use crate::header::CONTAINER_NUMBERS;
 use crate::layout::{CONTAINER_WORDS, MAX_ARRAY_LEN};
+use crate::nonzero_words::{next_bit, next_slot, word_of};
 use crate::number::put_u16;
-use crate::slots::{next_bit, next_slot, word_of};
 
 // From this many runs on, bits take no more bytes.
 const RUNS_OF_BITS: usize = 2048;

@@ -9,7 +9,7 @@ ghost use Rattle.hibitset_roaring.specs.Headers.{IsHeader};
 ghost use Rattle.hibitset_roaring.specs.Sinks.{AddsContainer};
 ghost use Rattle.hibitset_roaring.specs.declared.header.TheConstants.{KEYS};
 
-use crate::container::read_container;
+use crate::decode_container::read_container;
 use crate::error::ReadError;
 use crate::header::{Header, KEYS};
 use crate::layout::CONTAINER_WORDS;

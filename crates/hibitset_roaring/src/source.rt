@@ -1,15 +1,17 @@
 //! What the containers of a stream are written of.
 
-ghost use Rattle.std.specs.Prelude.{◌≡◌, ℕ, ◌+◌, ◌*◌, ◌^◌, ◌<◌, ◌≤◌, List, get_or, length};
+ghost use Rattle.std.specs.Prelude.{◌≡◌, ℕ, ◌+◌, ◌*◌, ◌^◌, ◌<◌, ◌≤◌, true, List, get_or, length};
 ghost use Rattle.hibitset.specs.WordBits.{stands_in};
-ghost use Rattle.hibitset_roaring.specs.Streams.{SameBefore, flat_bytes, IsWritten};
+ghost use Rattle.hibitset_roaring.specs.Streams.{SameBefore, container_bytes, IsRunCount, IsKindWritten};
+ghost use Rattle.hibitset_roaring.specs.Runs.{members_under, count_of_runs, are_runs_shorter};
 ghost use Rattle.hibitset_roaring.specs.Words.{ones_under, AreSummaries};
 ghost use Rattle.hibitset_roaring.specs.declared.header.TheConstants.{KEYS};
 
+use crate::encode_container::write_kind;
 use crate::header::KEYS;
-use crate::heads::count_members;
+use crate::key_counts::count_members;
 use crate::layout::CONTAINER_WORDS;
-use crate::writer::write_flat;
+use crate::runs::count_runs;
 use hibitset::BitSet;
 
 /// A set whose containers are counted and written.
@@ -31,13 +33,20 @@ pub(crate) trait ContainerSource {
         ensures count { result ≡ ones_under (words self.now) key }
         ensures few { result ≤ 65536 };
 
-    /// Writes a container that is no runs.
-    fn write_container(&self, out: &mut [u8], at: usize, key: usize, count: usize)
-        requires room { at + flat_bytes count ≤ length out.old }
+    /// How many runs the `count` members with these high bits form; or at least as many, if runs are no shorter.
+    fn count_runs(&self, key: usize, count: usize) -> usize
+        requires { key < KEYS }
+        ensures { IsRunCount (words self.now) key count result };
+
+    /// Writes a container, as runs if so many are shorter.
+    fn write_container(&self, out: &mut [u8], at: usize, key: usize, count: usize, runs: usize)
+        requires room { at + container_bytes count runs ≤ length out.old }
         requires key { key < KEYS }
         requires count { count ≡ ones_under (words self.now) key }
+        requires runs { are_runs_shorter runs count ≡ true
+            → runs ≡ count_of_runs (members_under (stands_in (words self.now)) key) }
         ensures before { SameBefore at out.old out.new }
-        ensures written { IsWritten (words self.now) out.new at key count };
+        ensures written { IsKindWritten (words self.now) out.new at key count runs };
 
     // There are no more words than layer 0 may have.
     ghost short: { (source : Self) → length (words source) ≤ 16777216 };
@@ -99,7 +108,12 @@ impl ContainerSource for WordSource<'_> {
     }
 
     #[inline]
-    fn write_container(&self, out: &mut [u8], at: usize, key: usize, count: usize) {
-        write_flat(out, at, self.words, self.above, key, count);
+    fn count_runs(&self, key: usize, count: usize) -> usize {
+        count_runs(self.words, self.above, key, count)
+    }
+
+    #[inline]
+    fn write_container(&self, out: &mut [u8], at: usize, key: usize, count: usize, runs: usize) {
+        write_kind(out, at, self.words, self.above, key, count, runs);
     }
 }

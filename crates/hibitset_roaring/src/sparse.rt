@@ -8,12 +8,12 @@ ghost use Rattle.hibitset_roaring.specs.Faults.{IsReason};
 ghost use Rattle.hibitset_roaring.specs.Transfers.{GivesFront, longest_below, IsOutside, IsFromReason, IsNoInterruption};
 ghost use Rattle.hibitset_roaring.specs.declared.error.ReadError.TheVariants as errors;
 ghost use Rattle.hibitset_roaring.specs.declared.header.TheConstants.{KEYS};
-ghost use Rattle.hibitset_roaring.specs.declared.input.TheConstants.{CHUNK};
+ghost use Rattle.hibitset_roaring.specs.declared.from_reader.TheConstants.{CHUNK};
 
+use crate::decode::{check_stream, read_containers};
 use crate::error::{ReadError, ReadFromError};
+use crate::from_reader::read_within;
 use crate::header::KEYS;
-use crate::input::read_within;
-use crate::reader::{check_stream, read_containers};
 use crate::sink::SparseSink;
 use hibitset_sparse::SparseBitSet;
 use std::alloc::Global;

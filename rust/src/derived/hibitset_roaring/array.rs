@@ -5,8 +5,8 @@
 use crate::support::rattle_std::prelude::*;
 
 use crate::derived::hibitset_roaring::layout::CONTAINER_WORDS;
+use crate::derived::hibitset_roaring::nonzero_words::{blocks_over, slot_after, slot_from, take_lowest, word_of};
 use crate::derived::hibitset_roaring::number::put_u16;
-use crate::derived::hibitset_roaring::slots::{blocks_over, slot_after, slot_from, take_lowest, word_of};
 
 // Writes the bits of a word, whose first bit has the number `first`, behind the `len` numbers of an array, and returns
 // how many it has then.

@@ -4,12 +4,11 @@
 
 use crate::support::rattle_std::prelude::*;
 
+use crate::derived::hibitset_roaring::decode::read;
+use crate::derived::hibitset_roaring::encode::{write, write_run_optimized};
+use crate::derived::hibitset_roaring::encode_like::write_like;
 use crate::derived::hibitset_roaring::error::ReadError;
-use crate::derived::hibitset_roaring::like::write_like;
-use crate::derived::hibitset_roaring::reader::read;
-use crate::derived::hibitset_roaring::run_writer::write_run_optimized;
 use crate::derived::hibitset_roaring::sparse::read_sparse;
-use crate::derived::hibitset_roaring::writer::write;
 use crate::derived::hibitset::BitSet;
 use crate::derived::hibitset_sparse::SparseBitSet;
 use crate::derived::hibitset_sparse::laws::sparse_laws;

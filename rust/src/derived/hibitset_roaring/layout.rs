@@ -25,39 +25,33 @@ pub(crate) fn flat_size(cardinality: usize) -> usize {
 }
 
 impl Header {
-    // How many bytes a container takes.
-    fn size(&self, bytes: &[u8], k: usize, at: usize) -> Result<usize, Malformed> {
-        if !self.is_run(bytes, k) {
-            return Ok(flat_size(self.cardinality(bytes, k)));
+    // How many bytes a container takes. If it is runs, their number lies within the bytes.
+    pub(crate) fn size(&self, bytes: &[u8], k: usize, at: usize) -> usize {
+        if self.is_run(bytes, k) {
+            return 2 + 4 * read_u16(bytes, at);
         }
-        if bytes.len() - at < 2 {
-            return Err(Malformed {
-                fault: Fault::TooShort,
-                at,
-            });
-        }
-        Ok(2 + 4 * read_u16(bytes, at))
+        flat_size(self.cardinality(bytes, k))
     }
 
-    // Where a container ends that lies within the bytes.
-    pub(crate) fn end(&self, bytes: &[u8], k: usize, at: usize) -> usize {
-        if self.is_run(bytes, k) {
-            return at + 2 + 4 * read_u16(bytes, at);
+    // Returns whether a container lies within the bytes.
+    fn is_within(&self, bytes: &[u8], k: usize, at: usize) -> bool {
+        let left = bytes.len() - at;
+        if left < 2 && self.is_run(bytes, k) {
+            return false;
         }
-        at + flat_size(self.cardinality(bytes, k))
+        self.size(bytes, k, at) <= left
     }
 
     // Checks that a container begins where its offset says and lies within the bytes, and returns where it ends.
     fn check_container(&self, bytes: &[u8], k: usize, at: usize) -> Result<usize, Malformed> {
         self.check_offset(bytes, k, at)?;
-        let size = self.size(bytes, k, at)?;
-        if bytes.len() - at < size {
+        if !self.is_within(bytes, k, at) {
             return Err(Malformed {
                 fault: Fault::TooShort,
                 at,
             });
         }
-        Ok(at + size)
+        Ok(at + self.size(bytes, k, at))
     }
 
     // Checks that the containers begin where the offsets say, and that the bytes end with the last.

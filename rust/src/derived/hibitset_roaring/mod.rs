@@ -5,32 +5,34 @@
 use crate::support::rattle_std::prelude::*;
 
 mod array;
-mod container;
+mod decode;
+mod decode_container;
+mod encode;
+mod encode_container;
+mod encode_like;
 mod error;
+mod from_reader;
 mod header;
-mod heads;
-mod input;
+mod key_counts;
 pub mod laws;
 mod layout;
-mod like;
+mod nonzero_words;
 mod number;
-mod output;
-mod reader;
-mod run_writer;
 mod runs;
 mod sink;
-mod slots;
 mod source;
 mod sparse;
+mod to_writer;
 mod words;
-mod writer;
 
+pub use decode::{read, read_below};
+pub use encode::{
+    len_of_words, run_optimized_len, serialized_len, write, write_run_optimized,
+    write_run_optimized_to, write_to, write_words,
+};
+pub use encode_like::{serialized_len_like, write_like};
 pub use error::{Fault, Malformed, ReadError, ReadFromError};
+pub use from_reader::read_from;
 pub use header::KEYS;
-pub use input::read_from;
-pub use like::{serialized_len_like, write_like};
-pub use output::write_into;
-pub use reader::{read, read_below};
-pub use run_writer::{run_optimized_len, write_run_optimized, write_run_optimized_to};
 pub use sparse::{read_sparse, read_sparse_below, read_sparse_from};
-pub use writer::{len_of_words, serialized_len, write, write_to, write_words};
+pub use to_writer::write_into;

@@ -6,8 +6,8 @@ use crate::support::rattle_std::prelude::*;
 
 use crate::derived::hibitset_roaring::header::CONTAINER_NUMBERS;
 use crate::derived::hibitset_roaring::layout::{CONTAINER_WORDS, MAX_ARRAY_LEN};
+use crate::derived::hibitset_roaring::nonzero_words::{next_bit, next_slot, word_of};
 use crate::derived::hibitset_roaring::number::put_u16;
-use crate::derived::hibitset_roaring::slots::{next_bit, next_slot, word_of};
 
 // From this many runs on, bits take no more bytes.
 const RUNS_OF_BITS: usize = 2048;

@@ -4,7 +4,7 @@
 
 use crate::support::rattle_std::prelude::*;
 
-use crate::derived::hibitset_roaring::container::read_container;
+use crate::derived::hibitset_roaring::decode_container::read_container;
 use crate::derived::hibitset_roaring::error::ReadError;
 use crate::derived::hibitset_roaring::header::{Header, KEYS};
 use crate::derived::hibitset_roaring::layout::CONTAINER_WORDS;

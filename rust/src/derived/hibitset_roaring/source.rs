@@ -4,10 +4,11 @@
 
 use crate::support::rattle_std::prelude::*;
 
+use crate::derived::hibitset_roaring::encode_container::write_kind;
 use crate::derived::hibitset_roaring::header::KEYS;
-use crate::derived::hibitset_roaring::heads::count_members;
+use crate::derived::hibitset_roaring::key_counts::count_members;
 use crate::derived::hibitset_roaring::layout::CONTAINER_WORDS;
-use crate::derived::hibitset_roaring::writer::write_flat;
+use crate::derived::hibitset_roaring::runs::count_runs;
 use crate::derived::hibitset::BitSet;
 
 /// A set whose containers are counted and written.
@@ -36,18 +37,30 @@ pub(crate) trait ContainerSource {
     /// ```
     fn count_under(&self, key: usize) -> usize;
 
-    /// Writes a container that is no runs.
+    /// How many runs the `count` members with these high bits form; or at least as many, if runs are no shorter.
     ///
     /// # Contract
     ///
     /// ```text
-    /// requires room { at + flat_bytes count ≤ length out.old }
+    /// requires { key < KEYS }
+    /// ensures { IsRunCount (words self.now) key count result }
+    /// ```
+    fn count_runs(&self, key: usize, count: usize) -> usize;
+
+    /// Writes a container, as runs if so many are shorter.
+    ///
+    /// # Contract
+    ///
+    /// ```text
+    /// requires room { at + container_bytes count runs ≤ length out.old }
     /// requires key { key < KEYS }
     /// requires count { count ≡ ones_under (words self.now) key }
+    /// requires runs { are_runs_shorter runs count ≡ true
+    ///     → runs ≡ count_of_runs (members_under (stands_in (words self.now)) key) }
     /// ensures before { SameBefore at out.old out.new }
-    /// ensures written { IsWritten (words self.now) out.new at key count }
+    /// ensures written { IsKindWritten (words self.now) out.new at key count runs }
     /// ```
-    fn write_container(&self, out: &mut [u8], at: usize, key: usize, count: usize);
+    fn write_container(&self, out: &mut [u8], at: usize, key: usize, count: usize, runs: usize);
 }
 
 /// Words of layer 0, and those of layer 1 over them.
@@ -101,7 +114,12 @@ impl ContainerSource for WordSource<'_> {
     }
 
     #[inline]
-    fn write_container(&self, out: &mut [u8], at: usize, key: usize, count: usize) {
-        write_flat(out, at, self.words, self.above, key, count);
+    fn count_runs(&self, key: usize, count: usize) -> usize {
+        count_runs(self.words, self.above, key, count)
+    }
+
+    #[inline]
+    fn write_container(&self, out: &mut [u8], at: usize, key: usize, count: usize, runs: usize) {
+        write_kind(out, at, self.words, self.above, key, count, runs);
     }
 }

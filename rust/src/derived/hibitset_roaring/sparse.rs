@@ -4,10 +4,10 @@
 
 use crate::support::rattle_std::prelude::*;
 
+use crate::derived::hibitset_roaring::decode::{check_stream, read_containers};
 use crate::derived::hibitset_roaring::error::{ReadError, ReadFromError};
+use crate::derived::hibitset_roaring::from_reader::read_within;
 use crate::derived::hibitset_roaring::header::KEYS;
-use crate::derived::hibitset_roaring::input::read_within;
-use crate::derived::hibitset_roaring::reader::{check_stream, read_containers};
 use crate::derived::hibitset_roaring::sink::SparseSink;
 use crate::derived::hibitset_sparse::SparseBitSet;
 use crate::support::rattle_std::alloc::Global;

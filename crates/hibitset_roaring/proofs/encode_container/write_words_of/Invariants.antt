@@ -1,0 +1,11 @@
+use Rattle.std.proofs.Common.{◌≡◌, ℕ, ◌+◌, ◌*◌, ◌<◌, get_or}
+use Rattle.hibitset_roaring.specs.Numbers.{u64_at}
+use Rattle.hibitset_roaring.specs.Streams.{SameBefore}
+use Rattle.hibitset_roaring.proofs.encode_container.write_words_of.Given as goal
+
+-- so many words are written
+abbrev pub invariant-words : goal.invariant-words
+invariant-words l = record {
+  before : SameBefore l.at l.fn.out l.out;
+  same : (q : ℕ) → q < l.j → u64_at l.out (l.at + 8 * q) ≡ get_or l.words (l.base + q) 0;
+}

@@ -1,0 +1,116 @@
+// Derived from crates/hibitset_roaring/src/nonzero_words.rt by rust/derive.py, and never edited by hand.
+
+//! The words of layer 0 that a container has, found by layer 1.
+
+use crate::support::rattle_std::prelude::*;
+
+use crate::derived::hibitset_roaring::layout::CONTAINER_WORDS;
+use crate::derived::hibitset_base::bits::with_bit;
+
+// How many words of layer 1 lie over a container.
+pub(crate) const CONTAINER_BLOCKS: usize = 16;
+
+// The word at a slot, which is 0 past the end.
+#[inline]
+pub(crate) fn word_of(words: &[usize], slot: usize) -> usize {
+    if slot < words.len() { words[slot] } else { 0 }
+}
+
+// Takes the lowest bit out of a word, and returns its number.
+#[inline]
+pub(crate) fn take_lowest(word: &mut usize) -> usize {
+    let bit = word.trailing_zeros();
+    *word &= *word - 1;
+    bit as usize
+}
+
+// The lowest bit that is set in a word, from one on; or 64.
+#[inline]
+pub(crate) fn next_bit(word: usize, from: usize) -> usize {
+    let rest = word >> from;
+    if rest == 0 {
+        64
+    } else {
+        from + rest.trailing_zeros() as usize
+    }
+}
+
+// The next slot of a container, from one on, over which the bit of layer 1 is set; or 1,024. All words between are 0.
+#[inline]
+pub(crate) fn next_slot(above: &[usize], key: usize, from: usize) -> usize {
+    let mut slot = from;
+    'slots: while slot < CONTAINER_WORDS {
+        let block = slot / 64;
+        let bit = next_bit(word_of(above, CONTAINER_BLOCKS * key + block), slot % 64);
+        slot = 64 * block + bit;
+        if bit < 64 {
+            return slot;
+        }
+    }
+    slot
+}
+
+// Which of the words of layer 1 over a container are not 0, as bits. All of them are there.
+#[inline]
+fn whole_blocks(above: &[usize], key: usize) -> usize {
+    let mut blocks = 0;
+    'words: for b in 0..CONTAINER_BLOCKS {
+        blocks = with_bit(blocks, b, above[CONTAINER_BLOCKS * key + b] != 0);
+    }
+    blocks
+}
+
+// Which of the words of layer 1 over a container are not 0, as bits. Those past the end are 0.
+#[inline]
+fn last_blocks(above: &[usize], key: usize) -> usize {
+    let mut blocks = 0;
+    'words: for b in 0..CONTAINER_BLOCKS {
+        blocks = with_bit(blocks, b, word_of(above, CONTAINER_BLOCKS * key + b) != 0);
+    }
+    blocks
+}
+
+// Which of the words of layer 1 over a container are not 0, as bits.
+#[inline]
+pub(crate) fn blocks_over(above: &[usize], key: usize) -> usize {
+    if CONTAINER_BLOCKS * key + CONTAINER_BLOCKS <= above.len() {
+        whole_blocks(above, key)
+    } else {
+        last_blocks(above, key)
+    }
+}
+
+// The first slot of a container, from a word of layer 1 on, over which the bit of layer 1 is set; or 1,024. All words
+// between are 0. `rest` has then the bits of layer 1 that are left over the slot.
+#[inline]
+pub(crate) fn slot_from(
+    above: &[usize],
+    key: usize,
+    blocks: usize,
+    from: usize,
+    rest: &mut usize,
+) -> usize {
+    let block = next_bit(blocks, from);
+    if block == 64 {
+        return CONTAINER_WORDS;
+    }
+    *rest = word_of(above, CONTAINER_BLOCKS * key + block);
+    64 * block + take_lowest(rest)
+}
+
+// The next slot behind one over which the bit of layer 1 is set, or 1,024. All words between are 0. `rest` has the bits
+// of layer 1 that are left over the slot, and then over the one that is found.
+#[inline]
+pub(crate) fn slot_after(
+    above: &[usize],
+    key: usize,
+    blocks: usize,
+    slot: usize,
+    rest: &mut usize,
+) -> usize {
+    let block = slot / 64;
+    if *rest != 0 {
+        return 64 * block + take_lowest(rest);
+    }
+    slot_from(above, key, blocks, block + 1, rest)
+}
