@@ -1,9 +1,8 @@
 -- What a container has, by its kind.
-use Rattle.std.proofs.Common.{◌≡◌, ℕ, ◌+◌, ◌*◌, ◌<◌, ◌≤◌, true, false, List, sym, ap, ◌∙◌, arith, inl, inr}
+use Rattle.std.proofs.Common.{◌≡◌, ℕ, ◌+◌, ◌*◌, ◌<◌, ◌≤◌, true, false, List, sym, ap, ◌∙◌, inl, inr}
 use Rattle.std.specs.Prelude.{nat_le}
-use Rattle.std.proofs.lemmas.Bool.{cond-true, cond-false, le-leb, lt-leb, both_ways, cases_lt}
-use Rattle.hibitset_roaring.specs.Format.{run_count, in_runs, in_array, in_bits, AreRuns, IsArray, cardinality_of, is_run, size, container_at, in_container, IsContainer}
-use Rattle.hibitset_roaring.specs.Numbers.{ones_in}
+use Rattle.std.proofs.lemmas.Bool.{cond-true, cond-false, le-leb, lt-leb, cases_lt}
+use Rattle.hibitset_roaring.specs.Format.{run_count, in_runs, in_array, in_bits, cardinality_of, is_run, size, container_at, in_container}
 use Rattle.hibitset_roaring.proofs.LayoutLemmas.{at_next}
 
 -- the sizes of containers by their kinds
@@ -29,9 +28,6 @@ module _ (bytes : List ℕ) (k : ℕ) where
     unfolding in_container
     in_runs_is low = sym (cond-true (is_run bytes k) _ _ kind)
 
-    pub are_runs : AreRuns bytes (container_at bytes k) (cardinality_of bytes k) → IsContainer bytes k
-    are_runs runs = record { runs = λ _. runs; array = λ no small. absurd (both_ways (is_run bytes k) no kind); bits = λ no large. absurd (both_ways (is_run bytes k) no kind) }
-
   module _ (kind : is_run bytes k ≡ false) where
     module _ (small : cardinality_of bytes k ≤ 4096) where
       pub at_array : container_at bytes (k + 1) ≡ container_at bytes k + 2 * cardinality_of bytes k
@@ -42,9 +38,6 @@ module _ (bytes : List ℕ) (k : ℕ) where
       unfolding in_container
       in_array_is low = sym (cond-false (is_run bytes k) _ _ kind ∙ cond-true (nat_le (cardinality_of bytes k) 4096) _ _ (le-leb _ _ small))
 
-      pub is_array : IsArray bytes (container_at bytes k) (cardinality_of bytes k) → IsContainer bytes k
-      is_array array = record { runs = λ yes. absurd (both_ways (is_run bytes k) kind yes); array = λ _ _. array; bits = λ _ large. absurd (omega (arith, small, large)) }
-
     module _ (large : 4096 < cardinality_of bytes k) where
       pub at_bits : container_at bytes (k + 1) ≡ container_at bytes k + 8192
       unfolding size
@@ -53,6 +46,3 @@ module _ (bytes : List ℕ) (k : ℕ) where
       pub in_bits_is : (low : ℕ) → in_bits bytes (container_at bytes k) low ≡ in_container bytes k low
       unfolding in_container
       in_bits_is low = sym (cond-false (is_run bytes k) _ _ kind ∙ cond-false (nat_le (cardinality_of bytes k) 4096) _ _ (lt-leb _ _ large))
-
-      pub are_bits : ones_in bytes (container_at bytes k) 1024 ≡ cardinality_of bytes k → IsContainer bytes k
-      are_bits bits = record { runs = λ yes. absurd (both_ways (is_run bytes k) kind yes); array = λ _ small. absurd (omega (arith, small, large)); bits = λ _ _. bits }

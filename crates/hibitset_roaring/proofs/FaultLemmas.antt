@@ -51,9 +51,6 @@ module _ (bytes : List ℕ) (end k at : ℕ) (here : at ≡ container_at bytes k
   pub array_fault : is_run bytes k ≡ false → (len : ℕ) → len ≡ cardinality_of bytes k → len ≤ 4096 → (fault ≡ faults.NotAscending) × IsLowNumber bytes at len p → IsFault bytes end fault p
   array_fault flat len is few h = rw h.0 (record { container = k; counted = below; flat = flat; few = omega (arith, few, is); number = rw (← here, ← is) h.1 })
 
-  pub bits_fault : is_run bytes k ≡ false → (len : ℕ) → len ≡ cardinality_of bytes k → 4096 < len → (fault ≡ faults.WrongCardinality) × (p ≡ at) × (ones_in bytes at 1024 ≢ len) → IsFault bytes end fault p
-  bits_fault flat len is many h = rw h.0 (inl (record { container = k; counted = below; flat = flat; many = omega (arith, many, is); here = h.1 ∙ here; wrong = λ e. h.2 (ap (λ a. ones_in bytes a 1024) (sym h.1) ∙ (e ∙ sym is)) }))
-
   pub runs_fault : is_run bytes k ≡ true → (len : ℕ) → len ≡ cardinality_of bytes k → ((fault ≡ faults.RunsNotApart) × IsCloseRun bytes at p) ⊎ ((fault ≡ faults.RunPastEnd) × IsLongRun bytes at p) ⊎ ((fault ≡ faults.WrongCardinality) × (p ≡ at) × (run_total bytes at (run_count bytes at) ≢ len)) → IsFault bytes end fault p
   runs_fault runs len is bad = elim bad [
     | inl h ↦ rw h.0 (record { container = k; counted = below; runs = runs; run = rw (← here) h.1 })

@@ -1,9 +1,9 @@
 -- Streams without runs and streams with runs where these are shorter, as streams of their kinds.
-use Rattle.std.proofs.Common.{◌≡◌, ℕ, ◌+◌, ◌/◌, ◌%◌, ◌^◌, ◌<◌, ◌≤◌, ◌==◌, ◌&&◌, Bool, true, false, List, get_or, length, refl, sym, ap, ◌∙◌, arith, inl, inr}
+use Rattle.std.proofs.Common.{◌≡◌, ℕ, ◌+◌, ◌/◌, ◌%◌, ◌^◌, ◌<◌, ◌==◌, ◌&&◌, Bool, false, List, get_or, length, refl, sym, ap, ◌∙◌, arith, inl, inr}
 use Rattle.std.specs.Int.{bit_at}
 use Rattle.std.proofs.lemmas.Bool.{cases_lt, le-ltb, both_ways, false_from_ne_true}
 use Rattle.hibitset.specs.WordBits.{stands_in}
-use Rattle.hibitset_roaring.specs.Format.{has_runs, container_count, key_of, cardinality_of, is_run, IsPlainStream, IsCanonicalStream}
+use Rattle.hibitset_roaring.specs.Format.{has_runs, key_of, is_run, IsPlainStream, IsCanonicalStream}
 use Rattle.hibitset_roaring.specs.Runs.{members_under, count_of_runs, are_runs_shorter}
 use Rattle.hibitset_roaring.specs.Streams.{AreHeads, IsRunCount, AreRunCounts, AreKinds, HaveKeys, SaysRuns}
 use Rattle.hibitset_roaring.specs.Words.{ones_under}

@@ -29,6 +29,3 @@ first_within bytes stream = let h = at_mono bytes 0 (container_count bytes) (ome
 module _ (bytes : List ℕ) (k at : ℕ) (is : at ≡ container_at bytes k) where
   pub next_at : container_at bytes (k + 1) ≡ at + size bytes k at
   next_at = at_next bytes k ∙ ap (λ a. a + size bytes k a) (sym is)
-
-  pub end_within : IsStream bytes → k < container_count bytes → at + size bytes k at ≤ length bytes
-  end_within stream below = let w = at_within bytes k stream below in let n = next_at in omega (arith, w, n)

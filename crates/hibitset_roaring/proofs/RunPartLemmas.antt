@@ -1,9 +1,9 @@
 -- Runs in bytes, and containers that may be runs.
-use Rattle.std.proofs.Common.{◌≡◌, ℕ, zero, suc, ◌+◌, ◌-◌, ◌*◌, ◌/◌, ◌%◌, ◌^◌, ◌<◌, ◌≤◌, ◌==◌, ◌&&◌, ◌||◌, Bool, true, false, cond, List, get_or, length, refl, sym, ap, ◌∙◌, add-one, arith, inl, inr}
+use Rattle.std.proofs.Common.{◌≡◌, ℕ, zero, suc, ◌+◌, ◌-◌, ◌*◌, ◌/◌, ◌%◌, ◌^◌, ◌<◌, ◌≤◌, ◌==◌, ◌&&◌, ◌||◌, Bool, true, false, List, get_or, length, refl, sym, ap, ◌∙◌, add-one, arith, inl, inr}
 use Rattle.std.specs.Prelude.{nat_le}
 use Rattle.std.specs.Int.{bit_at}
 use Rattle.std.proofs.lemmas.Nat.Bits.{bit_at_cat_low}
-use Rattle.std.proofs.lemmas.Bool.{cases_lt, cases_Bool, cond-true, cond-false, cond_both, le-leb, lt-leb, leb-true, leb-false, and_parts, and_from, and_left, and_right, false_from_ne_true, or_from}
+use Rattle.std.proofs.lemmas.Bool.{cases_lt, cases_Bool, cond-true, cond-false, cond_both, le-leb, lt-leb, leb-true, and_parts, and_from, and_left, and_right, false_from_ne_true, or_from}
 use Rattle.hibitset_base.specs.Members.{members}
 use Rattle.hibitset_base.proofs.MemberLemmas.{members-none, members-same}
 use Rattle.hibitset_roaring.specs.Numbers.{any_below}

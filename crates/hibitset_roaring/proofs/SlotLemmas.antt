@@ -80,9 +80,6 @@ module _ (above : List ℕ) (key blocks : ℕ) (are : AreBlocks above key blocks
   pub block_low : (b : ℕ) → b < 64 → bit_at blocks b ≡ 1 → b < 16
   block_low b small on = let h = are.bits b small in grind (arith, nat_tests)
 
-  pub block_nonzero : (b : ℕ) → b < 64 → bit_at blocks b ≡ 1 → 0 < get_or above (16 * key + b) 0
-  block_nonzero b small on = let h = are.bits b small in grind (arith, nat_tests)
-
 -- a word under a bit of layer 1 that is clear
 pub under_clear : (words above : List ℕ) (key q : ℕ) → AreSummaries words above → bit_at (get_or above (16 * key + q / 64) 0) (q % 64) ≡ 0 → get_or words (1024 * key + q) 0 ≡ 0
 under_clear words above key q summed clear = elim (cases_lt 0 (get_or words (1024 * key + q) 0)) [

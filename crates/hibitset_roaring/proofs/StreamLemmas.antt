@@ -1,5 +1,5 @@
 -- What was written part by part is a stream of the members.
-use Rattle.std.proofs.Common.{◌≡◌, ℕ, zero, suc, ◌+◌, ◌*◌, ◌/◌, ◌%◌, ◌^◌, ◌<◌, ◌≤◌, ◌==◌, ◌&&◌, ◌||◌, Bool, true, false, not, List, get_or, length, sym, ap, ◌∙◌, arith, inl, inr}
+use Rattle.std.proofs.Common.{◌≡◌, ℕ, zero, suc, ◌+◌, ◌*◌, ◌/◌, ◌%◌, ◌^◌, ◌<◌, ◌≤◌, ◌==◌, ◌&&◌, Bool, true, false, List, get_or, length, sym, ap, ◌∙◌, arith, inl, inr}
 use Rattle.std.specs.Prelude.{nat_le}
 use Rattle.std.specs.Int.{bit_at}
 use Rattle.std.proofs.lemmas.Bool.{cases_lt, cases_Bool, cond-true, cond-false, le-leb, lt-leb, both_ways, and_parts, and_from, eqb-true, false_from_ne_true}
@@ -9,10 +9,10 @@ use Rattle.hibitset_base.specs.Members.{members}
 use Rattle.hibitset_base.proofs.MemberLemmas.{members-same}
 use Rattle.hibitset.specs.WordBits.{stands_in}
 use Rattle.hibitset_roaring.specs.Numbers.{u16_at, u32_at, any_below}
-use Rattle.hibitset_roaring.specs.Format.{has_runs, container_count, keys_at, has_offsets, offsets_at, first_at, key_of, cardinality_of, is_run, run_count, in_run, in_runs, run_total, container_at, size, in_container, holds, IsContainer, IsStream, HasKeysBelow, AreBytes}
+use Rattle.hibitset_roaring.specs.Format.{has_runs, container_count, keys_at, has_offsets, offsets_at, key_of, cardinality_of, is_run, run_count, in_run, in_runs, run_total, container_at, size, in_container, holds, IsContainer, IsStream, HasKeysBelow, AreBytes}
 use Rattle.hibitset_roaring.specs.Words.{ones_under}
 use Rattle.hibitset_roaring.specs.Streams.{flat_bytes, container_bytes, start_from, fields_after, offsets_after, first_after, AreHeads, AreKinds, HaveKeys, SaysRuns, AreRunsOf, IsKindWritten, IsHeaded}
-use Rattle.hibitset_roaring.specs.Runs.{members_under, begins_run, count_of_runs, are_runs_shorter}
+use Rattle.hibitset_roaring.specs.Runs.{members_under, are_runs_shorter}
 use Rattle.hibitset_roaring.specs.RunStreams.{IsRunOptimizedStream, IsCanonicalRunStream}
 use Rattle.hibitset_roaring.specs.Kinds.{cardinality_under, IsStreamOf}
 use Rattle.hibitset_roaring.proofs.TestLemmas.{any_true, any_some}

@@ -1,5 +1,5 @@
 -- Tests put together.
-use Rattle.std.proofs.Common.{◌≡◌, ℕ, zero, suc, ◌+◌, ◌*◌, ◌/◌, ◌%◌, ◌<◌, ◌≤◌, ◌==◌, ◌&&◌, ◌||◌, Bool, true, false, refl, ap, ◌∙◌, add-one, arith, inl, inr}
+use Rattle.std.proofs.Common.{◌≡◌, ℕ, zero, suc, ◌+◌, ◌*◌, ◌/◌, ◌%◌, ◌<◌, ◌==◌, ◌&&◌, ◌||◌, Bool, true, false, refl, ap, ◌∙◌, add-one, arith, inl, inr}
 use Rattle.std.specs.Prelude.{nat_le}
 use Rattle.std.proofs.lemmas.Bool.{cases_lt, both_ways, or_cases, or_left, or_right}
 use Rattle.std.proofs.lemmas.Bool.Decides.{nat_tests}
@@ -47,12 +47,6 @@ number_test high low i small = grind (arith, nat_tests)
 -- a range by the high bits, which its numbers share, and the low bits
 pub range_test : (high first last i : ℕ) → last < 65536 → in_range (65536 * high + first) (65536 * high + last + 1) i ≡ ((i / 65536 == high) && (nat_le first (i % 65536) && nat_le (i % 65536) last))
 range_test high first last i small = grind (arith, nat_tests)
-
-pub range_next : (start number i : ℕ) → start ≤ number → (in_range start number i || (i == number)) ≡ in_range start (number + 1) i
-range_next start number i order = grind (arith, nat_tests)
-
-pub range_none : (start i : ℕ) → in_range start start i ≡ false
-range_none start i = grind (arith, nat_tests)
 
 pub or_comm : (a b : Bool) → (a || b) ≡ (b || a)
 or_comm true true = refl

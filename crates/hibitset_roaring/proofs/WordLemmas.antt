@@ -4,7 +4,6 @@ use Rattle.std.specs.Prelude.{nat_le, nat_lt}
 use Rattle.std.specs.Int.{bit_at, trailing_zeros}
 use Rattle.std.specs.Int.RustNames.{count_ones}
 use Rattle.std.proofs.lemmas.Bool.{cases_lt, cases_eq, le-leb, lt-leb, lt-ltb, le-ltb}
-use Rattle.std.proofs.lemmas.Nat.Bits.{bit_at-zero}
 use Rattle.hibitset_base.specs.Decisions.{eq_same, eq_other}
 use Rattle.hibitset_base.proofs.MaskLemmas.{takes_first}
 use Rattle.hibitset_base.proofs.OneCountLemmas.{bits-count}
@@ -57,12 +56,6 @@ taken_word first bit old new v taken = elim (cases_lt v first) [
         ap (λ x. nat_le first v && (x && (bit_at old (v - first) == 1))) b ∙ (and_false (nat_le first v) ∙ sym (ap (λ x. x || in_word first new v) t ∙ (ap (λ x. nat_le first v && (x && (bit_at new (v - first) == 1))) b ∙ and_false (nat_le first v))))
   ]
 ]
-
--- a zero word has none
-pub no_word : (first v : ℕ) → in_word first 0 v ≡ false
-no_word first v =
-    let z : (bit_at 0 (v - first) == 1) ≡ false = ap (λ x. x == 1) (bit_at-zero (v - first)) in
-    ap (λ x. nat_le first v && (nat_lt v (first + 64) && x)) z ∙ (ap (λ x. nat_le first v && x) (and_false (nat_lt v (first + 64))) ∙ and_false (nat_le first v))
 
 pub ones_first : (words : List ℕ) (base : ℕ) → ones_from words base 0 ≡ 0
 unfolding ones_from

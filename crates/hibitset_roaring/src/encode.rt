@@ -7,7 +7,7 @@ ghost use Rattle.hibitset.specs.WordBits.{stands_in};
 ghost use Rattle.hibitset_roaring.specs.Numbers.{u16_at, u32_at};
 ghost use Rattle.hibitset_roaring.specs.Format.{HasKeysBelow, IsPlainStream, IsCanonicalStream, Appends};
 ghost use Rattle.hibitset_roaring.specs.declared.header.TheConstants.{KEYS};
-ghost use Rattle.hibitset_roaring.specs.Streams.{SameBefore, AreHeads, IsRunCount, AreRunCounts, AreKinds, HaveKeys, SaysRuns, start_from, fields_after, offsets_after, first_after, IsKindWritten, IsFront, IsHeaded, AreSizes};
+ghost use Rattle.hibitset_roaring.specs.Streams.{SameBefore, AreHeads, AreRunCounts, AreKinds, HaveKeys, SaysRuns, start_from, fields_after, offsets_after, first_after, IsKindWritten, IsFront, IsHeaded, AreSizes};
 ghost use Rattle.hibitset_roaring.specs.Words.{ones_under, AreSummaries};
 ghost use Rattle.hibitset_roaring.specs.Runs.{members_under, count_of_runs, are_runs_shorter};
 ghost use Rattle.hibitset_roaring.specs.RunStreams.{IsRunOptimizedStream, IsCanonicalRunStream};

@@ -1,11 +1,11 @@
 //! Containers written as arrays, as bits or as runs.
 
-ghost use Rattle.std.specs.Prelude.{◌≡◌, ℕ, ◌+◌, ◌-◌, ◌*◌, ◌/◌, ◌^◌, ◌<◌, ◌≤◌, true, get_or, length};
+ghost use Rattle.std.specs.Prelude.{◌≡◌, ℕ, ◌+◌, ◌-◌, ◌*◌, ◌/◌, ◌<◌, ◌≤◌, true, get_or, length};
 ghost use Rattle.hibitset.specs.WordBits.{stands_in};
 ghost use Rattle.hibitset_roaring.specs.Numbers.{u64_at, ones_in};
 ghost use Rattle.hibitset_roaring.specs.Format.{in_bits};
 ghost use Rattle.hibitset_roaring.specs.Streams.{SameBefore, flat_bytes, container_bytes, IsWritten, IsKindWritten};
-ghost use Rattle.hibitset_roaring.specs.Words.{ones_from, ones_under, AreSummaries};
+ghost use Rattle.hibitset_roaring.specs.Words.{ones_under, AreSummaries};
 ghost use Rattle.hibitset_roaring.specs.Runs.{members_under, count_of_runs, are_runs_shorter};
 
 use crate::array::write_array;

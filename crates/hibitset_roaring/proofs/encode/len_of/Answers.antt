@@ -1,4 +1,4 @@
-use Rattle.std.proofs.Common.{◌≡◌, ℕ, ◌+◌, ◌*◌, length, sym, ap, ◌∙◌, arith}
+use Rattle.std.proofs.Common.{◌≡◌, ℕ, ◌+◌, length, sym, ap, ◌∙◌, arith}
 use Rattle.hibitset_roaring.specs.Streams.{start_from, first_after}
 use Rattle.hibitset_roaring.proofs.RunPartLemmas.{from_first, from_next, from_most}
 use Rattle.hibitset_roaring.proofs.encode.len_of.Goals as goal

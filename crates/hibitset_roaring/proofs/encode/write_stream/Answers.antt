@@ -2,7 +2,7 @@ use Rattle.std.proofs.Common.{◌≡◌, ℕ, ◌+◌, ◌*◌, ◌<◌, get_or,
 use Rattle.hibitset_roaring.specs.Numbers.{u32_at}
 use Rattle.hibitset_roaring.specs.Streams.{start_from, fields_after, first_after, IsKindWritten, IsHeaded}
 use Rattle.hibitset_roaring.proofs.FrameLemmas.{u32_same}
-use Rattle.hibitset_roaring.proofs.RunPartLemmas.{from_first, from_mono, fields_few, fields_first, offsets_first, headed_same}
+use Rattle.hibitset_roaring.proofs.RunPartLemmas.{from_first, from_mono, fields_first, offsets_first, headed_same}
 use Rattle.hibitset_roaring.proofs.StreamLemmas.{stream_written, keys_written}
 use Rattle.hibitset_roaring.proofs.encode.write_stream.Goals as goal
 

@@ -1,4 +1,4 @@
-use Rattle.std.proofs.Common.{ℕ, ◌||◌, Bool, sym, ◌∙◌, arith, inl, inr}
+use Rattle.std.proofs.Common.{ℕ, ◌||◌, sym, ◌∙◌, arith, inl, inr}
 use Rattle.std.proofs.lemmas.Bool.{or_cases, or_parts}
 use Rattle.hibitset.specs.WordBits.{stands_in}
 use Rattle.hibitset_roaring.specs.Kinds.{chosen_are_runs}
