@@ -225,6 +225,11 @@ def sparse_cells(results):
     return found
 
 
+def bytes_of(cells):
+    """Bytes a member; of a few members the allocator may have had them to spare, and shows none."""
+    return "-" if not cells or not float(cells["bytes a member"]) else cells["bytes a member"]
+
+
 def part_of(cell, other):
     return f"{float(cell) / float(other):.2f}" if float(other) else "-"
 
@@ -237,7 +242,7 @@ def sparse(results):
     yield f"## Sparse sets\n\n{own_head('sparse', results)}. Of the Rust crate, filled in random order.\n"
     names = list(dict.fromkeys(name for sets in kinds.values() for name in sets))
     heads = [name.strip("`") for name in names]
-    yield from table_of(["bytes a member", *heads], [[kind, *(sets[name]["bytes a member"] if name in sets else "" for name in names)] for kind, sets in kinds.items()])
+    yield from table_of(["bytes a member", *heads], [[kind, *(bytes_of(sets.get(name)) for name in names)] for kind, sets in kinds.items()])
     own, other = names[:2]
     lines = [[kind, *(part_of(sets[own][column], sets[other][column]) for column in BESIDE_ROARING)] for kind, sets in kinds.items()]
     yield from table_of([f"time as part of {other}'s", *BESIDE_ROARING.values()], lines)
