@@ -46,7 +46,7 @@ pub extern "C" fn hibitset_sparse_contains_many(
 // The fewest items of a list for which the members of a set are counted first.
 const COUNTED_ITEMS: usize = 64;
 
-// The counts of a set for so many items, if they are enough and the allocation succeeds.
+// The counts of a set for a list of this length, if it is long enough and the allocation succeeds.
 fn counts_for<T: BitSetLike + Copy>(alloc: Global, set: T, items: usize) -> Option<Ranked<T>>
     ensures { IfSome result (λ ranked. counted_set ranked ≡ set) }
 {

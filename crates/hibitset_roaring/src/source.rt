@@ -38,7 +38,7 @@ pub(crate) trait ContainerSource {
         requires { key < KEYS }
         ensures { IsRunCount (words self.now) key count result };
 
-    /// Writes a container, as runs if so many are shorter.
+    /// Writes a container of `count` members in `runs` runs, as runs if these are shorter.
     fn write_container(&self, out: &mut [u8], at: usize, key: usize, count: usize, runs: usize)
         requires room { at + container_bytes count runs ≤ length out.old }
         requires key { key < KEYS }

@@ -39,7 +39,7 @@ fn made(alloc: Global, set: &BitSet, making: Making) -> Option<BitSet> {
     }
 }
 
-// Sees that a set of these members is made, over a set that stays as it is, with room for so many words at least.
+// Sees that a set of these members is made, over a set that stays as it is, with room for this many words at least.
 fn assert_makes(
     rt: &(impl Abort + Print + AllocGlobal),
     making: Making,
@@ -507,7 +507,7 @@ fn to_vec(rt: HostRuntime) -> Result<(), AllocError> {
     Ok(())
 }
 
-// Sees that the list of a set, if there was memory for that, has so many indices as the set, from 0 to this last one,
+// Sees that the list of a set, if there was memory for that, has as many indices as the set, from 0 to this last one,
 // and this capacity, where it is known.
 fn assert_lists(
     rt: &(impl Abort + Print + AllocGlobal),

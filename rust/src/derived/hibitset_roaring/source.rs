@@ -47,7 +47,7 @@ pub(crate) trait ContainerSource {
     /// ```
     fn count_runs(&self, key: usize, count: usize) -> usize;
 
-    /// Writes a container, as runs if so many are shorter.
+    /// Writes a container of `count` members in `runs` runs, as runs if these are shorter.
     ///
     /// # Contract
     ///
