@@ -17,7 +17,7 @@ none_are_runs key = false
 unfoldable pub shorter_are_runs : (ℕ → Bool) → ℕ → Bool
 shorter_are_runs has key = are_runs_shorter (count_of_runs (members_under has key)) (cardinality_under has key)
 
--- One of the two.
+-- as one chooses
 abbrev pub chosen_are_runs : Bool → (ℕ → Bool) → ℕ → Bool
 chosen_are_runs optimized has key = optimized && shorter_are_runs has key
 

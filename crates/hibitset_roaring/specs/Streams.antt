@@ -33,13 +33,14 @@ pub record AreRunCounts (words keys counts runs : List ℕ) : Type 0 where
   pub same : length runs ≡ length keys
   pub each : (k : ℕ) → k < length keys → IsRunCount words (get_or keys k 0) (get_or counts k 0) (get_or runs k 0)
 
--- The kinds of containers, as a number for each: it is runs where so many are shorter, and then they are so many.
+-- A number for each container says its kind: if so many runs take fewer bytes than an array or bits, the container is
+-- runs, and of that number. As many runs as members never take fewer, so these numbers mean no runs.
 pub record AreKinds (words keys counts runs : List ℕ) : Type 0 where
   pub same : length runs ≡ length keys
   pub exact : (k : ℕ) → k < length keys → are_runs_shorter (get_or runs k 0) (get_or counts k 0) ≡ true
       → get_or runs k 0 ≡ count_of_runs (members_under (stands_in words) (get_or keys k 0))
 
--- Those with these keys are runs.
+-- The containers that are runs are those with these keys.
 pub record HaveKeys (runs_under : ℕ → Bool) (keys counts runs : List ℕ) : Type 0 where
   pub kind : (k : ℕ) → k < length keys → are_runs_shorter (get_or runs k 0) (get_or counts k 0) ≡ runs_under (get_or keys k 0)
 
