@@ -39,6 +39,32 @@ impl Other {
 }
 """
 
+PART = """\
+pub(crate) trait Change<T>: Drop {
+    ghost leaves: { Self → ℕ → T → Type 0 };
+
+    ghost holds: { Self → ℕ → Bool };
+
+    ghost left: { Self → ℕ };
+
+    fn change(&self, value: &mut T) -> bool
+        requires { left self.now < 64 }
+        ensures leaves { leaves self.now (0 + 1) value.new → fits (holds self.now) };
+}
+
+impl<K: Sets> Change<usize> for Part<'_, K> {
+    ghost leaves = { λ s p. Stays s.0 p };
+
+    ghost holds = { λ s i. K.holds s.0 i };
+
+    ghost left = { count };
+
+    fn change(&self, value: &mut usize) -> bool {
+        false
+    }
+}
+"""
+
 
 def read(text):
     return tables.Reader(Path("t.mutants"), "src/set.rt").read(text)
@@ -109,6 +135,15 @@ class Edits(InRepository):
             ((_, _, new),) = edits.pairs_of(mutant, crate, {})
             clause = "ensures { Steps T.holds self.old result self.new } { None }"
             self.assertIn(f"fn next_twin{generics}(&mut self) -> Option<usize> {clause}", new)
+
+    def test_a_twin_in_the_facts_and_types_of_an_impl(self):
+        crate = self.repository({"crates/low/src/set.rt": PART}).crate("low")
+        place = "impl<K: Sets> Change<usize> for Part<'_, K> {"
+        (mutant,) = read(f"## Part::change\nall_stays: twin\n    before: {place}\n    true\n")
+        ((_, old, new),) = edits.pairs_of(mutant, crate, edits.traits_of([crate]))
+        clauses = "requires { count self.now < 64 } ensures leaves { (Stays self.now.0 (0 + 1)) value.new → fits ((λ i. K.holds self.now.0 i)) }"
+        head = "pub fn change_twin(&self, value: &mut usize) -> bool"
+        self.assertEqual((old, new), (place, f"impl<K: Sets> Part<'_, K> {{ {head} {clauses} {{ true }} }} {place}"))
 
     def test_a_twin_of_no_function(self):
         with self.assertRaises(edits.BadMutant):
