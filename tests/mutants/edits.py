@@ -103,17 +103,16 @@ def parameters(fact):
     return (names[1].split(), fact[names.end() :]) if names else ([], fact)
 
 
-def arguments(text, at, fact):
-    """The arguments behind the name of a fact, as many as it has parameters, and the offset behind them."""
-    found = []
-    while len(found) < len(parameters(fact)[0]) and (one := re.match(r" ([\w.]+|\()", text[at:])):
-        end, depth = at + one.end(), one[1].count("(")
+def arguments(text, start, end, fact):
+    """The arguments of the name of a fact, as many as it has parameters and none where it is one itself, and the offset behind."""
+    found, most = [], 0 if re.search(r"[\w)] $", text[:start]) else len(parameters(fact)[0])
+    while len(found) < most and (one := re.match(r" ([\w.]+|\()", text[end:])):
+        begin, end, depth = end + 1, end + one.end(), one[1].count("(")
         while depth:
             depth += {"(": 1, ")": -1}.get(text[end], 0)
             end += 1
-        found.append(text[at + 1 : end])
-        at = end
-    return found, at
+        found.append(text[begin:end])
+    return found, end
 
 
 def of_arguments(fact, given):
@@ -135,7 +134,7 @@ def promise_of_trait(mutant, crate, traits):
     said = re.sub(r"\b(\w+)\b", lambda word: types.get(word[1], word[1]), said)
     for fact in own:
         for at in [each.start() for each in re.finditer(rf"(?<!ensures )(?<!requires )(?<![\w.]){fact}(?=[ )])", said)][::-1]:
-            given, end = arguments(said, at + len(fact), own[fact])
+            given, end = arguments(said, at, at + len(fact), own[fact])
             said = f"{said[:at]}{of_arguments(own[fact], given)}{said[end:]}"
     return f"pub {said}"
 
