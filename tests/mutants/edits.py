@@ -97,6 +97,14 @@ def type_arguments(function, promised):
     return dict(zip((name.partition(":")[0] for name in names[1].split(", ")), types[1].split(", "))) if names and types else {}
 
 
+def in_types(types, said):
+    """A head with types for its type parameters; in clauses an unsigned integer is a ℕ."""
+    signature, *clauses = re.split(r"(?= (?:requires|ensures)\b)", said, maxsplit=1)
+    in_clauses = {name: re.sub(r"^u(\d+|size)$", "ℕ", meant) for name, meant in types.items()}
+    of = ((signature, types), *((clause, in_clauses) for clause in clauses))
+    return "".join(re.sub(r"\w+", lambda word: meant.get(word[0], word[0]), text) for text, meant in of)
+
+
 def parameters(fact):
     """The parameters of a fact of an impl, and what it says of them."""
     names = re.match(r"λ ([\w ]+)\. ", fact)
@@ -131,7 +139,7 @@ def promise_of_trait(mutant, crate, traits):
         raise BadMutant(f"there is no function {mutant.function} in {mutant.file}")
     promised = traits[holder.trait, mutant.function.partition("::")[2]]
     types, own, said = type_arguments(holder, promised), ghosts(holder), twin_head(promised)
-    said = re.sub(r"\b(\w+)\b", lambda word: types.get(word[1], word[1]), said)
+    said = in_types(types, said)
     for fact in own:
         for at in [each.start() for each in re.finditer(rf"(?<!ensures )(?<!requires )(?<![\w.]){fact}(?=[ )])", said)][::-1]:
             given, end = arguments(said, at, at + len(fact), own[fact])

@@ -49,7 +49,7 @@ pub(crate) trait Change<T>: Drop {
 
     fn change(&self, value: &mut T) -> bool
         requires { left self.now < 64 → Over holds (holds self.now) }
-        ensures leaves { leaves self.now (0 + 1) value.new };
+        ensures leaves { (x : T) → leaves self.now (0 + 1) value.new };
 }
 
 impl<K: Sets> Change<usize> for Part<'_, K> {
@@ -141,7 +141,7 @@ class Edits(InRepository):
         place = "impl<K: Sets> Change<usize> for Part<'_, K> {"
         (mutant,) = read(f"## Part::change\nall_stays: twin\n    before: {place}\n    true\n")
         ((_, old, new),) = edits.pairs_of(mutant, crate, edits.traits_of([crate]))
-        clauses = "requires { count self.now < 64 → Over (λ s i. K.holds s.0 i) ((λ i. K.holds self.now.0 i)) } ensures leaves { (Stays self.now.0 (0 + 1)) value.new }"
+        clauses = "requires { count self.now < 64 → Over (λ s i. K.holds s.0 i) ((λ i. K.holds self.now.0 i)) } ensures leaves { (x : ℕ) → (Stays self.now.0 (0 + 1)) value.new }"
         head = "pub fn change_twin(&self, value: &mut usize) -> bool"
         self.assertEqual((old, new), (place, f"impl<K: Sets> Part<'_, K> {{ {head} {clauses} {{ true }} }} {place}"))
 
