@@ -79,14 +79,72 @@ def own_generics(mutant, crate, function):
     return generics[1] if generics and not has_them else ""
 
 
-def promise_of_trait(mutant, crate, traits):
-    """The head of a twin of a provided function, in the words of the type that the heading names."""
+def holder_of(mutant, crate, traits):
+    """A function of the impl that gives the type of the heading its function, which that may take from the trait."""
     owner, _, name = mutant.function.partition("::")
-    holder = next((each for each in crate.functions if each.owner == owner and each.trait and (each.trait, name) in traits), None)
+    return next((each for each in crate.functions if each.owner == owner and each.trait and (each.trait, name) in traits), None)
+
+
+def own_impl(function):
+    """The head of an impl for the type of a function, without a trait and without the brace."""
+    return re.sub(r"^(impl(?:<.*?>)?) .* for ", r"\1 ", block_head(function).removesuffix(" {"))
+
+
+def type_arguments(function, promised):
+    """What the impl of a function writes for the type parameters of its trait, which promised it."""
+    names = re.search(rf"\btrait {function.trait}<(.*?)>", block_head(promised))
+    types = re.search(rf"\b{function.trait}<(.*)> for ", block_head(function))
+    return dict(zip((name.partition(":")[0] for name in names[1].split(", ")), types[1].split(", "))) if names and types else {}
+
+
+def in_types(types, said):
+    """A head with types for its type parameters; in clauses an unsigned integer is a ℕ."""
+    signature, *clauses = re.split(r"(?= (?:requires|ensures)\b)", said, maxsplit=1)
+    in_clauses = {name: re.sub(r"^u(\d+|size)$", "ℕ", meant) for name, meant in types.items()}
+    of = ((signature, types), *((clause, in_clauses) for clause in clauses))
+    return "".join(re.sub(r"\w+", lambda word: meant.get(word[0], word[0]), text) for text, meant in of)
+
+
+def parameters(fact):
+    """The parameters of a fact of an impl, and what it says of them."""
+    names = re.match(r"λ ([\w ]+)\. ", fact)
+    return (names[1].split(), fact[names.end() :]) if names else ([], fact)
+
+
+def arguments(text, start, end, fact):
+    """The arguments of the name of a fact, as many as it has parameters and none where it is one itself, and the offset behind."""
+    found, most = [], 0 if re.search(r"[\w)] $", text[:start]) else len(parameters(fact)[0])
+    while len(found) < most and (one := re.match(r" ([\w.]+|\()", text[end:])):
+        begin, end, depth = end + 1, end + one.end(), one[1].count("(")
+        while depth:
+            depth += {"(": 1, ")": -1}.get(text[end], 0)
+            end += 1
+        found.append(text[begin:end])
+    return found, end
+
+
+def of_arguments(fact, given):
+    """What a fact says of arguments: the prover takes no λ that is applied."""
+    names, said = parameters(fact)
+    meant, left = dict(zip(names, given)), names[len(given) :]
+    said = re.sub(r"(?<![\w.])(\w+)", lambda word: meant.get(word[1], word[1]), said)
+    said = f"λ {' '.join(left)}. {said}" if left else said
+    return said if re.fullmatch(r"\w+", said) else f"({said})"
+
+
+def promise_of_trait(mutant, crate, traits):
+    """The head of a twin of a trait's function, with the type arguments and in the facts of the type that the heading names."""
+    holder = holder_of(mutant, crate, traits)
     if not holder:
         raise BadMutant(f"there is no function {mutant.function} in {mutant.file}")
-    said, own = twin_head(traits[holder.trait, name]), ghosts(holder)
-    return "pub " + re.sub(r"\b(holds|word)(?= |\))", lambda word: own.get(word[1], word[1]), said)
+    promised = traits[holder.trait, mutant.function.partition("::")[2]]
+    types, own, said = type_arguments(holder, promised), ghosts(holder), twin_head(promised)
+    said = in_types(types, said)
+    for fact in own:
+        for at in [each.start() for each in re.finditer(rf"(?<!ensures )(?<!requires )(?<![\w.]){fact}(?=[ )])", said)][::-1]:
+            given, end = arguments(said, at, at + len(fact), own[fact])
+            said = f"{said[:at]}{of_arguments(own[fact], given)}{said[end:]}"
+    return f"pub {said}"
 
 
 def twin_text(mutant, crate, traits):
@@ -117,7 +175,8 @@ def function_twin(mutant, crate, traits):
         raise BadMutant(f"{mutant.file} has no line: {before}")
     twin = " ".join(filter(None, [extra, twin]))
     if BLOCK.match(before):
-        owner = block_head(function).removesuffix(" {") if function else f"impl {mutant.function.split('::')[0]}"
+        holder = function or holder_of(mutant, crate, traits)
+        owner = own_impl(holder) if holder else f"impl {mutant.function.split('::')[0]}"
         twin = f"{owner} {{ {twin} }}"
     return before, f"{twin} {before}"
 

@@ -77,7 +77,7 @@ def is_of(name, mutant):
         return tuple(path) == Path(mutant.file).relative_to("src").with_suffix("").parts or not path
     if not path or "for" in mutant.said and path[-1].startswith("Ref") != mutant.said["for"].startswith("&"):
         return False
-    return owner in path[-1]
+    return owner == path[-1] if mutant.is_twin and "for" not in mutant.said else owner in path[-1]
 
 
 def goals_of(name, verdict, said):

@@ -39,6 +39,32 @@ impl Other {
 }
 """
 
+PART = """\
+pub(crate) trait Change<T>: Drop {
+    ghost leaves: { Self → ℕ → T → Type 0 };
+
+    ghost holds: { Self → ℕ → Bool };
+
+    ghost left: { Self → ℕ };
+
+    fn change(&self, value: &mut T) -> bool
+        requires { left self.now < 64 → Over holds (holds self.now) }
+        ensures leaves { (x : T) → leaves self.now (0 + 1) value.new };
+}
+
+impl<K: Sets> Change<usize> for Part<'_, K> {
+    ghost leaves = { λ s p. Stays s.0 p };
+
+    ghost holds = { λ s i. K.holds s.0 i };
+
+    ghost left = { count };
+
+    fn change(&self, value: &mut usize) -> bool {
+        false
+    }
+}
+"""
+
 
 def read(text):
     return tables.Reader(Path("t.mutants"), "src/set.rt").read(text)
@@ -110,6 +136,15 @@ class Edits(InRepository):
             clause = "ensures { Steps T.holds self.old result self.new } { None }"
             self.assertIn(f"fn next_twin{generics}(&mut self) -> Option<usize> {clause}", new)
 
+    def test_a_twin_in_the_facts_and_types_of_an_impl(self):
+        crate = self.repository({"crates/low/src/set.rt": PART}).crate("low")
+        place = "impl<K: Sets> Change<usize> for Part<'_, K> {"
+        (mutant,) = read(f"## Part::change\nall_stays: twin\n    before: {place}\n    true\n")
+        ((_, old, new),) = edits.pairs_of(mutant, crate, edits.traits_of([crate]))
+        clauses = "requires { count self.now < 64 → Over (λ s i. K.holds s.0 i) ((λ i. K.holds self.now.0 i)) } ensures leaves { (x : ℕ) → (Stays self.now.0 (0 + 1)) value.new }"
+        head = "pub fn change_twin(&self, value: &mut usize) -> bool"
+        self.assertEqual((old, new), (place, f"impl<K: Sets> Part<'_, K> {{ {head} {clauses} {{ true }} }} {place}"))
+
     def test_a_twin_of_no_function(self):
         with self.assertRaises(edits.BadMutant):
             self.pairs(TWIN.replace("Set::has", "Set::had"))
@@ -158,6 +193,10 @@ class Rounds(InRepository):
         self.assertEqual(rounds.refusal(twin, f"{said}{answer}`omega`: the goal does not follow from what it read\n"), "an invariant: loop-preserved")
         self.assertEqual(rounds.refusal(twin, f"{said}{answer}the two types differ\n"), rounds.SHAPE)
         self.assertEqual(rounds.kind(["add-requires-clause-fits"]), "a condition: add-requires-clause-fits")
+
+    def test_a_type_whose_name_begins_with_that_of_another(self):
+        ((twin, _),) = self.mutants(TWIN)
+        self.assertEqual([rounds.is_of(f"low::set::{owner}::has_twin", twin) for owner in ("Set", "SetOf")], [True, False])
 
     def test_what_calls_what_is_refused(self):
         ((plain, _),) = self.mutants(PLAIN)
