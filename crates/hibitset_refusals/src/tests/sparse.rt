@@ -237,6 +237,22 @@ fn union_with(rt: HostRuntime) -> Result<(), AllocError> {
     assert_grows(&rt, &growth)
 }
 
+// The set has a chunk in the place of each that is made, so its list of chunks stays.
+// allocates: 4, 384 bytes: hibitset_sparse::SparseBitSet::union_with
+#[test]
+fn union_within_own_chunks(rt: HostRuntime) -> Result<(), AllocError> {
+    let growth = Growth {
+        call: Call::UnionWith,
+        before: &[5, 70],
+        other: &[6],
+        refused: &[5, 70],
+        id: 0,
+        words: &[],
+        after: &[5, 6, 70],
+    };
+    assert_grows(&rt, &growth)
+}
+
 // allocates: 8, 696 bytes: hibitset_sparse::SparseBitSet::symmetric_difference_with
 #[test]
 fn symmetric_difference_with(rt: HostRuntime) -> Result<(), AllocError> {
