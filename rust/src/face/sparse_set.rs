@@ -235,6 +235,18 @@ impl SparseBitSet {
         self.0.shrink_to_fit();
     }
 
+    /// Returns how many bytes the words and the tables of the set take, without spare capacity and without the set itself.
+    ///
+    /// ```
+    /// use hibitset::SparseBitSet;
+    ///
+    /// let set = SparseBitSet::from([1_000_000_000]);
+    /// assert_eq!(set.memory(), 96);
+    /// ```
+    pub fn memory(&self) -> usize {
+        self.0.memory()
+    }
+
     /// Returns whether an index is in the set.
     #[inline]
     pub fn contains(&self, id: Index) -> bool {
