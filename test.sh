@@ -4,17 +4,18 @@
 #   proofs [CRATE..]            rt ci: proofs from nothing, must-fail edits, tests, programs
 #   mutants contract [--gate|CRATE [FUNCTION]]  the prover refuses the mutants of tests/mutants/contract; --gate: those marked single
 #   mutants tests [--gate|PATCH]  tests kill the mutants of tests/mutants/tests; --gate: those that the gate tries
+#   mutants unseen [--gate|PIECE [WORD]]  tests kill the mutants of tests/mutants/unseen, of code that no prover sees; --gate: those marked gate
 #   allocation                  each allocation of each call fails in turn, in what proofs has built
 #   differential [PROGRAM]      the program gives the stored answers; without PROGRAM it is proved and built first
 #   bindings                    C, C++ and Python programs over the library pass their tests, also where it is installed
 #   bench                       each row of the benchmark runs once, at the smallest size
 #   rust                        the Cargo crate of rust/: its derivation, its tests, derived tests, scripts, lints, package
 #   guide [--make FOLDER]       the repository that docs/GUIDE.md prints passes; --make makes it alone
-# Without PART: docs, proofs beside mutants tests --gate, mutants contract --gate, allocation, differential, bindings and bench beside rust. It stops at the first part that fails.
+# Without PART: docs, proofs beside mutants tests --gate, mutants contract --gate, allocation, differential, bindings and bench beside rust, mutants unseen --gate. It stops at the first part that fails.
 # --anew: rt ci proves and tries all, whatever it has kept on this machine.
 set -euo pipefail
 top=$(cd "$(dirname "$0")" && pwd)
-parts=9
+parts=10
 beside=
 lowest=
 anew=
@@ -72,6 +73,7 @@ run() { # PART [WORD..]: one part, by the script that does it
         "proofs "*) proofs "${@:2}" ;;
         "mutants contract") "$top/tests/mutants/run_contract.py" "${@:3}" ;;
         "mutants tests") nice -n 10 "$top/tests/mutants/run_tests.sh" "${@:3}" ;; # what runs beside goes first
+        "mutants unseen") nice -n 10 "$top/tests/mutants/run_unseen.py" "${@:3}" ;;
         "allocation "*) "$top/tests/allocation_failures.py" ;;
         "differential "*) sh "$top/tests/differential/replay.sh" "${@:2}" ;;
         "bindings "*) "$top/tests/bindings.sh" "${@:2}" ;;
@@ -132,4 +134,5 @@ part 6 differential "$top/crates/hibitset_run/out/hibitset_run"
 part 7 bindings --proved
 part 8 bench --proved
 end
+part 10 mutants unseen --gate
 echo "test.sh: all passed after $((SECONDS / 60)) min"

@@ -25,6 +25,13 @@ TWO_SETS = {
 }
 # The rows that are shown beside other libraries; README's table and the plot over density have others.
 PEERS = r"add, 1M ascending.*|contains, miss|remove.*|walk, 100 clusters.*|walk of a & b, 0\.01 %.*|a &= b, (1|0\.01) % and another.*|build.*"
+# The sets of rows that go up to 2^30, without the ", " between.
+FAR = {
+    "1M spread over 2^30": "spread",
+    "1M spread over 2^30 and another 1M": "spread",
+    "100 clusters of 10,000 below 2^30": "clusters",
+    "100 clusters of 10,000 below 2^30 and the same, 5,000 further": "clusters",
+}
 BELOW = {"below 1,000,000": "below 1M", "below 2^24": "below 2^24", "below 2^30": "below 2^30"}
 THREADS = {"one thread": "one thread", "all processors": "all"}
 
@@ -69,8 +76,10 @@ def head_of(table, results):
 
 def own_head(table, results):
     """What the line above a table says beside that of the first table."""
-    first = block_of("results", results)[0].rstrip(".").split("; ")
-    return "; ".join(part for part in block_of(table, results)[0].rstrip(".").split("; ") if part not in first)
+    first, own = ([part.split(", ") for part in block_of(each, results)[0].rstrip(".").split("; ")] for each in ("results", table))
+    said = {each for part in first for each in part}
+    words = "; ".join(filter(None, (", ".join(each for each in part if each not in said) for part in own)))
+    return words[:1].upper() + words[1:]
 
 
 def readable(cell):
@@ -153,15 +162,22 @@ def beside_others(results):
     shown = [row for row in rows if re.fullmatch(PEERS, row.name) and row.cells.get("fixedbitset", "-") != "-" and row.cells["ratio"] != "-"]
     yield from down(shown, "nanoseconds", ["crate", "Rattle", "fixedbitset", "bit-set", "CRoaring", "BTreeSet", "HashSet"])
     yield "## Indices up to 2^30, which the original does not have\n"
-    far = [row for row in rows if row.cells["ratio"] == "-"]
-    yield from down(far, "nanoseconds", ["Rattle", "fixedbitset", "CRoaring"])
-    yield "\n".join(f"- {line}" for line in block_of("results", results) if line.startswith("Memory of")) + "\n"
+    yield "`spread`: a million members; `clusters`: 100 of 10,000. `a &= b`: with another million; with the same clusters, 5,000 further.\n"
+    far = {}
+    for row in rows:
+        call, end = split_name(row.name, FAR)
+        if end and row.cells["ratio"] == "-":
+            far.setdefault(call, {})[FAR[end]] = row
+    yield from across(far, {name: name for name in FAR.values()}, "nanoseconds a member", {name: name for name in ("Rattle", "fixedbitset", "CRoaring")})
+    memory = "\n".join(f"- {line}" for line in block_of("results", results) if line.startswith("Memory of"))
+    first, *others = re.split(r"(?= \(8 bytes)", memory)
+    yield "".join([first, *others[:1], *(re.sub(r"^ \([^)]*\)", "", other) for other in others[1:])]) + "\n"
 
 
 def columns(results):
     """The part on values by index."""
-    rows = [row._replace(name=row.name.replace("100,000 random ", "")) for row in rows_of("results", results) if "crate" not in row.cells]
-    yield "## Values by index\n\nThe original is its set beside a flat vector. Nanoseconds are per call, of a join per key of either column.\n"
+    rows = [row._replace(name=re.sub("column |100,000 random ", "", row.name)) for row in rows_of("results", results) if "crate" not in row.cells]
+    yield "## Values by index\n\nOf a column; the original is its set beside a flat vector. Nanoseconds are per call, of a join per key of either column.\n"
     yield from across(pivot(rows, BELOW), BELOW, "nanoseconds", {name: name for name in ("ours", "original", "ratio", "HashMap")})
 
 
@@ -251,8 +267,7 @@ def sparse(results):
 PARTS = (one_thread, beside_others, sparse, columns, parallel, shared, streams)
 WORDS = (
     "`crate` is the Rust crate, `Rattle` the same source by Rattle's own compiler; a ratio is to the original, and a star says that it lies above its aim. "
-    "[README.md](README.md) says how rows are measured, what their sets are, and why some lie above. [results.txt](results.txt) has every row with every column "
-    "and its aim, also of eight sets one after the other, and of parallel calls on one processor. "
+    "[README.md](README.md) says how rows are measured, what their sets are, and why some lie above; [results.txt](results.txt) has every row and column, and the aims. "
     "The first line holds for all tables, but for what the line above a table says. `-`: not measured."
 )
 

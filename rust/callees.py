@@ -41,8 +41,9 @@ def mir():
 
 
 def defined(folder, kinds):
-    """The names of what the files of a folder define."""
-    text = "\n".join(path.read_text(encoding="utf-8") for path in (RUST / "src" / folder).rglob("*.rs"))
+    """The names of what the files of a folder define, but for tests."""
+    paths = (path for path in (RUST / "src" / folder).rglob("*.rs") if path.name != "tests.rs")
+    text = "\n".join(path.read_text(encoding="utf-8") for path in paths)
     return set(re.findall(rf"\b(?:{kinds}) (\w+)", text))
 
 

@@ -21,14 +21,15 @@ Clauses   A table with a column 'clause' names in each cell what carries the row
           a cell of one of the crate's pages.
 Counts    A number in prose that a script can count or read off a source (counts.py says which) is what it counts.
 Modules   Between <!-- modules --> and <!-- /modules --> a crate's README, or INTERNALS.md if there is one, has what the first
-          sentence of each file says.
+          sentence of each file at the top of src/ says, without explanations behind a colon or a comma.
 Heads     Each .rt file begins with //!, and each .antt file beside Lib.antt that is of no single function with --.
+Labels    The table of docs/STYLE.md has the label of each public clause, and no other; `uses` has words of its own.
 Lemmas    A statement stands in one file of specs/ and proofs/, but for those of known_lemmas.txt.
 Mutants   Of each mutant of a table of tests/mutants/contract/ an edit can be made and applied: its heading names a function
           of the table's module, or what holds the line that goes, and that line stands there once. must-fail/ of each
           crate has the edits of those marked gate, and no other. Each public function with clauses has a mutant, but for
           those of without_mutant.txt. A patch of tests/mutants/tests/ can be applied, and the tests that its head names
-          are there.
+          are there. Each function of the files of a table of tests/mutants/unseen/ has a mutant there, which can be applied.
 Operators The sources of the operators are what the template of operators.py makes of its table.
 Calls     Each public call that can fail for memory is in the line above a test of hibitset_refusals, and each such line has
           the form that allocation/lines.py gives.
@@ -47,7 +48,7 @@ from pathlib import Path
 
 import operators
 from allocation import calls
-from checks import clauses, counts, derived, heads, lemmas, module_tables, mutants, pages, quotes, release
+from checks import clauses, counts, derived, heads, labels, lemmas, module_tables, mutants, pages, quotes, release
 from checks.repository import Repository
 from checks.sources import lines_of, text_of
 
@@ -69,7 +70,9 @@ OF_REPOSITORY = (
     counts.wrong_lists,
     heads.headless,
     heads.wrong_results,
+    labels.wrong_labels,
     lemmas.repeated,
+    mutants.wrong_unseen,
 )
 # Those that wait for other programs, beside the others.
 BESIDE = (mutants.wrong_patches, release.faults, derived.derive)

@@ -69,7 +69,7 @@ typed() { # the package, and a program with types over it
 }
 
 allocations() { # each allocation fails in turn
-    variant failing "$package/tests/failing.c" -Wl,--wrap=malloc,--wrap=realloc,--wrap=hibitset_sparse_len
+    variant failing "$package/tests/failing.c" -Wl,--wrap=malloc,--wrap=realloc,--wrap=hibitset_sparse_len,--wrap=hibitset_hash,--wrap=hibitset_contains_many,--wrap=hibitset_add_range
     PYTHONPATH=$out/failing "$python" "$package/tests/failing.py"
 }
 

@@ -88,7 +88,8 @@ step "tests of the crate, with its features"
 tested in_crate test "${features[@]}"
 step "tests of the crate, without features"
 tested in_crate test --lib --tests
-in_crate check --no-default-features
+step "tests of the crate, without std"
+tested in_crate test --no-default-features --lib --test atomic
 step "clippy, documentation, package"
 if cargo clippy --version >/dev/null 2>&1; then
     in_crate clippy --all-targets "${features[@]}" -- -D warnings

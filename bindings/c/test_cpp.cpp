@@ -23,6 +23,11 @@ template <class S> static void check_members(S &&of, const std::set<uint32_t> &m
     CHECK(std::equal(model.begin(), model.end(), of.begin()));
     CHECK((size_t)std::distance(of.begin(), of.end()) == model.size());
     CHECK(of.size() == model.size() && of.empty() == model.empty());
+    if (model.size() > 1) {
+        auto at = of.begin();
+        at++;
+        CHECK(*at == *std::next(model.begin()));
+    }
     const uint32_t start = random_below(20000);
     CHECK(std::vector<uint32_t>(of.from(start), of.end()) == std::vector<uint32_t>(model.lower_bound(start), model.end()));
 }
@@ -54,6 +59,7 @@ template <class S> static void random_calls(void) {
         }
         if (turn % 50 == 0) check_members(ours, model);
     }
+    ours.add(0);
     ours.clear();
     check_members(ours, {});
 }
@@ -188,10 +194,10 @@ static void sets_of_two(void) {
 }
 
 /* Lists and buffers of each length. What lies behind the written bytes stays. */
-static void contains_many(void) {
-    const set some{5, 64, 70000}, none;
+template <class S> static void contains_many(void) {
+    S some{5, 64, 70000}, none;
     const uint32_t list[] = {70000, 6, 5, HIBITSET_MAX_EID, UINT32_MAX, 5, 64};
-    for (const set *of : {&some, &none}) {
+    for (S *of : {&some, &none}) {
         for (size_t len = 0; len <= 7; len++) {
             for (size_t room = 0; room <= 9; room++) {
                 std::vector<uint8_t> found(10, 7);
@@ -239,6 +245,7 @@ template <class S> static void lists(void) {
         std::vector<uint32_t> gone;
         size_t removed = 0;
         for (uint32_t count = random_below(400); count > 0; count--) gone.push_back(random_below(20000));
+        if (!model.empty()) gone.push_back(*model.begin());
         for (uint32_t index : gone) removed += model.erase(index);
         CHECK(ours.remove_many(gone.data(), gone.size()) == removed);
         check_members(ours, model);
@@ -253,6 +260,11 @@ static void capacity(void) {
     CHECK(a.add(69999));
     allocations_left = -1;
     CHECK(sparse_set{5}.memory() == 96);
+    sparse_set wide; // Its blocks are longer than its members need.
+    for (uint32_t index = 0; index < 50; index++) wide.add(100000 * index);
+    allocations = 0;
+    wide.shrink_to_fit();
+    CHECK(allocations > 4 && wide.size() == 50);
     const uint64_t ids[] = {(UINT64_C(2) << 30) + 5, UINT64_C(9) << 30, 7};
     uint32_t highs[4] = {7, 7, 7, 7}, lows[4] = {7, 7, 7, 7};
     CHECK(hibitset::split_ids(ids, 3, 30, 4, highs, 4, lows, 4) == 3);
@@ -301,6 +313,11 @@ template <class S, class Other> static void streams(void) {
     bytes.pop_back();
     CHECK(throws<std::invalid_argument>([&] { theirs.roaring_read(bytes.data(), bytes.size()); }));
     check_members(theirs, {5, 70000, 1 << 20});
+    S last{HIBITSET_MAX_EID - 1};
+    bytes.resize(last.roaring_len());
+    last.roaring_write(bytes.data(), bytes.size());
+    theirs.roaring_read(bytes.data(), bytes.size());
+    check_members(theirs, {HIBITSET_MAX_EID - 1});
     failing(ours, [&](S &) {
         uint8_t buffer[64];
         ours.roaring_write(buffer, sizeof buffer);
@@ -372,6 +389,7 @@ static void exceptions(void) {
     CHECK(throws<std::out_of_range>([&] { a.add(HIBITSET_MAX_EID); }));
     CHECK(throws<std::out_of_range>([&] { a.add_range(0, HIBITSET_MAX_EID + 1); }));
     CHECK(throws<std::out_of_range>([&] { a.flip_range(0, HIBITSET_MAX_EID + 1); }));
+    CHECK(throws<std::out_of_range>([&] { a.reserve(HIBITSET_MAX_EID + 1); }));
     CHECK(throws<std::out_of_range>([] { set{1, HIBITSET_MAX_EID, 2}; }));
     CHECK(a.size() == 1);
     const uint32_t list[] = {6, HIBITSET_MAX_EID, 7};
@@ -424,7 +442,8 @@ int main() {
     sparse_assignments();
     mixed_assignments();
     sets_of_two();
-    contains_many();
+    contains_many<const set>();
+    contains_many<sparse_set>();
     lists<set>();
     lists<sparse_set>();
     capacity();
@@ -439,5 +458,7 @@ int main() {
     const set one{7};
     uint32_t index;
     CHECK(hibitset_last(one.raw(), &index) && index == 7);
+    sparse_set two{8};
+    CHECK(hibitset_sparse_last(two.raw(), &index) && index == 8);
     return 0;
 }

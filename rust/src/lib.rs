@@ -73,6 +73,9 @@ compile_error!("the words of a set have 64 bits, as `usize` must have: its sourc
 #[macro_use]
 mod support;
 mod beside;
+#[cfg(test)]
+#[path = "beside/tests.rs"]
+mod beside_tests;
 // Its text is that of the sources. Proofs name loops (`unused_labels`), and clauses use names and parameters that no code
 // does (`dead_code`, `unused_imports`, `unused_variables`). Where the prover excludes a case, an empty array is indexed
 // (`unconditional_panic`). rustc 1.85 does not know the lint of lifetimes (`unknown_lints`).

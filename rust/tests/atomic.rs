@@ -91,6 +91,12 @@ fn an_index_past_the_range_panics() {
 
 #[test]
 #[should_panic(expected = "the index 16777216 is out of range")]
+fn an_index_past_the_range_panics_where_memory_may_fail() {
+    let _ = AtomicBitSet::new().try_add(ATOMIC_MAX_EID as u32);
+}
+
+#[test]
+#[should_panic(expected = "the index 16777216 is out of range: indices lie below 16777216")]
 fn an_index_past_the_range_panics_by_reference() {
     AtomicBitSet::new().add_atomic(ATOMIC_MAX_EID as Index);
 }
@@ -101,6 +107,15 @@ fn a_shared_index_past_the_range_panics() {
     AtomicBitSet::new()
         .share()
         .add_atomic(ATOMIC_MAX_EID as Index);
+}
+
+#[test]
+fn an_addition_that_may_fail_says_what_was_there() {
+    let mut set = AtomicBitSet::new();
+    for (index, was) in [(5, false), (5, true), (70_000, false), (5, true)] {
+        assert_eq!(set.try_add(index), Ok(was));
+    }
+    assert_eq!(set.to_vec(), [5, 70_000]);
 }
 
 #[test]
@@ -131,7 +146,17 @@ fn a_seat_is_divided_to_its_last_share() {
     assert!(seat.divide().is_none());
     others[15].add_atomic(8);
     drop(others);
+    assert_eq!(format!("{seat:?}"), "Seat { .. }");
     assert_eq!(seat.divide_among(1).len(), 1);
+}
+
+#[test]
+#[should_panic(expected = "the seat has fewer shares than seats are asked for")]
+fn a_seat_of_one_share_is_not_divided_among_two() {
+    let seat = AtomicBitSet::new().share();
+    let others: Vec<Seat> = core::iter::from_fn(|| seat.divide()).collect();
+    assert_eq!(others.len(), 16);
+    let _ = seat.divide_among(2);
 }
 
 #[test]

@@ -6,7 +6,8 @@ use std::collections::BTreeSet;
 
 use common::{assert_at, assert_members};
 use hibitset::{
-    BitSet, BitSetAll, BitSetAnd, BitSetLike, BitSetLikeExt, BitSetNot, BitSetOr, Index, MAX_EID,
+    BitSet, BitSetAll, BitSetAnd, BitSetLike, BitSetLikeExt, BitSetNot, BitSetOr, Index,
+    SparseBitSet, MAX_EID,
 };
 
 const MAX: Index = MAX_EID as Index;
@@ -94,6 +95,18 @@ fn ranges_end_at_borders() {
         set.remove_range(pair[0]..pair[1]);
         assert_eq!(set.to_vec(), [pair[1]]);
     }
+}
+
+#[test]
+fn the_last_index_lies_in_ranges_past_the_end() {
+    let mut set = SparseBitSet::from([5, MAX - 1]);
+    assert_eq!((set.len_range(..), set.len_range(6..=Index::MAX)), (2, 1));
+    set.remove_range(6..);
+    assert_eq!(set.to_vec(), [5]);
+    let mut dense = BitSet::from([5, 6]);
+    assert_eq!((dense.len_range(..=Index::MAX), dense.len_range(6..)), (2, 1));
+    dense.remove_range(6..=Index::MAX);
+    assert_eq!(dense.to_vec(), [5]);
 }
 
 #[test]

@@ -192,7 +192,10 @@ fn removals_from_a_sparse_set_allocate_nothing() {
         assert_eq!(ignores_refusals(&set, |set| *set &= &!&dense), 0);
         assert_eq!(ignores_refusals(&set, |set| *set -= &(&other | &dense)), 0);
         assert_eq!(ignores_refusals(&set, |set| set.subtract_assign(&dense)), 0);
-        assert_eq!(ignores_refusals(&set, |set| set.remove_range(40..200_000)), 0);
+        assert_eq!(
+            ignores_refusals(&set, |set| set.remove_range(40..200_000)),
+            0
+        );
         assert_eq!(ignores_refusals(&set, |set| set.retain(|i| i % 2 == 0)), 0);
         assert_eq!(ignores_refusals(&set, |set| _ = set.drain().count()), 0);
         assert_eq!(ignores_refusals(&set, |set| _ = set.remove(70)), 0);
@@ -413,7 +416,7 @@ fn call_refused(call: &str) {
     let mut set = BitSet::from_iter([5]);
     let other = BitSet::from_iter([70_000]);
     let seat = AtomicBitSet::from_iter([70_000]).share();
-    let mut sparse = SparseBitSet::from([5]);
+    let (mut sparse, far) = (SparseBitSet::from([5]), SparseBitSet::from([70_000]));
     REFUSED.set(0);
     match call {
         "collect_into" => drop(seat.to_bit_set()),
@@ -421,6 +424,10 @@ fn call_refused(call: &str) {
         "extend" => set.extend([6, 70_000]),
         "collect" => drop(BitSet::from_iter([1])),
         "add_range" => set.add_range(5..70_000),
+        "flip_range" => set.flip_range(5..70_000),
+        "to_vec" => drop(set.to_vec()),
+        "to_roaring" => drop(set.to_roaring()),
+        "ranked" => drop(Ranked::new(&other)),
         "or" => set |= &other,
         "xor" => set ^= &other,
         "clone" => drop(other.clone()),
@@ -435,6 +442,9 @@ fn call_refused(call: &str) {
         "sparse_collect" => drop(SparseBitSet::from_iter([1])),
         "sparse_extend" => sparse.extend([6, 70_000]),
         "sparse_flip_range" => sparse.flip_range(5..70_000),
+        "sparse_to_roaring" => drop(sparse.to_roaring()),
+        "sparse_union_with" => sparse.union_with(&far),
+        "sparse_symmetric_difference_with" => sparse.symmetric_difference_with(&far),
         "sparse_from_set" => drop(SparseBitSet::from_set(&other)),
         "sparse_or" => sparse |= &other,
         "sparse_to_vec" => drop(sparse.to_vec()),
@@ -453,6 +463,10 @@ fn a_call_without_an_error_ends_the_process() {
         "extend",
         "collect",
         "add_range",
+        "flip_range",
+        "to_vec",
+        "to_roaring",
+        "ranked",
         "or",
         "xor",
         "clone",
@@ -468,6 +482,9 @@ fn a_call_without_an_error_ends_the_process() {
         "sparse_collect",
         "sparse_extend",
         "sparse_flip_range",
+        "sparse_to_roaring",
+        "sparse_union_with",
+        "sparse_symmetric_difference_with",
         "sparse_from_set",
         "sparse_or",
         "sparse_to_vec",

@@ -51,6 +51,21 @@ fn tuples_of_a_virtual_set_are_its_operands() {
 }
 
 #[test]
+fn the_trait_looks_for_members() {
+    fn looks<B: BitSetLike>(set: &B) -> (bool, bool, bool) {
+        (set.is_empty(), set.contains(5), set.contains(6))
+    }
+    assert_eq!(looks(&BitSet::from([5])), (false, true, false));
+    assert_eq!(looks(&AtomicBitSet::from([5])), (false, true, false));
+    assert_eq!(
+        looks(&hibitset::SparseBitSet::from([5])),
+        (false, true, false)
+    );
+    assert!(BitSetLike::is_empty(&BitSet::new()) && BitSetLike::is_empty(&AtomicBitSet::new()));
+    assert!(BitSet::default().is_empty() && AtomicBitSet::default().is_empty());
+}
+
+#[test]
 fn words_are_read_by_layer() {
     let set = BitSet::from_iter([0, 64, 5_000, 300_000]);
     for (layer, words) in [vec![1, 1], vec![0b11, 1 << 14], vec![0b11], vec![0b11]]

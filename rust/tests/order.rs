@@ -106,6 +106,16 @@ fn changes_by_order_are_those_of_a_model() {
 }
 
 #[test]
+fn an_iterator_counts_what_is_left() {
+    let set = BitSet::from([5, 70, 5_000, 1 << 20]);
+    let mut members = (&set).into_iter();
+    for left in (0..=4).rev() {
+        assert_eq!(members.clone().count(), left);
+        members.next();
+    }
+}
+
+#[test]
 fn retain_goes_up_once() {
     let mut set: BitSet = (0..1000).map(|i| 7 * i).collect();
     let members = set.to_vec();

@@ -2,7 +2,7 @@
 
 use std::panic::{catch_unwind, AssertUnwindSafe};
 
-use hibitset::{BitIter, BitSet, BitSetLike, DrainBitIter, Index, MAX_EID};
+use hibitset::{BitIter, BitSet, BitSetLike, DrainBitIter, Index, SparseBitSet, MAX_EID};
 
 const MAX: Index = MAX_EID as Index;
 
@@ -29,9 +29,23 @@ fn an_index_past_the_range_panics() {
                 message.contains(&format!("the index {index} is out of range")),
                 "{message}"
             );
+            assert!(
+                message.ends_with("indices lie below 1073741824"),
+                "{message}"
+            );
             assert_eq!(set.to_vec(), [1, 2]);
         }
     }
+}
+
+#[test]
+fn an_index_past_the_range_of_a_sparse_set_panics() {
+    let mut set = SparseBitSet::from([1, 2]);
+    for index in [MAX, Index::MAX] {
+        assert!(catch_unwind(AssertUnwindSafe(|| set.try_add(index))).is_err());
+        assert!(catch_unwind(AssertUnwindSafe(|| set.add(index))).is_err());
+    }
+    assert_eq!(set.to_vec(), [1, 2]);
 }
 
 #[test]
@@ -47,7 +61,10 @@ fn a_bound_past_the_range_panics() {
     ];
     for call in calls {
         let message = message_of(&mut set, call);
-        assert!(message.contains("is out of range"), "{message}");
+        assert!(
+            message.contains("is out of range: it is at most 1073741824"),
+            "{message}"
+        );
         assert_eq!(set.to_vec(), [1, 2]);
     }
 }
@@ -75,7 +92,11 @@ fn a_layer_above_the_top_panics() {
     let set = BitSet::from_iter([0]);
     assert!((0..5).all(|layer| set.get_from_layer(layer, 0) == 1));
     for layer in [5, usize::MAX] {
-        assert!(catch_unwind(|| set.get_from_layer(layer, 0)).is_err());
+        let message = message_of(&mut set.clone(), |set| _ = set.get_from_layer(layer, 0));
+        assert_eq!(
+            message,
+            format!("a set has 5 layers, and none with number {layer}")
+        );
         assert!(catch_unwind(|| (&set | !&set).get_from_layer(layer, 0)).is_err());
     }
 }
@@ -142,6 +163,9 @@ fn an_iteration_goes_on_from_a_state() {
     }
     let small = BitSet::from([5, 70]);
     assert!(BitIter::new(&small, [0, 0, 0, small.layer3(0)], [0; 3]).eq([5, 70]));
+    let wide = BitSet::from([5, 1 << 20]);
+    assert!(BitIter::new(&wide, [0, 0, 0, wide.layer3(0)], [0; 3]).eq([5, 1 << 20]));
+    assert!(BitIter::new(&wide, [0, 0, 0, wide.layer3(0) & !1], [0; 3]).eq([1 << 20]));
 }
 
 #[test]

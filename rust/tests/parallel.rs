@@ -91,6 +91,14 @@ fn a_split_keeps_the_order() {
 }
 
 #[test]
+fn a_split_looks_at_one_layer_more() {
+    let set = BitSet::from([0, 1 << 18, 1 << 24]);
+    let (first, second) = UnindexedProducer::split(BitProducer((&set).iter(), 0));
+    let second = second.expect("the top layer is split");
+    assert!(first.0.eq([0, 1 << 18]) && second.0.eq([1 << 24]));
+}
+
+#[test]
 fn layers_to_split_are_counted() {
     let set: BitSet = (0..100_000).step_by(3).collect();
     for layers in 1..5 {

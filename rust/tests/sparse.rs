@@ -363,6 +363,53 @@ fn sets_of_other_types_are_mixed_in() {
 }
 
 #[test]
+fn two_sparse_sets_are_combined_in_place() {
+    let a = BTreeSet::from([1, 2, 70_000, 1 << 20, MAX - 1]);
+    let b = BTreeSet::from([2, 3, 70_000, 1 << 25]);
+    let other = SparseBitSet::from_iter(&b);
+    let combined = |combine: fn(&mut SparseBitSet, &SparseBitSet)| {
+        let mut set = SparseBitSet::from_iter(&a);
+        combine(&mut set, &other);
+        set.to_vec()
+    };
+    assert!((&a | &b).into_iter().eq(combined(SparseBitSet::union_with)));
+    assert!((&a ^ &b)
+        .into_iter()
+        .eq(combined(SparseBitSet::symmetric_difference_with)));
+    assert!((&a & &b)
+        .into_iter()
+        .eq(combined(SparseBitSet::intersect_with)));
+    assert!((&a - &b)
+        .into_iter()
+        .eq(combined(SparseBitSet::difference_with)));
+    assert!((&a - &b)
+        .into_iter()
+        .eq(combined(|set, other| set.subtract_assign(other))));
+    assert_eq!(
+        combined(|set, other| set.try_union_with(other).unwrap()).len(),
+        7
+    );
+    assert_eq!(
+        combined(|set, other| set.try_symmetric_difference_with(other).unwrap()).len(),
+        5
+    );
+}
+
+#[test]
+fn an_iterator_says_what_is_left() {
+    let set: SparseBitSet = (0..3_000).map(|i| i * 700).collect();
+    let mut members = (&set).into_iter();
+    for left in (0..=3_000).rev() {
+        let (least, most) = members.size_hint();
+        assert!(least <= left && left <= most.expect("a limit"));
+        assert_eq!(members.next().is_some(), left > 0);
+    }
+    let few = SparseBitSet::from([5, 6]);
+    assert_eq!(format!("{:?}", (&few).into_iter()), "[5, 6]");
+    assert_eq!((few.memory(), SparseBitSet::new().memory()), (96, 0));
+}
+
+#[test]
 fn sets_are_made_of_others() {
     let mut numbers = Numbers::new(12);
     for bound in [64, 300_000, 1 << 24] {

@@ -2,15 +2,17 @@
 
 mod common;
 
+use std::cmp::Ordering;
+use std::collections::hash_map::DefaultHasher;
 use std::collections::{BTreeSet, HashSet};
 use std::fmt::Debug;
-use std::hash::Hash;
+use std::hash::{BuildHasher, BuildHasherDefault, Hash};
 use std::iter::FusedIterator;
 
 use common::Numbers;
 use hibitset::{
     AtomicBitSet, BitIter, BitIterBoth, BitRevIter, BitSet, BitSetLike, DrainBitIter, Index,
-    MAX_EID,
+    Ranked, SparseBitSet, MAX_EID,
 };
 
 /// A set with these members that has more capacity than they need.
@@ -108,6 +110,50 @@ fn size_hints_hold() {
         }
     }
     assert_eq!((!BitSet::new()).iter().size_hint(), (0, Some(MAX_EID)));
+}
+
+#[test]
+fn the_last_index_is_at_an_end() {
+    let last = MAX_EID as Index - 1;
+    assert_eq!(SparseBitSet::from([last]).iter_both().next(), Some(last));
+    let set = SparseBitSet::from([5, 6, last]);
+    let mut members = set.iter_both();
+    assert_eq!(members.size_hint(), (0, Some(2 << 24)));
+    assert_eq!(
+        (members.next_back(), members.next(), members.next_back()),
+        (Some(last), Some(5), Some(6))
+    );
+    assert_eq!(
+        (members.next(), members.next_back(), members.size_hint()),
+        (None, None, (0, Some(0)))
+    );
+}
+
+#[test]
+fn an_iterator_from_the_end_is_cloned_where_it_is() {
+    let all = [5, 70_000, 70_001, 1 << 25, (1 << 25) + 1];
+    let set = BitSet::from(all);
+    let mut members = set.iter_rev();
+    for left in (0..=5).rev() {
+        assert!(members.clone().eq(all[..left].iter().rev().copied()));
+        members.next();
+    }
+}
+
+#[test]
+fn places_are_hashed_and_compared() {
+    let hash = |set: &BitSet| BuildHasherDefault::<DefaultHasher>::default().hash_one(set);
+    let [a, b] = [5, 69].map(|index| BitSet::from([index]));
+    assert_ne!(hash(&a), hash(&b));
+    assert_eq!((a.partial_cmp(&b), a < b), (Some(Ordering::Less), true));
+    let [a, b] = [5, 69].map(|index| SparseBitSet::from([index]));
+    assert_eq!((a.partial_cmp(&b), a < b), (Some(Ordering::Less), true));
+}
+
+#[test]
+fn counts_are_printed_with_their_set() {
+    let text = format!("{:?}", Ranked::new(BitSet::from([5])));
+    assert_eq!(text, "Ranked { set: {5}, .. }");
 }
 
 #[test]

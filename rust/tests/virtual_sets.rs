@@ -73,6 +73,22 @@ fn operands_are_owned_or_borrowed() {
 }
 
 #[test]
+fn a_virtual_set_is_taken_away() {
+    let (mut set, other) = (BitSet::from([5, 6, 70_000]), BitSet::from([6, 70_000]));
+    set.subtract_assign(&(&other & &BitSet::from([6])));
+    assert_eq!(set.to_vec(), [5, 70_000]);
+}
+
+#[test]
+fn a_set_of_any_type_has_all_layers() {
+    let set = BitSet::from([5, 70_000, 1 << 19, 1 << 25, (1 << 30) - 1]);
+    let any: &dyn BitSetLike = &set;
+    assert!((&any).iter().eq(&set));
+    assert!((&any).iter_rev().eq([(1 << 30) - 1, 1 << 25, 1 << 19, 70_000, 5]));
+    assert_eq!(((&any).len(), (&any).is_empty()), (5, false));
+}
+
+#[test]
 fn assignments_take_any_set() {
     let ([a, b, c], [x, y, z]) = three_sets(4, 10_000);
     let changed = |change: &dyn Fn(&mut BitSet)| {

@@ -1,4 +1,4 @@
-"""The tables of modules of crates, in INTERNALS.md or else in README.md, made of the first sentences of the sources."""
+"""The tables of modules at the tops of crates, in INTERNALS.md or else in README.md, made of the first sentences of the sources, without explanations."""
 import re
 
 from .repository import LIBRARY
@@ -18,13 +18,20 @@ def first_sentence(path):
     return (found[0] if found else " ".join(lines)).replace("|", "\\|")
 
 
+def main_phrase(sentence):
+    """A sentence without its full stop and without an explanation behind a colon or a comma; an enumeration is whole."""
+    short = re.sub(r"(?<=.{16}): .*", "", sentence.removesuffix("."))
+    found = re.match(r"(.{16,}?), (?:as|by|found by|of which|which|whose)\b(?!.*\b(?:and|or)\b)", short)
+    return found[1] if found else short
+
+
 def table_of_modules(crate):
     rows = [
-        f"| `{path.relative_to(crate.folder)}` | {first_sentence(path)} |"
+        f"| `{path.relative_to(crate.folder / 'src').with_suffix('')}` | {main_phrase(first_sentence(path))} |"
         for path in crate.modules()
-        if path.name not in ("lib.rt", "main.rt")
+        if path.parent == crate.folder / "src" and path.name not in ("lib.rt", "main.rt")
     ]
-    return "\n".join(["| module | what it is |", "|---|---|", *rows, ""])
+    return "\n".join(["| in `src/` | what it is |", "|---|---|", *rows, ""])
 
 
 def wrong_modules(repository, page):

@@ -4,7 +4,8 @@ import re
 import subprocess
 from concurrent.futures import ThreadPoolExecutor
 
-from mutants import edits, tables
+from mutants import edits, tables, unseen
+from mutants.pieces import PIECES
 
 from . import known
 from .repository import LIBRARY
@@ -138,6 +139,15 @@ def wrong_untried(repository, mutants):
 def shrink(repository, mutants):
     if known.shrink(list_of_untried(repository), list(without_mutant(repository, mutants))):
         print("docs.py: without_mutant.txt is shorter")
+
+
+def wrong_unseen(repository):
+    """What is wrong in the tables of unseen/, and the functions of their pieces that have no mutant."""
+    for piece in PIECES:
+        try:
+            yield from unseen.faults(piece.table(repository.top), repository.top, piece.paths(repository.top))
+        except tables.BadTable as bad:
+            yield bad.path, bad.line, bad.words
 
 
 def why_not_applied(repository, path):

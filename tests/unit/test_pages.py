@@ -9,9 +9,9 @@ RIGHT = """# low
 [a heading](#low), [crates](../../crates.txt), crates/low/src/set.rt, `src/set.rt`
 
 <!-- modules -->
-| module | what it is |
+| in `src/` | what it is |
 |---|---|
-| `src/set.rt` | A set. |
+| `set` | A set |
 <!-- /modules -->
 
 | promise | clause |
@@ -88,13 +88,19 @@ class Pages(InRepository):
         within = {"crates/hibitset/src/lib.rt": "//! Sets.\n#[doc(hidden)]\npub mod bits;\n", "crates/hibitset/src/bits.rt": source, "crates/hibitset/README.md": "# none\n"}
         self.assertEqual(self.said(clauses.unnamed_functions(self.repository(within))), "")
 
+    def test_main_phrases(self):
+        kept = ("A set.", "Scripts: commands on eight sets.", "Calls that take indices, ends or positions.", "Walks over a set, in descending order.")
+        self.assertEqual([module_tables.main_phrase(each) for each in kept], [each.removesuffix(".") for each in kept])
+        for cut in ("A set of many indices: of what it is made, and how.", "A set of many indices, as words in three layers."):
+            self.assertEqual(module_tables.main_phrase(cut), "A set of many indices")
+
     def test_tables_of_modules(self):
-        self.refuses(module_tables.wrong_modules, "| A set. |", "| Sets. |", "the table of modules lacks")
-        repository = self.repository({README: RIGHT.replace("| A set. |", "| Sets. |")})
+        self.refuses(module_tables.wrong_modules, "| A set |", "| Sets |", "the table of modules lacks")
+        repository = self.repository({README: RIGHT.replace("| A set |", "| Sets |")})
         with self.silence():
             module_tables.write_modules(repository)
-        self.assertIn("| A set. |", (repository.top / README).read_text(encoding="utf-8"))
-        apart = self.repository({README: "# low\n", "crates/low/INTERNALS.md": RIGHT.replace("| A set. |", "| Sets. |")})
+        self.assertIn("| A set |", (repository.top / README).read_text(encoding="utf-8"))
+        apart = self.repository({README: "# low\n", "crates/low/INTERNALS.md": RIGHT.replace("| A set |", "| Sets |")})
         said = [self.said(module_tables.wrong_modules(apart, apart.crates / "low" / name)) for name in ("README.md", "INTERNALS.md")]
         self.assertEqual(said[0], "")
         self.assertIn("the table of modules lacks", said[1])

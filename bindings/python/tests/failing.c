@@ -1,5 +1,6 @@
 /* failing.c: makes one allocation of the module `_core` and of the library in it fail, and sees whether two threads are in
- * a call with a sparse set at once. malloc, realloc and hibitset_sparse_len are wrapped. */
+ * a call with a sparse set at once, and whether a call has the GIL. malloc, realloc, hibitset_sparse_len, hibitset_hash,
+ * hibitset_contains_many and hibitset_add_range are wrapped. */
 #include <stdatomic.h>
 #include <stddef.h>
 
@@ -37,4 +38,29 @@ size_t __wrap_hibitset_sparse_len(hibitset_sparse_t *set) {
     size_t len = __real_hibitset_sparse_len(set);
     inside--;
     return len;
+}
+
+int PyGILState_Check(void);
+uint64_t __real_hibitset_hash(const hibitset_t *set);
+hibitset_status __real_hibitset_add_range(hibitset_t *set, uint32_t start, uint32_t end);
+
+static int has_gil;
+
+__attribute__((visibility("default"))) int had_gil(void) { return has_gil; }
+
+uint64_t __wrap_hibitset_hash(const hibitset_t *set) {
+    has_gil = PyGILState_Check();
+    return __real_hibitset_hash(set);
+}
+
+hibitset_status __wrap_hibitset_add_range(hibitset_t *set, uint32_t start, uint32_t end) {
+    has_gil = PyGILState_Check();
+    return __real_hibitset_add_range(set, start, end);
+}
+
+size_t __real_hibitset_contains_many(const hibitset_t *set, const uint32_t *indices, size_t len, uint8_t *found, size_t found_len);
+
+size_t __wrap_hibitset_contains_many(const hibitset_t *set, const uint32_t *indices, size_t len, uint8_t *found, size_t found_len) {
+    has_gil = PyGILState_Check();
+    return __real_hibitset_contains_many(set, indices, len, found, found_len);
 }

@@ -1,5 +1,6 @@
 """failing.py: each allocation of each call fails in turn: MemoryError, the members are as before, and the same call then passes.
 And no two threads are in calls with a sparse set at once, also if both only look: the library's functions have it alone.
+And a long call gives the GIL up, and a short one keeps it.
 
 Needs a `_core` that is linked with failing.c. Prints how many calls were tried, or ends with the first that is wrong.
 """
@@ -131,6 +132,11 @@ def look_at(*sets):
     return bool(LIBRARY.have_met())
 
 
+def keeps_gil(call):
+    call()
+    return bool(LIBRARY.had_gil())
+
+
 tried = [0, 0, 0]
 for first in [BitSet, SparseBitSet]:
     for second in [BitSet, SparseBitSet]:
@@ -147,4 +153,10 @@ for first in [BitSet, SparseBitSet]:
 many = SparseBitSet(range(1 << 20))
 assert not look_at(many, many), "two threads are in calls with a sparse set at once"
 assert look_at(many, many.copy()), "the test sees no two threads at once where they may be"
+few, far = BitSet([5]), BitSet([1 << 24])
+assert keeps_gil(few.fingerprint) and not keeps_gil(far.fingerprint), "a walk over many words"
+assert keeps_gil(lambda: few.add_range(5, 7)) and keeps_gil(lambda: far.add_range(5, 7)), "a short range"
+assert not keeps_gil(lambda: few.add_range(0, 1 << 20)) and not keeps_gil(lambda: few.add_range(1 << 24, (1 << 24) + 5)), "many words are written"
+asked, found = np.arange(10_000, dtype=np.uint32), np.zeros(10_000, bool)
+assert keeps_gil(lambda: few._contains_many(asked[:9], found)) and not keeps_gil(lambda: few._contains_many(asked, found)), "many indices"
 print("failing.py: {} calls, each allocation fails in turn; {} calls allocate nothing, {} do without; a sparse set is in one call at a time".format(*tried))

@@ -140,6 +140,7 @@ def test_references(kind):
         some.add(number), number in some, some.discard(number), some.rank(number), some.first_from(number), some.update(list_)
         some.copy(), list(some), next(reversed(some)), view(), some & set(), some.add_new(number), some & {number}
         memoryview(view())
+        iter(some).__reduce__(), reversed(some).__reduce__()
         some.remove(kept), iter(some).__length_hint__()
         for call in [some.add, some.rank, some.__contains__, some.discard, some.remove, some.add_new]:
             with pytest.raises(ZeroDivisionError):

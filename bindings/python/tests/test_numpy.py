@@ -21,6 +21,14 @@ def test_dtypes(kind, dtype):
     assert kind([3, 7]).intersection(items) == {3} and kind([3, 7]).difference(items) == {7}
 
 
+def test_the_order_of_bytes(kind):
+    some = kind()
+    some._add_many(np.array([1], "<u4"))
+    with pytest.raises(TypeError, match="unsigned integers of 4 bytes"):
+        some._add_many(np.array([2], ">u4"))
+    assert some == {1}
+
+
 def test_shapes(kind):
     wide = np.arange(24, dtype=np.uint32).reshape(4, 6)
     assert kind.from_numpy(wide[:, ::2]) == set(wide[:, ::2].ravel().tolist())
@@ -139,7 +147,10 @@ def test_short_buffers(kind):
 
 def test_a_list_is_removed(kind):
     some, asked = kind([1, 5, 70_000]), np.array([5, 5, 9, 1 << 31], np.uint32)
-    assert some._remove_many(asked) == 1 and some == {1, 70_000} and some._remove_many(asked) == 0
+    assert some._remove_many(asked) == 1 and some == {1, 70_000}
+    members = iter(some)
+    assert some._remove_many(asked) == 0 and list(members) == [1, 70_000]
+    assert kind([1, 5])._remove_many(np.array([9, 5], np.uint32)) == 1
     some.difference_update([1, 70_000.0], np.array([-1, 70_001]))
     assert not some
 

@@ -334,6 +334,9 @@ def test_no_set_is_of_both_kinds():
     for call in [lambda: BitSet.reserve(SparseBitSet(), 5), lambda: SparseBitSet.shrink(BitSet()), lambda: BitSet.words(SparseBitSet())]:
         with pytest.raises((TypeError, AttributeError)):
             call()
+    for wrong in [int, object, _core.Core, 5]:
+        with pytest.raises(TypeError, match="expected a type of sets"):
+            _core.return_sets_of(wrong)
 
 
 def test_repr(kind):
@@ -361,6 +364,39 @@ def test_a_set_that_changes_during_an_iteration(kind, way):
     for same in [lambda i: some.add(i), lambda i: some.discard(i + 1), lambda i: some.rank(i), lambda i: some.add_new(i), alone]:
         for member in way(some):
             same(member)
+
+
+def test_what_changes_nothing(kind):
+    """An iterator goes on after it."""
+    some, far = kind([5, 70_000]), kind([5, 70_000])
+    members, none = iter(some), kind()
+    ends = iter(none)
+    for call in [none.pop, none.pop_last]:
+        with pytest.raises(KeyError):
+            call()
+    none.clear()
+    assert list(ends) == []
+    some.discard(6), some.add(5), some.difference_update([6]), far.clear()
+    assert list(members) == [5, 70_000]
+
+
+def test_bounds_past_the_range(kind):
+    """Where no index is added they are those of the range."""
+    some = kind([0, 5, MAX_INDEX])
+    assert some.len_range(-5, 1 << 70) == 3 and some.rank(1 << 40) == 3 and some.first_from(-(1 << 70)) == 0
+    some.remove_range(1, 1 << 70)
+    assert some == {0}
+    some.remove_range(-(1 << 70), 1)
+    assert not some
+
+
+def test_numbers_of_arguments(kind):
+    some = kind([5])
+    for call in [some.add_range, some.flip_range, some.remove_range, some.len_range]:
+        for bounds in [(), (1,), (1, 2, 3)]:
+            with pytest.raises(TypeError):
+                call(*bounds)
+    assert some == {5}
 
 
 @pytest.mark.parametrize("count", [0, 1, 255, 256, 257, 1000])

@@ -3,6 +3,8 @@ import multiprocessing
 import os
 import signal
 import threading
+import time
+from array import array
 
 import pytest
 
@@ -262,6 +264,23 @@ def test_others_run_during_a_long_call():
     assert turns[0] > 1000
 
 
+def test_both_sets_of_a_call_are_kept():
+    """What two sets have is that of one moment, also where the second one changes."""
+    left, right, stop, lens = BitSet(range(0, 1 << 20, 64)), BitSet.with_capacity(1 << 22), threading.Event(), set()
+
+    def change():
+        for _ in range(60):
+            right.flip_range(0, 1 << 22)
+        stop.set()
+
+    def read():
+        while not stop.is_set():
+            lens.add(len(left | right))
+
+    run(change, read, read)
+    assert lens <= {len(left), 1 << 22}
+
+
 def test_a_fork_beside_calls():
     """In the child the sets that no call has are as free as before."""
     taken, free, stop = BitSet(range(1 << 22)), BitSet(range(1 << 20)), threading.Event()
@@ -285,6 +304,25 @@ def test_a_fork_beside_calls():
         stop.set()
 
     run(read, change, fork)
+
+
+def test_a_fork_while_a_call_waits():
+    """In the child no call waits: what had to wait for it is free."""
+    long, free, few = BitSet.with_capacity(1 << 29), BitSet([1]), array("I", [1])
+    for _ in range(4):
+        done = []
+        flips = threading.Thread(target=lambda: (long.flip_range(0, 1 << 29), done.append(1)))
+        waits = threading.Thread(target=lambda: free._add_common(long, few))
+        flips.start(), waits.start()
+        time.sleep(0.002)
+        child = os.fork()
+        if child == 0:
+            signal.alarm(20)
+            if not done:  # So the set that is flipped is taken, and the other call waits, or has not begun.
+                free.add(5)
+            os._exit(0)
+        flips.join(), waits.join()
+        assert os.waitpid(child, 0)[1] == 0
 
 
 def changed(some):

@@ -5,7 +5,7 @@ use Rattle.std.proofs.Math.Dec.{eqb}
 use Rattle.std.proofs.lemmas.Bool.{eqb-true}
 use Rattle.std.proofs.lemmas.Nat.Bits.{bit_at-zero, bit_at_or, bit_at-pow_same, bit_at-pow_other}
 use Rattle.hibitset_base.specs.Decisions.{same_or_not}
-use Rattle.hibitset.specs.declared.layout.TheConstants.{ONE_BIT}
+use Rattle.hibitset.specs.declared.summaries.TheConstants.{ONE_BIT}
 use Rattle.hibitset_base.proofs.TestLemmas.{below_holds}
 
 -- place b of the table has bit b alone

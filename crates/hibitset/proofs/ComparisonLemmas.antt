@@ -113,8 +113,3 @@ unmissed_step pass place bit missed misses below here past = record {
   ];
   missing = λ all. rw (past.missing all, here.1 (all (64 * place + bit))) refl;
 }
-
-pub unmissed_block : (pass : ℕ → Type 0) (place bit missed : ℕ) → 64 ≤ bit → missed ≡ 0 → Unmissed pass place bit missed → (p : ℕ) → p / 64 ≡ place → pass p
-unmissed_block pass place bit missed end none past p e =
-    let split : 64 * place + p % 64 ≡ p = omega arith in
-    rw split at (past.passed none (p % 64) (omega arith))

@@ -4,14 +4,14 @@ use Rattle.std.proofs.Math.Logic.{∥∥₁_elim}
 use Rattle.std.proofs.Props.{props}
 use Rattle.std.proofs.lemmas.Bool.{cases_lt}
 use Rattle.std.proofs.lemmas.List.{get_or-take, get_or_past, length-take}
-use Rattle.hibitset_base.specs.Decisions.{same_or_not}
-use Rattle.hibitset_base.specs.Words.{IsShaped, word_at}
+use Rattle.hibitset_base.specs.Words.{IsShaped}
 use Rattle.hibitset_base.specs.declared.util.TheConstants.{LAYERS}
-use Rattle.hibitset.specs.Layout.{layer_len, layer_start, layer_words, all_layers, room_of, count_of, AreStarts, AreLengths, IsLayout, LayoutInvariant}
+use Rattle.hibitset.specs.Layout.{layer_len, layer_start, layer_words, room_of, count_of, AreStarts, AreLengths, LayoutInvariant}
 use Rattle.hibitset.specs.Merge.{prefix_word}
 use Rattle.hibitset.specs.Layers.{lists, word_in, len_in, room_in}
 use Rattle.hibitset.specs.declared.layers.Layers.{Layers}
-use Rattle.hibitset.proofs.LayoutLemmas.{over_first, over_next, over_covers, over_up, start_first, start_next, start_bound, start_more, over_more, at_layer, length_here, word_here, word_past, word_top, parts_top, parts_past, all_same, laid_shaped, empty_laid, none_over}
+use Rattle.hibitset.proofs.LayerStartLemmas.{over_first, over_next, over_covers, over_up, start_first, start_next, start_bound, start_more, over_more, none_over}
+use Rattle.hibitset.proofs.LayoutLemmas.{Layout, IsLaid, layer_word, with_list, none_of, from_top, at_layer, length_here, word_here, word_past, word_top, word_same, laid_shaped, empty_laid}
 
 -- what is kept, opened
 pub opened : {n : ℕ} {words starts lens : List ℕ} {top : ℕ} → ∥ LayoutInvariant n words starts lens top ∥₁ → LayoutInvariant n words starts lens top
@@ -30,14 +30,18 @@ pub count_is : (lens : List ℕ) (len : ℕ) → AreLengths LAYERS lens len → 
 count_is lens len are = are 0 (lit< tt) ∙ over_first len
 
 -- what is kept of a list that is laid out, with the places and lengths of its layers
-pub keeps : (words starts lens : List ℕ) (top room len : ℕ) → IsLayout LAYERS words room len top → AreStarts LAYERS starts room → AreLengths LAYERS lens len → ∥ LayoutInvariant LAYERS words starts lens top ∥₁
-keeps words starts lens top room len laid starts-are lens-are =
-    let r = room_is starts room starts-are in
-    let c = count_is lens len lens-are in
+pub keeps : (a : Layout) (starts lens : List ℕ) → IsLaid LAYERS a → AreStarts LAYERS starts a.room → AreLengths LAYERS lens a.len → ∥ LayoutInvariant LAYERS a.words starts lens a.top ∥₁
+keeps a starts lens laid starts-are lens-are =
+    let r = room_is starts a.room starts-are in
+    let c = count_is lens a.len lens-are in
     ∣ record { laid = rw (r, c) laid; begins = rw r starts-are; lengths = rw c lens-are } ∣₁
 
+-- how the words of `Layers` lie in their list
+abbrev pub layout_of : Layers → Layout
+layout_of x = record { words = x.words.items; room = room_in x; len = count_of x.lens; top = x.top }
+
 module _ (x : Layers) where
-  pub laid : IsLayout LAYERS x.words.items (room_in x) (count_of x.lens) x.top
+  pub laid : IsLaid LAYERS (layout_of x)
   laid = (opened x.kept).laid
 
   pub start_is : (l : ℕ) → l < LAYERS - 1 → get_or x.starts l 0 ≡ layer_start l (room_in x)
@@ -45,11 +49,11 @@ module _ (x : Layers) where
 
   pub slice_is : (l : ℕ) → l < LAYERS - 1 → take (layer_len l (count_of x.lens)) (drop (layer_start l (room_in x)) x.words.items) ≡ get_or (lists x) l []
   unfolding lists layer_words
-  slice_is l below = sym (at_layer x.words.items (room_in x) (count_of x.lens) x.top LAYERS l below)
+  slice_is l below = sym (at_layer LAYERS (layout_of x) l below)
 
   pub length_of : (l : ℕ) → l < LAYERS - 1 → len_in x l ≡ layer_len l (count_of x.lens)
   unfolding lists
-  length_of l below = length_here x.words.items (room_in x) (count_of x.lens) x.top LAYERS l laid below
+  length_of l below = length_here LAYERS (layout_of x) laid l below
 
   pub length_is : (l : ℕ) → l < LAYERS - 1 → get_or x.lens l 0 ≡ len_in x l
   length_is l below = (opened x.kept).lengths l below ∙ sym (length_of l below)
@@ -59,15 +63,15 @@ module _ (x : Layers) where
 
   pub top_word : word_in x (LAYERS - 1) 0 ≡ x.top
   unfolding lists
-  top_word = word_top x.words.items (room_in x) (count_of x.lens) x.top LAYERS
+  top_word = word_top LAYERS (layout_of x)
 
   pub word_there : (l p : ℕ) → l < LAYERS - 1 → p < len_in x l → word_in x l p ≡ get_or x.words.items (layer_start l (room_in x) + p) 0
   unfolding lists
-  word_there l p below here = word_here x.words.items (room_in x) (count_of x.lens) x.top LAYERS l p below (let h = length_of l below in omega (arith, h, here))
+  word_there l p below here = word_here LAYERS (layout_of x) l p below (let h = length_of l below in omega (arith, h, here))
 
   pub past_end : (l p : ℕ) → l < LAYERS - 1 → len_in x l ≤ p → word_in x l p ≡ 0
   unfolding lists
-  past_end l p below past = word_past x.words.items (room_in x) (count_of x.lens) x.top LAYERS l p laid below (let h = length_of l below in omega (arith, h, past))
+  past_end l p below past = word_past LAYERS (layout_of x) laid l p below (let h = length_of l below in omega (arith, h, past))
 
   -- the words of layer 0 are the first ones of the list
   pub counted_first : (len p : ℕ) → len ≡ len_in x 0 → prefix_word len x.words.items p ≡ word_in x 0 p
@@ -89,7 +93,7 @@ module _ (x : Layers) where
 
   pub shaped : IsShaped LAYERS (lists x)
   unfolding lists
-  shaped = laid_shaped x.words.items (room_in x) (count_of x.lens) x.top LAYERS (lit< tt) laid
+  shaped = laid_shaped LAYERS (layout_of x) laid (lit< tt)
 
   -- a layer's words lie within the list
   pub slice_within : (l : ℕ) → l < LAYERS - 1 → layer_start l (room_in x) + len_in x l ≤ length x.words.items
@@ -126,29 +130,22 @@ module _ (x : Layers) where
   pub has_above : (l p : ℕ) → l + 1 < LAYERS - 1 → p < len_in x l → p / 64 < len_in x (l + 1)
   has_above l p below here = rw (length_of (l + 1) below) (over_up l p (count_of x.lens) (let h = length_of l (omega arith) in omega (arith, h, here)))
 
--- no layer is above the top, which has one word
-upper_same : (x y : Layers) (l : ℕ) → LAYERS - 1 ≤ l → len_in y l ≡ len_in x l
-unfolding lists
-upper_same x y l upto = elim (same_or_not l (LAYERS - 1)) [
-  | inl e ↦ rw (e, parts_top y.words.items (room_in y) (count_of y.lens) y.top 0 (LAYERS - 1), parts_top x.words.items (room_in x) (count_of x.lens) x.top 0 (LAYERS - 1)) refl
-  | inr other ↦ rw (parts_past y.words.items (room_in y) (count_of y.lens) y.top 0 (LAYERS - 1) l (omega arith), parts_past x.words.items (room_in x) (count_of x.lens) x.top 0 (LAYERS - 1) l (omega arith)) refl
-]
-
 -- the top is one word
 pub one_at_top : (x : Layers) (p : ℕ) → 0 < p → word_in x (LAYERS - 1) p ≡ 0
 one_at_top x p some = get_or_past (get_or (lists x) (LAYERS - 1) []) p 0 (let h = (shaped x).short (LAYERS - 1) (lit< tt) in omega (arith, h, some))
 
 -- as many words in layer 0 are as many in each
 pub lengths_same : (x y : Layers) → len_in y 0 ≡ len_in x 0 → (l : ℕ) → len_in y l ≡ len_in x l
+unfolding lists
 lengths_same x y same l = elim (cases_lt l (LAYERS - 1)) [
   | inl below ↦ length_of y l below ∙ (ap (λ z. layer_len l z) (sym (length_first y) ∙ (same ∙ length_first x)) ∙ sym (length_of x l below))
-  | inr upto ↦ upper_same x y l upto
+  | inr upto ↦ from_top LAYERS (layout_of x) (layout_of y) (λ k xs ys. length ys ≡ length xs) refl (λ k past. refl) l upto
 ]
 
 -- The words of x that count, in another list with no more room than they need.
 module _ (x : Layers) (items : List ℕ) (whole : length items ≡ layer_start (LAYERS - 1) (count_of x.lens))
     (words : (l p : ℕ) → l < LAYERS - 1 → p < layer_len l (count_of x.lens) → get_or items (layer_start l (count_of x.lens) + p) 0 ≡ word_in x l p) (small : (at : ℕ) → get_or items at 0 < 2 ^ 64) where
-  pub copied_laid : IsLayout LAYERS items (count_of x.lens) (count_of x.lens) x.top
+  pub copied_laid : IsLaid LAYERS (with_list (layout_of x) items (count_of x.lens))
   copied_laid = record {
     whole = whole;
     within = omega arith;
@@ -158,16 +155,14 @@ module _ (x : Layers) (items : List ℕ) (whole : length items ≡ layer_start (
     blank = λ l p below past here. absurd (omega (arith, past, here));
   }
 
-  pub copied_same : (l p : ℕ) → word_at (all_layers items (count_of x.lens) (count_of x.lens) x.top 0 (LAYERS - 1)) l p ≡ word_in x l p
+  pub copied_same : (l p : ℕ) → layer_word LAYERS (with_list (layout_of x) items (count_of x.lens)) l p ≡ word_in x l p
   unfolding lists
-  copied_same = all_same LAYERS x.words.items (room_in x) (count_of x.lens) x.top items (count_of x.lens) (count_of x.lens) x.top (laid x) copied_laid refl (λ l p below. elim (cases_lt p (layer_len l (count_of x.lens))) [
-    | inl here ↦ word_here items (count_of x.lens) (count_of x.lens) x.top LAYERS l p below here ∙ words l p below here
-    | inr past ↦ word_past items (count_of x.lens) (count_of x.lens) x.top LAYERS l p copied_laid below past ∙ sym (past_end x l p below (let h = length_of x l below in omega (arith, h, past)))
-  ])
+  copied_same l p = word_same LAYERS (layout_of x) (with_list (layout_of x) items (count_of x.lens)) (laid x) copied_laid refl (omega arith) l p
+      (λ below here. words l p below here ∙ word_there x l p below (let h = length_of x l below in omega (arith, h, here))) (λ below past here. absurd (omega (arith, past, here)))
 
 -- no words
 pub keeps_none : (words : List ℕ) → words ≡ [] → ∥ LayoutInvariant LAYERS words (0 ∷ 0 ∷ 0 ∷ 0 ∷ []) (0 ∷ 0 ∷ 0 ∷ 0 ∷ []) 0 ∥₁
-keeps_none words none = keeps words (0 ∷ 0 ∷ 0 ∷ 0 ∷ []) (0 ∷ 0 ∷ 0 ∷ 0 ∷ []) 0 0 0 (empty_laid LAYERS words none) (λ l below. zeros l ∙ sym (none_start l)) (λ l below. zeros l ∙ sym (none_over l)) where
+keeps_none words none = keeps (none_of words 0) (0 ∷ 0 ∷ 0 ∷ 0 ∷ []) (0 ∷ 0 ∷ 0 ∷ 0 ∷ []) (empty_laid LAYERS words none) (λ l below. zeros l ∙ sym (none_start l)) (λ l below. zeros l ∙ sym (none_over l)) where
   zeros : (l : ℕ) → get_or {A = ℕ} (0 ∷ 0 ∷ 0 ∷ 0 ∷ []) l 0 ≡ 0
   zeros zero = refl
   zeros (suc zero) = refl

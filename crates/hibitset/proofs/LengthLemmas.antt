@@ -8,7 +8,7 @@ use Rattle.hibitset.specs.Extension.{MembersEndBy}
 use Rattle.hibitset.specs.Layout.{layer_len}
 use Rattle.hibitset.specs.Layers.{len_in}
 use Rattle.hibitset.specs.declared.layers.Layers.{Layers}
-use Rattle.hibitset.proofs.LayoutLemmas.{under_over, over_within}
+use Rattle.hibitset.proofs.LayerStartLemmas.{under_over, over_within}
 use Rattle.hibitset.proofs.LayerLemmas.{length_of, length_first}
 
 pub length_kept : (old new : ℕ) → ((j : ℕ) → new ≤ j / 64 → old ≤ j / 64) → old ≤ new

@@ -1,5 +1,7 @@
 pub mod CallerLemmas
+pub mod LayerStartLemmas
 pub mod LayoutLemmas
+pub mod MoveLemmas
 pub mod LayerLemmas
 pub mod WithinLemmas
 pub mod MergeLemmas

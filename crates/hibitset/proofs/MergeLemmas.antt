@@ -1,5 +1,5 @@
 -- Words of layer 0 merged place by place.
-use Rattle.std.proofs.Common.{◌≡◌, ◌≢◌, ℕ, zero, suc, ◌+◌, ◌-◌, ◌*◌, ◌/◌, ◌%◌, ◌^◌, ◌<◌, ◌≤◌, ◌==◌, Bool, ◌↔◌, refl, sym, ◌∙◌, ap, arith, lit<, ◌⊎◌, inl, inr}
+use Rattle.std.proofs.Common.{◌≡◌, ◌≢◌, ℕ, zero, suc, ◌+◌, ◌-◌, ◌*◌, ◌/◌, ◌%◌, ◌^◌, ◌<◌, Bool, ◌↔◌, refl, sym, ◌∙◌, ap, arith, lit<, ◌⊎◌, inl, inr}
 use Rattle.std.specs.Prelude.{bit_and, min}
 use Rattle.std.specs.Int.{bit_at, bit_not, w64}
 use Rattle.std.proofs.Math.Nat.{pow-suc, div-div-eq-div-mul, div-lt_iff_lt-mul, one-le-pow}
@@ -7,11 +7,10 @@ use Rattle.std.proofs.lemmas.Bool.{cases_lt}
 use Rattle.std.proofs.lemmas.Nat.{pow-add}
 use Rattle.std.proofs.lemmas.Nat.Bits.{bit_at-lt, bit_at_and, bit_at_not, bit_at-zero}
 use Rattle.hibitset_base.specs.Decisions.{same_or_not}
-use Rattle.hibitset_base.specs.Sets.{IsLawful, bit_of}
+use Rattle.hibitset_base.specs.Sets.{IsLawful}
 use Rattle.hibitset_base.specs.declared.util.TheConstants.{LAYERS}
-use Rattle.hibitset_base.specs.Words.{SummariesExactEverywhere, holds_at}
+use Rattle.hibitset_base.specs.Words.{SummariesExactEverywhere}
 use Rattle.hibitset.specs.Merge.{MergedUnder, MergedAt, Summarizes, Covers}
-use Rattle.hibitset_base.proofs.MembershipLemmas.{bit_test}
 use Rattle.hibitset_base.proofs.SummaryUpdateLemmas.{place_within}
 
 -- The state of a loop over the bits of `visited`, of which those of `left` are still to do.
@@ -21,15 +20,6 @@ pub record MergedPast (merged : ℕ → ℕ → ℕ) (theirs old new : ℕ → �
   pub never : (p : ℕ) → p / size / 64 ≡ q → bit_at visited (p / size % 64) ≡ 0 → new p ≡ old p
   pub outside : (p : ℕ) → p / size / 64 ≢ q → new p ≡ old p
   pub within : (b : ℕ) → b < 64 → bit_at left b ≡ 1 → bit_at visited b ≡ 1
-
-pub past_start : (merged : ℕ → ℕ → ℕ) (theirs old : ℕ → ℕ) (size q visited : ℕ) → MergedPast merged theirs old old size q visited visited
-past_start merged theirs old size q visited = record {
-  done = λ p e on off. absurd (omega arith);
-  todo = λ p e on. refl;
-  never = λ p e off. refl;
-  outside = λ p other. refl;
-  within = λ b small h. h;
-}
 
 module _ (merged : ℕ → ℕ → ℕ) (theirs old mid new : ℕ → ℕ) (size q visited left less b : ℕ) (small : b < 64) (stands : bit_at left b ≡ 1) (here : bit_at less b ≡ 0)
     (same : (c : ℕ) → c < 64 → c ≢ b → bit_at less c ≡ bit_at left c) (past : MergedPast merged theirs old mid size q visited left) (one : MergedUnder merged theirs mid new size (64 * q + b)) where
@@ -64,15 +54,6 @@ module _ (merged : ℕ → ℕ → ℕ) (theirs old mid new : ℕ → ℕ) (size
       | inr other ↦ past.within c below (sym (same c below other) ∙ on)
     ];
   }
-
-pub past_end : (merged : ℕ → ℕ → ℕ) (theirs old new : ℕ → ℕ) (size q visited left : ℕ) → left ≡ 0 → MergedPast merged theirs old new size q visited left → MergedAt merged theirs old new size q visited
-past_end merged theirs old new size q visited left none past =
-    let off : (b : ℕ) → bit_at left b ≡ 0 = (λ b. rw none (bit_at-zero b)) in
-    record {
-      inside = λ p e on. past.done p e on (off (p / size % 64));
-      kept = past.never;
-      outside = past.outside;
-    }
 
 -- one word merged, and its bit set right
 pub summary_step : (merged : ℕ → ℕ → ℕ) (theirs mid new : ℕ → ℕ) (q b above next some : ℕ) → b < 64 → MergedUnder merged theirs mid new 1 (64 * q + b)
@@ -171,37 +152,6 @@ bit_above n holds w lawful l q p x below place e covers some =
     let within : p < 64 ^ (n - 1) = rw product ((div-lt_iff_lt-mul positive).0 up_within) in
     let whole : 64 * q + p / 64 ^ l % 64 ≡ p / 64 ^ l = omega arith in
     covers.bits (p / 64 ^ l % 64) (omega arith) (rw whole (words_above n holds w lawful l p (omega arith) within some))
-
--- the members of words that are merged
-pub merged_holds : (n : ℕ) (test : Bool → Bool → Bool) (merged : ℕ → ℕ → ℕ) → ((x y i : ℕ) → bit_at (merged x y) i ≡ bit_of (test (bit_at x i == 1) (bit_at y i == 1)))
-    → (holds : ℕ → Bool) (u w v : ℕ → ℕ → ℕ) → 0 < n → IsLawful n holds u → ((p : ℕ) → p < 64 ^ (n - 1) → v 0 p ≡ merged (w 0 p) (u 0 p)) → (i : ℕ) → i < 64 ^ n → holds_at v i ≡ test (holds_at w i) (holds i)
-merged_holds n test merged bits holds u w v some lawful words i below =
-    let s : n ≡ suc (n - 1) = omega arith in
-    let product : 64 ^ n ≡ 64 ^ (n - 1) * 64 = ap (λ x. 64 ^ x) s ∙ pow-suc 64 (n - 1) in
-    let place : i / 64 < 64 ^ (n - 1) = (let h : i < 64 ^ (n - 1) * 64 = rw product at below in omega (arith, h)) in
-    let small : i % 64 < 64 = omega arith in
-    let whole : 64 * (i / 64) + i % 64 ≡ i = omega arith in
-    let theirs : bit_at (u 0 (i / 64)) (i % 64) ≡ bit_of (holds i) = rw whole at (lawful.members (i / 64) (i % 64) place small) in
-    let word : bit_at (v 0 (i / 64)) (i % 64) ≡ bit_of (test (bit_at (w 0 (i / 64)) (i % 64) == 1) (bit_at (u 0 (i / 64)) (i % 64) == 1)) = rw (words (i / 64) place) (bits (w 0 (i / 64)) (u 0 (i / 64)) (i % 64)) in
-    ap (λ x. x == 1) word ∙ (bit_test (test (bit_at (w 0 (i / 64)) (i % 64) == 1) (bit_at (u 0 (i / 64)) (i % 64) == 1)) ∙ ap (λ x. test (bit_at (w 0 (i / 64)) (i % 64) == 1) x) (ap (λ x. x == 1) theirs ∙ bit_test (holds i)))
-
--- the places from which on a layer has no words, by the last word of the layer above
-pub narrowed_end : (n : ℕ) (holds : ℕ → Bool) (w : ℕ → ℕ → ℕ) → IsLawful n holds w → (l last end : ℕ) → l + 1 < n → ((p : ℕ) → p < 64 ^ (n - 1 - (l + 1)) → last + 1 ≤ p → w (l + 1) p ≡ 0)
-    → 64 * last ≤ end → ((b : ℕ) → b < 64 → bit_at (w (l + 1) last) b ≡ 1 → 64 * last + b < end) → (p : ℕ) → p < 64 ^ (n - 1 - l) → end ≤ p → w l p ≡ 0
-narrowed_end n holds w lawful l last end below none first bits p within after = elim (cases_lt 0 (w l p)) [
-  | inr zero_here ↦ omega arith
-  | inl some ↦
-      let bit : bit_at (w (l + 1) (p / 64)) (p % 64) ≡ 1 = lawful.summaries l p below within some in
-      let step : 64 ^ (n - 1 - l) ≡ 64 ^ (n - 1 - (l + 1)) * 64 = (let s : n - 1 - l ≡ suc (n - 1 - (l + 1)) = omega arith in ap (λ x. 64 ^ x) s ∙ pow-suc 64 (n - 1 - (l + 1))) in
-      let place : p / 64 < 64 ^ (n - 1 - (l + 1)) = (let h : p < 64 ^ (n - 1 - (l + 1)) * 64 = rw step at within in omega (arith, h)) in
-      absurd (elim (cases_lt last (p / 64)) [
-        | inl later ↦ (let z : w (l + 1) (p / 64) ≡ 0 = none (p / 64) place (omega arith) in let o : 0 < w (l + 1) (p / 64) = some_word (w (l + 1) (p / 64)) (p % 64) bit in omega (arith, z, o))
-        | inr upto ↦ elim (same_or_not (p / 64) last) [
-          | inl e ↦ (let h : 64 * last + p % 64 < end = bits (p % 64) (omega arith) (rw e at bit) in omega (arith, h, e))
-          | inr other ↦ omega arith
-        ]
-      ])
-]
 
 -- a word of a layer covers those below it
 pub covers_below : (w : ℕ → ℕ → ℕ) (layer place x : ℕ) → layer - 1 + 1 ≡ layer → layer < LAYERS → SummariesExactEverywhere LAYERS w → x ≡ w layer place → Covers (w (layer - 1)) place x

@@ -18,10 +18,6 @@ use Rattle.hibitset.specs.declared.layers.Layers.{Layers}
 use Rattle.hibitset.proofs.LayerLemmas.{has_above}
 use Rattle.hibitset.proofs.MergeLemmas.{some_word}
 
--- a bit that is put where the test holds
-put_where : (r stands : Bool) (x bits b : ℕ) → bit_at bits b ≡ bit_of r → cond (bit_at bits b == 1) (bit_of stands) x ≡ cond r (bit_of stands) x
-put_where r stands x bits b e = rw (e, bit_test r) refl
-
 -- `ones` or none
 word_bit : (stands : Bool) (b : ℕ) → b < 64 → bit_at (cond stands (2 ^ 64 - 1) 0) b ≡ bit_of stands
 word_bit true b small = bit_at_ones 64 b small
@@ -31,7 +27,7 @@ module _ (stands : Bool) (from to : ℕ) (order : from < to) where
   -- one word, with the bits of the range put
   module _ (old new : ℕ → ℕ) (place bits : ℕ) (here : (b : ℕ) → b < 64 → bit_at (new place) b ≡ cond (bit_at bits b == 1) (bit_of stands) (bit_at (old place) b)) (are : (b : ℕ) → b < 64 → bit_at bits b ≡ bit_of (in_range from to (64 * place + b))) where
     put_word : (b : ℕ) → b < 64 → bit_at (new place) b ≡ cond (in_range from to (64 * place + b)) (bit_of stands) (bit_at (old place) b)
-    put_word b small = here b small ∙ put_where (in_range from to (64 * place + b)) stands (bit_at (old place) b) bits b (are b small)
+    put_word b small = rw (here b small, are b small, bit_test (in_range from to (64 * place + b))) refl
 
     -- no other word has bits of the range
     pub put_one : from / 64 ≡ place → (to - 1) / 64 ≡ place → ((p : ℕ) → p ≢ place → new p ≡ old p) → PutsRange stands from to old new
@@ -101,22 +97,22 @@ ordered i j k some upto = elim (cases_lt (j / k) (i / k)) [
   | inr right ↦ right
 ]
 
--- A word has some bit after a range was set exactly where it had one before, or lies over the range.
-module _ (from to : ℕ) (order : from < to) (old new : ℕ → ℕ) (filled : PutsRange true from to old new) (q : ℕ) where
-  some_inside : from / 64 ≤ q → q ≤ (to - 1) / 64 → 0 < new q
-  some_inside low high =
-      let b : ℕ = max from (64 * q) - 64 * q in
-      let small : b < 64 = omega (arith, low) in
-      let inside : in_range from to (64 * q + b) ≡ true = grind (arith, nat_tests, order) in
-      some_word (new q) b (filled.bits q b small ∙ rw inside refl)
+-- a word over the range has some bit after the range was set
+some_inside : (from to : ℕ) → from < to → (old new : ℕ → ℕ) → PutsRange true from to old new → (q : ℕ) → from / 64 ≤ q → q ≤ (to - 1) / 64 → 0 < new q
+some_inside from to order old new filled q low high =
+    let b : ℕ = max from (64 * q) - 64 * q in
+    let small : b < 64 = omega (arith, low) in
+    let inside : in_range from to (64 * q + b) ≡ true = grind (arith, nat_tests, order) in
+    some_word (new q) b (filled.bits q b small ∙ rw inside refl)
 
-  same_outside : new q < 2 ^ 64 → old q < 2 ^ 64 → (q < from / 64) ⊎ ((to - 1) / 64 < q) → new q ≡ old q
-  same_outside new_fits old_fits apart = same_from_bits_below 64 (new q) (old q) new_fits old_fits (λ b small.
-      let out : in_range from to (64 * q + b) ≡ false = elim apart [
-        | inl low ↦ grind (arith, nat_tests)
-        | inr high ↦ grind (arith, nat_tests)
-      ] in
-      filled.bits q b small ∙ rw out refl)
+-- a word that lies outside the range is as it was
+same_outside : (stands : Bool) (from to : ℕ) → from < to → (old new : ℕ → ℕ) → PutsRange stands from to old new → (q : ℕ) → new q < 2 ^ 64 → old q < 2 ^ 64 → (q < from / 64) ⊎ ((to - 1) / 64 < q) → new q ≡ old q
+same_outside stands from to order old new put q new_fits old_fits apart = same_from_bits_below 64 (new q) (old q) new_fits old_fits (λ b small.
+    let out : in_range from to (64 * q + b) ≡ false = elim apart [
+      | inl low ↦ grind (arith, nat_tests)
+      | inr high ↦ grind (arith, nat_tests)
+    ] in
+    put.bits q b small ∙ rw out refl)
 
 -- the same words may stand for the old ones and the new ones
 pub put_same : (stands : Bool) (from to : ℕ) (u v old new : ℕ → ℕ) → ((p : ℕ) → u p ≡ old p) → ((p : ℕ) → new p ≡ v p) → PutsRange stands from to u v → PutsRange stands from to old new
@@ -146,7 +142,7 @@ filled_summed n old new start end order summed new_fits old_fits filled = record
               | inl low ↦ inl low
               | inr high ↦ inr (grind (arith, nat_tests, first, last))
             ] in
-            let same : new l q ≡ old l q = same_outside from to here (old l) (new l) lower q (new_fits l q) (old_fits l q) apart in
+            let same : new l q ≡ old l q = same_outside true from to here (old l) (new l) lower q (new_fits l q) (old_fits l q) apart in
             let bit : bit_at (new (l + 1) p) b ≡ bit_at (old (l + 1) p) b = upper.bits p b small ∙ rw outside refl in
             let before = summed.summed l p b below small in
             (λ on. rw same (before.0 (sym bit ∙ on)), λ h. bit ∙ before.1 (rw same at h))
@@ -184,14 +180,8 @@ module _ (n : ℕ) (old new : ℕ → ℕ → ℕ) (k from to : ℕ) (order : fr
   pub beside_top : n ≡ k + 1 → SummariesExactEverywhere n new
   beside_top top = record { summed = λ l p b below small. lower_exact l p b below small (omega (arith, top, below)) }
 
-  -- a word that lies outside the range is as it was
   kept : (q : ℕ) → (q < from / 64) ⊎ ((to - 1) / 64 < q) → new k q ≡ old k q
-  kept q apart = same_from_bits_below 64 (new k q) (old k q) (new_fits k q) (old_fits k q) (λ b small.
-      let out : in_range from to (64 * q + b) ≡ false = elim apart [
-        | inl low ↦ grind (arith, nat_tests)
-        | inr high ↦ grind (arith, nat_tests)
-      ] in
-      cleared.bits q b small ∙ rw out refl)
+  kept q apart = same_outside false from to order (old k) (new k) cleared q (new_fits k q) (old_fits k q) apart
 
   -- one between its first and last words is 0
   between : (q : ℕ) → from / 64 < q → q < (to - 1) / 64 → new k q ≡ 0
@@ -218,23 +208,29 @@ module _ (n : ℕ) (old new : ℕ → ℕ → ℕ) (k from to : ℕ) (order : fr
     blank_or zero y z a e = inl (refl, e)
     blank_or (suc x) y z a e = inr (omega arith, (let some : (suc x == 0) ≡ false = eq_other (suc x) 0 (λ h. absurd (omega (arith, h))) in rw some at e))
 
+    first_or : ((new k (from / 64) ≡ 0) × (next_from ≡ from / 64)) ⊎ ((0 < new k (from / 64)) × (next_from ≡ from / 64 + 1))
+    first_or = blank_or (new k (from / 64)) (from / 64) (from / 64 + 1) next_from from-is
+
+    last_or : ((new k ((to - 1) / 64) ≡ 0) × (next_to ≡ (to - 1) / 64 + 1)) ⊎ ((0 < new k ((to - 1) / 64)) × (next_to ≡ (to - 1) / 64))
+    last_or = blank_or (new k ((to - 1) / 64)) ((to - 1) / 64 + 1) ((to - 1) / 64) next_to to-is
+
     inside_next : (q : ℕ) → in_range next_from next_to q ≡ true → new k q ≡ 0
     inside_next q inside =
         let low : next_from ≤ q = grind (arith, nat_tests) in
         let high : q < next_to = grind (arith, nat_tests) in
         elim (same_or_not q (from / 64)) [
-          | inl first ↦ elim (blank_or (new k (from / 64)) (from / 64) (from / 64 + 1) next_from from-is) [
+          | inl first ↦ elim first_or [
             | inl (z, at) ↦ rw first z
             | inr (some, at) ↦ absurd (omega (arith, at, low, first))
           ]
           | inr other ↦ elim (same_or_not q ((to - 1) / 64)) [
-            | inl last ↦ elim (blank_or (new k ((to - 1) / 64)) ((to - 1) / 64 + 1) ((to - 1) / 64) next_to to-is) [
+            | inl last ↦ elim last_or [
               | inl (z, at) ↦ rw last z
               | inr (some, at) ↦ absurd (omega (arith, at, high, last))
             ]
             | inr another ↦
-                let after : from / 64 ≤ next_from = elim (blank_or (new k (from / 64)) (from / 64) (from / 64 + 1) next_from from-is) [ inl (z, at) ↦ omega (arith, at) | inr (some, at) ↦ omega (arith, at) ] in
-                let before : next_to ≤ (to - 1) / 64 + 1 = elim (blank_or (new k ((to - 1) / 64)) ((to - 1) / 64 + 1) ((to - 1) / 64) next_to to-is) [ inl (z, at) ↦ omega (arith, at) | inr (some, at) ↦ omega (arith, at) ] in
+                let after : from / 64 ≤ next_from = elim first_or [ inl (z, at) ↦ omega (arith, at) | inr (some, at) ↦ omega (arith, at) ] in
+                let before : next_to ≤ (to - 1) / 64 + 1 = elim last_or [ inl (z, at) ↦ omega (arith, at) | inr (some, at) ↦ omega (arith, at) ] in
                 between q (omega (arith, low, after, other)) (omega (arith, high, before, another))
           ]
         ]
@@ -246,13 +242,13 @@ module _ (n : ℕ) (old new : ℕ → ℕ → ℕ) (k from to : ℕ) (order : fr
         | inl high ↦ (let e = kept q (inr high) in (λ h. omega (arith, h, e), λ h. omega (arith, h, e)))
         | inr within ↦
             let some : 0 < new k q = elim (cases_lt q next_from) [
-              | inl before ↦ elim (blank_or (new k (from / 64)) (from / 64) (from / 64 + 1) next_from from-is) [
+              | inl before ↦ elim first_or [
                 | inl (z, at) ↦ absurd (omega (arith, at, before, upto))
                 | inr (some, at) ↦ (let is : q ≡ from / 64 = omega (arith, at, before, upto) in rw is some)
               ]
               | inr from-on ↦ elim (cases_lt q next_to) [
                 | inl before ↦ absurd (let wrong : in_range next_from next_to q ≡ true = grind (arith, nat_tests) in true≢false (sym wrong ∙ outside))
-                | inr past ↦ elim (blank_or (new k ((to - 1) / 64)) ((to - 1) / 64 + 1) ((to - 1) / 64) next_to to-is) [
+                | inr past ↦ elim last_or [
                   | inl (z, at) ↦ absurd (omega (arith, at, past, within))
                   | inr (some, at) ↦ (let is : q ≡ (to - 1) / 64 = omega (arith, at, past, within) in rw is some)
                 ]
@@ -276,12 +272,9 @@ module _ (n : ℕ) (old new : ℕ → ℕ → ℕ) (k from to : ℕ) (order : fr
       none = λ l q is inside. let same : l ≡ k = omega (arith, is) in rw same (inside_next q inside);
     }
 
--- before the first layer all are exact, and so they are where nothing is left of the range
+-- before the first layer all are exact
 pub beside_start : (n from to : ℕ) (word : ℕ → ℕ → ℕ) → SummariesExactEverywhere n word → SummariesExactOutside n word 0 from to
 beside_start n from to word summed = record { off = λ l p b below small out. summed.summed l p b below small; none = λ l q is. absurd (omega (arith, is)) }
-
-pub beside_end : (n k from to : ℕ) (word : ℕ → ℕ → ℕ) → to ≤ from → SummariesExactOutside n word k from to → SummariesExactEverywhere n word
-beside_end n k from to word empty beside = record { summed = λ l p b below small. beside.off l p b below small (λ e. grind (arith, nat_tests)) }
 
 -- the members of a set in whose layer 0 a range was set
 pub filled_holds : (old new : ℕ → ℕ → ℕ) (start end : ℕ) → PutsRange true start end (old 0) (new 0) → (i : ℕ) → holds_at new i ≡ (holds_at old i || in_range start end i)
@@ -290,14 +283,12 @@ filled_holds old new start end filled i =
     let bit : bit_at (new 0 (i / 64)) (i % 64) ≡ cond (in_range start end i) 1 (bit_at (old 0 (i / 64)) (i % 64)) = rw whole at (filled.bits (i / 64) (i % 64) (omega arith)) in
     ap (λ x. x == 1) bit ∙ tested (in_range start end i) (bit_at (old 0 (i / 64)) (i % 64))
   where
+    or_with : (r b : Bool) → cond r true b ≡ (b || r)
+    or_with true true = refl
+    or_with true false = refl
+    or_with false true = refl
+    or_with false false = refl
+
     tested : (r : Bool) (x : ℕ) → (cond r 1 x == 1) ≡ ((x == 1) || r)
-    tested true x = or_true (x == 1)
-      where
-        or_true : (b : Bool) → true ≡ (b || true)
-        or_true true = refl
-        or_true false = refl
-    tested false x = or_false (x == 1)
-      where
-        or_false : (b : Bool) → b ≡ (b || false)
-        or_false true = refl
-        or_false false = refl
+    tested true x = or_with true (x == 1)
+    tested false x = or_with false (x == 1)

@@ -1,11 +1,10 @@
 //! Assignments: a set put together with any other, whole words at a time.
 #![tactic(auto, unfolding(crate::specs::BitSet::has, crate::specs::BitSet::word_of))]
 
-ghost use Rattle.std.specs.Prelude.{◌≡◌, ◌≢◌, ℕ, ◌+◌, ◌-◌, ◌*◌, ◌/◌, ◌^◌, ◌<◌, ◌≤◌, ◌||◌, ◌&&◌, ◌↔◌, false, get_or, length, OnOk, OnErr, IsOk};
+ghost use Rattle.std.specs.Prelude.{◌≡◌, ◌≢◌, ℕ, ◌+◌, ◌-◌, ◌*◌, ◌/◌, ◌^◌, ◌<◌, ◌≤◌, ◌||◌, ◌&&◌, false, length, OnOk, OnErr, IsOk};
 ghost use Rattle.std.specs.Int.{bit_at};
-ghost use Rattle.hibitset_base.specs.Sets.{bit_of};
 ghost use Rattle.hibitset.specs.BitSet.{has, word_of, slice_len};
-ghost use Rattle.hibitset.specs.Merge.{prefix_word, AreWords, MergedUnder, MergedAt, Summarizes, Covers, NoWordsFrom};
+ghost use Rattle.hibitset.specs.Merge.{MergedUnder, Covers, NoWordsFrom};
 ghost use Rattle.hibitset_base.specs.Connectives.{is_member, IsIntersection, IsUnion, IsSymmetricDifference, IsDifference};
 ghost use Rattle.hibitset.specs.Operators.{none_lawful};
 ghost use Rattle.hibitset_base.specs.declared.util.TheConstants.{LAYERS, MAX_EID};
@@ -61,66 +60,6 @@ impl BitSetLike for Empty {
     }
 }
 
-// Merges one of the first `len` words, and returns whether it is not 0 then.
-#[inline]
-fn merge_word<O: Operator, B: BitSetLike>(
-    words: &mut [usize],
-    len: usize,
-    other: &B,
-    place: usize,
-) -> bool
-    requires room { len ≤ length words.old }
-    requires fits { len ≤ place → O.merged 0 (B.word other.now 0 place) ≡ 0 }
-    ensures length { length words.new ≡ length words.old }
-    ensures words { MergedUnder O.merged (B.word other.now 0) (prefix_word len words.old)
-        (prefix_word len words.new) 1 place }
-    ensures some { (bit_of result ≡ 1) ↔ (0 < prefix_word len words.new place) }
-    ensures others { (p : ℕ) → len ≤ p → get_or words.new p 0 ≡ get_or words.old p 0 }
-    ensures bounded { AreWords (λ p. get_or words.old p 0) → AreWords (λ p. get_or words.new p 0) }
-{
-    if len <= place {
-        return false;
-    }
-    let word = O::merge(words[place], other.layer0(place));
-    words[place] = word;
-    word != 0
-}
-
-// Merges those of the first `len` words below word `place` of layer 1 whose bits are set in `bits`, and returns the
-// summary of all 64, which was `summary`.
-#[inline]
-pub(crate) fn merge_words<O: Operator, B: BitSetLike>(
-    words: &mut Vec<usize>,
-    len: usize,
-    other: &B,
-    place: usize,
-    bits: usize,
-    summary: usize,
-) -> usize
-    requires room { len ≤ length words.old.items }
-    requires range { place < 64 ^ (LAYERS - 2) }
-    requires exact { Summarizes (prefix_word len words.old.items) place summary }
-    requires fits { (p : ℕ) → p < 64 ^ (LAYERS - 1) → len ≤ p
-        → O.merged 0 (B.word other.now 0 p) ≡ 0 }
-    ensures length { length words.new.items ≡ length words.old.items }
-    ensures words { MergedAt O.merged (B.word other.now 0) (prefix_word len words.old.items)
-        (prefix_word len words.new.items) 1 place bits }
-    ensures exact { Summarizes (prefix_word len words.new.items) place result }
-    ensures others { (p : ℕ) → len ≤ p → get_or words.new.items p 0 ≡ get_or words.old.items p 0 }
-    ensures bounded { AreWords (λ p. get_or words.old.items p 0)
-        → AreWords (λ p. get_or words.new.items p 0) }
-{
-    let slice = words.as_mut_slice();
-    let mut above = summary;
-    let mut left = bits;
-    while left != 0 {
-        let bit = take_bit(&mut left);
-        let stands = merge_word::<O, B>(slice, len, other, 64 * place + bit);
-        above = with_bit(above, bit, stands);
-    }
-    above
-}
-
 // The other's word at place `64 * place + bit` of the layer below `layer`, which is read only where the word above,
 // `theirs`, has the bit.
 #[inline]
@@ -132,7 +71,7 @@ fn lower_word<B: BitSetLike>(
     bit: usize,
 ) -> usize
     requires layer { (0 < layer) × (layer + 1 < LAYERS) }
-    requires place { place < 64 ^ (LAYERS - 2 - layer) }
+    requires in_range { place < 64 ^ (LAYERS - 2 - layer) }
     requires bit { bit < 64 }
     requires theirs { Covers (B.word other.now layer) place theirs }
     ensures { Covers (B.word other.now (layer - 1)) (64 * place + bit) result }
@@ -186,7 +125,7 @@ fn end_of<B: BitSetLike>(other: &B) -> usize
 // there. Words under summary bits are read from the last one down, until one is not 0.
 fn end_of_subtree<B: BitSetLike>(other: &B, layer: usize, place: usize) -> usize
     requires layer { layer < LAYERS }
-    requires place { place < 64 ^ (LAYERS - 1 - layer) }
+    requires in_range { place < 64 ^ (LAYERS - 1 - layer) }
     ensures end { (p : ℕ) → p / 64 ^ layer ≡ place → result ≤ p → B.word other.now 0 p ≡ 0 }
     ensures last { 0 < result → (0 < B.word other.now 0 (result - 1))
         × ((result - 1) / 64 ^ layer ≡ place) }
@@ -211,7 +150,7 @@ impl BitSet {
     // to themselves.
     #[inline(never)]
     fn merge_block<O: Operator, B: BitSetLike>(&mut self, other: &B, place: usize, theirs: usize)
-        requires range { place < 64 ^ (LAYERS - 2) }
+        requires in_range { place < 64 ^ (LAYERS - 2) }
         requires theirs { Covers (B.word other.now 0) place theirs }
         requires fits { (p : ℕ) → p < 64 ^ (LAYERS - 1) → slice_len self.old 0 ≤ p
             → O.merged 0 (B.word other.now 0 p) ≡ 0 }
@@ -231,9 +170,7 @@ impl BitSet {
             .layers
             .merge::<O, B>(other, place, visited & theirs, kept);
         self.layers.store_word(1, place, word);
-        if self.layers.update_parent_bit(1, place, word != 0) {
-            self.layers.update_summaries(2, place / 64, word != 0);
-        }
+        self.layers.update_above(1, place, word != 0);
     }
 
     // Merges what lies under word `place` of a layer above 1, where the other has the word `theirs`. The blocks below
@@ -246,7 +183,7 @@ impl BitSet {
         theirs: usize,
     )
         requires layer { (1 < layer) × (layer < LAYERS) }
-        requires place { place < 64 ^ (LAYERS - 1 - layer) }
+        requires in_range { place < 64 ^ (LAYERS - 1 - layer) }
         requires theirs { Covers (B.word other.now (layer - 1)) place theirs }
         requires fits { (p : ℕ) → p < 64 ^ (LAYERS - 1) → slice_len self.old 0 ≤ p
             → O.merged 0 (B.word other.now 0 p) ≡ 0 }

@@ -81,9 +81,9 @@ impl Comparison for Equality {
 fn compare_block<C: Comparison>(ours: &BitSet, theirs: &BitSet, place: usize) -> bool
     requires ours { 64 * place + 64 ≤ slice_len ours.now 0 }
     requires theirs { 64 * place + 64 ≤ slice_len theirs.now 0 }
-    ensures yes { result ≡ true → (p : ℕ) → p / 64 ≡ place
+    ensures if_true { result ≡ true → (p : ℕ) → p / 64 ≡ place
         → BitsPass C.allowed (word_of ours.now 0 p) (word_of theirs.now 0 p) }
-    ensures no { result ≡ false → ((p : ℕ)
+    ensures if_false { result ≡ false → ((p : ℕ)
         → BitsPass C.allowed (word_of ours.now 0 p) (word_of theirs.now 0 p)) → ⊥ }
 {
     let ours = ours.layers.slice(0);
@@ -110,9 +110,9 @@ fn has_block(set: &BitSet, place: usize) -> bool
 #[inline]
 fn compare_words<C: Comparison>(ours: &BitSet, theirs: &BitSet, place: usize, bits: usize) -> bool
     requires { place < 64 ^ (LAYERS - 2) }
-    ensures yes { result ≡ true → (p : ℕ) → p / 64 ≡ place → bit_at bits (p % 64) ≡ 1
+    ensures if_true { result ≡ true → (p : ℕ) → p / 64 ≡ place → bit_at bits (p % 64) ≡ 1
         → BitsPass C.allowed (word_of ours.now 0 p) (word_of theirs.now 0 p) }
-    ensures no { result ≡ false → ((p : ℕ)
+    ensures if_false { result ≡ false → ((p : ℕ)
         → BitsPass C.allowed (word_of ours.now 0 p) (word_of theirs.now 0 p)) → ⊥ }
 {
     let mut left = bits;
@@ -130,9 +130,9 @@ fn compare_words<C: Comparison>(ours: &BitSet, theirs: &BitSet, place: usize, bi
 #[inline]
 fn compare_lowest<C: Comparison>(ours: &BitSet, theirs: &BitSet, place: usize, word: usize) -> bool
     requires { place < 64 ^ (LAYERS - 2) }
-    ensures yes { result ≡ true → (p : ℕ) → p / 64 ≡ place → bit_at word (p % 64) ≡ 1
+    ensures if_true { result ≡ true → (p : ℕ) → p / 64 ≡ place → bit_at word (p % 64) ≡ 1
         → BitsPass C.allowed (word_of ours.now 0 p) (word_of theirs.now 0 p) }
-    ensures no { result ≡ false → ((p : ℕ)
+    ensures if_false { result ≡ false → ((p : ℕ)
         → BitsPass C.allowed (word_of ours.now 0 p) (word_of theirs.now 0 p)) → ⊥ }
 {
     if word.count_ones() >= MIN_NONZERO_WORDS
@@ -153,10 +153,10 @@ fn compare_subtree<C: Comparison>(
     place: usize,
 ) -> bool
     requires layer { (0 < layer) × (layer < LAYERS) }
-    requires place { place < 64 ^ (LAYERS - 1 - layer) }
-    ensures yes { result ≡ true → (p : ℕ) → p / 64 ^ layer ≡ place
+    requires in_range { place < 64 ^ (LAYERS - 1 - layer) }
+    ensures if_true { result ≡ true → (p : ℕ) → p / 64 ^ layer ≡ place
         → BitsPass C.allowed (word_of ours.now 0 p) (word_of theirs.now 0 p) }
-    ensures no { result ≡ false → ((p : ℕ)
+    ensures if_false { result ≡ false → ((p : ℕ)
         → BitsPass C.allowed (word_of ours.now 0 p) (word_of theirs.now 0 p)) → ⊥ }
 {
     let word = theirs.get_from_layer(layer, place);

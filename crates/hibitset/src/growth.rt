@@ -8,12 +8,12 @@ const SPARE_FRACTION: usize = 8;
 
 /// How much capacity to allocate. A type parameter, so that `ensure_word` is compiled once for each policy.
 pub(crate) trait Growth {
-    /// The capacity to reserve, in words of layer 0, if it is `room` now and `len` words are needed.
-    fn room(room: usize, len: usize) -> usize
-        requires room { room ≤ 64 ^ (LAYERS - 1) }
-        requires some { 0 < len }
+    /// The capacity to reserve, in words of layer 0, if it is `current` now and `len` words are needed.
+    fn capacity(current: usize, len: usize) -> usize
+        requires current { current ≤ 64 ^ (LAYERS - 1) }
+        requires nonzero { 0 < len }
         requires len { len ≤ 64 ^ (LAYERS - 1) }
-        ensures { result ≤ 2 * max room len };
+        ensures { result ≤ 2 * max current len };
 }
 
 /// Adds, which come one by one. They reserve a power of two of words, so that few allocate and random ones end with the
@@ -23,8 +23,8 @@ pub(crate) struct Adds;
 
 impl Growth for Adds {
     #[inline]
-    fn room(room: usize, len: usize) -> usize {
-        if len > 2 * room {
+    fn capacity(current: usize, len: usize) -> usize {
+        if len > 2 * current {
             return len;
         }
         len.next_power_of_two()
@@ -36,7 +36,7 @@ pub(crate) struct Assignment;
 
 impl Growth for Assignment {
     #[inline]
-    fn room(room: usize, _len: usize) -> usize {
-        room + room / SPARE_FRACTION
+    fn capacity(current: usize, _len: usize) -> usize {
+        current + current / SPARE_FRACTION
     }
 }

@@ -1,17 +1,13 @@
 //! The words of a set: all layers but the top one lie in one vector.
-ghost use Rattle.std.specs.Prelude.{◌≡◌, ◌≢◌, ℕ, ◌+◌, ◌-◌, ◌/◌, ◌^◌, ◌<◌, ◌≤◌, ◌==◌, not, true, false, [], get_or, length, vec_capacity, OnOk, OnErr, IfOk, IsOk};
-ghost use Rattle.hibitset_base.specs.Words.{SummariesExactEverywhere, word_at};
+ghost use Rattle.std.specs.Prelude.{◌≡◌, ◌≢◌, ℕ, ◌-◌, ◌^◌, ◌<◌, ◌≤◌, [], get_or, length, vec_capacity, OnOk, OnErr, IfOk, IsOk};
+ghost use Rattle.hibitset_base.specs.Words.{word_at};
 ghost use Rattle.hibitset_base.specs.declared.util.TheConstants.{LAYERS};
-ghost use Rattle.hibitset.specs.Layout.{layer_start, LayoutInvariant, SummariesExactExceptAt};
+ghost use Rattle.hibitset.specs.Layout.{layer_start, LayoutInvariant};
 ghost use Rattle.hibitset.specs.Merge.{MergedAt, Summarizes};
 
-use crate::assign::merge_words;
-use crate::layout::{
-    became_zero_or_nonzero, lengthen_to, lens_over, move_layers, next_capacity, starts_over,
-    summary_at, summary_of,
-};
+use crate::layout::{lengthen_to, lens_over, move_layers, next_capacity, starts_over};
+use crate::merge::merge_words;
 use crate::word_op::Operator;
-use hibitset_base::bits::with_bit;
 use hibitset_base::like::BitSetLike;
 use hibitset_base::util::LAYERS;
 use std::alloc::{AllocError, Global};
@@ -36,9 +32,9 @@ impl Layers {
 
     /// No words. It does not allocate.
     pub(crate) fn new(alloc: Global) -> Layers
-        ensures none { (l p : ℕ) → word_in result l p ≡ 0 }
+        ensures zero { (l p : ℕ) → word_in result l p ≡ 0 }
         ensures lengths { (l : ℕ) → l < LAYERS - 1 → len_in result l ≡ 0 }
-        ensures room { room_in result ≡ 0 }
+        ensures capacity { room_in result ≡ 0 }
     {
         Layers {
             words: Vec::new(alloc),
@@ -51,39 +47,12 @@ impl Layers {
     /// Words that are all 0, `len` of them in layer 0, and no more capacity than they need.
     pub(crate) fn zeros(alloc: Global, len: usize) -> Result<Layers, AllocError>
         requires { len ≤ 64 ^ (LAYERS - 1) }
-        ensures none { IfOk result (λ layers. (l p : ℕ) → word_in layers l p ≡ 0) }
+        ensures zero { IfOk result (λ layers. (l p : ℕ) → word_in layers l p ≡ 0) }
         ensures length { IfOk result (λ layers. len_in layers 0 ≡ len) }
     {
         let mut layers = Layers::new(alloc);
         layers.reserve_layers(len)?;
         layers.set_len_within(len);
-        Ok(layers)
-    }
-
-    /// These words in layer 0 with exact summaries over them, and no more capacity than they need. It allocates once.
-    pub(crate) fn of_words(alloc: Global, words: &[usize]) -> Result<Layers, AllocError>
-        requires { length words.now ≤ 64 ^ (LAYERS - 1) }
-        ensures words { IfOk result (λ layers. (p : ℕ)
-            → word_in layers 0 p ≡ get_or words.now p 0) }
-        ensures summed { IfOk result (λ layers. SummariesExactEverywhere LAYERS (word_in layers)) }
-        ensures length { IfOk result (λ layers. len_in layers 0 ≡ length words.now) }
-    {
-        Layers::of_vec(Layers::vec_of(alloc, words)?)
-    }
-
-    /// The words of a vector in layer 0 with exact summaries over them, which are appended. It allocates at most once,
-    /// and not at all if the vector has capacity for the summaries.
-    pub(crate) fn of_vec(words: Vec<usize>) -> Result<Layers, AllocError>
-        requires { length words.items ≤ 64 ^ (LAYERS - 1) }
-        ensures words { IfOk result (λ layers. (p : ℕ)
-            → word_in layers 0 p ≡ get_or words.items p 0) }
-        ensures summed { IfOk result (λ layers. SummariesExactEverywhere LAYERS (word_in layers)) }
-        ensures length { IfOk result (λ layers. len_in layers 0 ≡ length words.items) }
-        ensures succeeds { layer_start (LAYERS - 1) (length words.items) ≤ vec_capacity words
-            → IsOk result }
-    {
-        let mut layers = Layers::before_zeros(words)?;
-        layers.sum_layers();
         Ok(layers)
     }
 
@@ -96,7 +65,7 @@ impl Layers {
         layer3: &[usize],
         top: usize,
     ) -> Result<Layers, AllocError>
-        requires short { length layer0.now ≤ 64 ^ (LAYERS - 1) }
+        requires len_max { length layer0.now ≤ 64 ^ (LAYERS - 1) }
         requires fitted { IsFitted LAYERS (piled layer0.now layer1.now layer2.now layer3.now top) }
         ensures words { IfOk result (λ layers. (l p : ℕ) → l < LAYERS
             → word_in layers l p ≡ word_at (piled layer0.now layer1.now layer2.now layer3.now top) l
@@ -123,8 +92,8 @@ impl Layers {
         Layers::before_zeros(Layers::vec_of(alloc, words)?)
     }
 
-    // A copy of these words, in a vector with room for those over them.
-    fn vec_of(alloc: Global, words: &[usize]) -> Result<Vec<usize>, AllocError>
+    /// A copy of these words, in a vector with capacity for those over them.
+    pub(crate) fn vec_of(alloc: Global, words: &[usize]) -> Result<Vec<usize>, AllocError>
         requires { length words.now ≤ 64 ^ (LAYERS - 1) }
         ensures { IfOk result (λ list. list.items ≡ words.now) }
     {
@@ -137,15 +106,15 @@ impl Layers {
     pub(crate) fn vec_with_room(alloc: Global, len: usize) -> Result<Vec<usize>, AllocError>
         requires { len ≤ 64 ^ (LAYERS - 1) }
         ensures empty { IfOk result (λ words. words.items ≡ []) }
-        ensures room { IfOk result (λ words. layer_start (LAYERS - 1) len ≤ vec_capacity words) }
+        ensures layers_fit { IfOk result (λ words. layer_start (LAYERS - 1) len ≤ vec_capacity words) }
     {
         let (_, end) = starts_over(len);
         Vec::with_capacity(alloc, end)
     }
 
-    // These words in layer 0, and zero words behind them. It allocates at most once, and not at all if the
-    // vector has room for both.
-    fn before_zeros(words: Vec<usize>) -> Result<Layers, AllocError>
+    /// These words in layer 0, and zero words behind them. It allocates at most once, and not at all if the vector has
+    /// capacity for both.
+    pub(crate) fn before_zeros(words: Vec<usize>) -> Result<Layers, AllocError>
         requires { length words.items ≤ 64 ^ (LAYERS - 1) }
         ensures words { IfOk result (λ layers. (p : ℕ)
             → word_in layers 0 p ≡ get_or words.items p 0) }
@@ -180,36 +149,6 @@ impl Layers {
         }
     }
 
-    // Makes the words of a layer the summaries of those below.
-    fn sum_layer(&mut self, layer: usize)
-        requires layer { (0 < layer) × (layer < LAYERS - 1) }
-        ensures exact { (p : ℕ) → Summarizes (word_in self.old (layer - 1)) p
-            (word_in self.new layer p) }
-        ensures layers { (l p : ℕ) → l ≢ layer → word_in self.new l p ≡ word_in self.old l p }
-        ensures lengths { (l : ℕ) → len_in self.new l ≡ len_in self.old l }
-    {
-        let mut place = 0;
-        while place < self.slice(layer).len() {
-            let word = summary_at(self.slice(layer - 1), 64 * place);
-            self.store_word(layer, place, word);
-            place += 1;
-        }
-    }
-
-    // Makes all summaries exact, from layer 1 up.
-    fn sum_layers(&mut self)
-        ensures summed { SummariesExactEverywhere LAYERS (word_in self.new) }
-        ensures words { (p : ℕ) → word_in self.new 0 p ≡ word_in self.old 0 p }
-        ensures lengths { (l : ℕ) → len_in self.new l ≡ len_in self.old l }
-    {
-        let mut layer = 1;
-        while layer < LAYERS - 1 {
-            self.sum_layer(layer);
-            layer += 1;
-        }
-        self.store_top(summary_of(self.slice(LAYERS - 2)));
-    }
-
     // Where a layer begins. That layer 0 begins at 0 is known without a read.
     #[inline]
     fn layer_start(&self, layer: usize) -> usize
@@ -240,7 +179,7 @@ impl Layers {
 
     /// The capacity of layer 0, in words.
     #[inline]
-    pub(crate) fn room(&self) -> usize
+    pub(crate) fn capacity(&self) -> usize
         ensures here { result ≡ room_in self.now }
         ensures within { result ≤ 64 ^ (LAYERS - 1) }
     {
@@ -276,7 +215,7 @@ impl Layers {
     #[inline]
     pub(crate) fn store_word(&mut self, layer: usize, place: usize, word: usize)
         requires layer { layer < LAYERS - 1 }
-        requires place { place < len_in self.old layer }
+        requires in_range { place < len_in self.old layer }
         ensures here { word_in self.new layer place ≡ word }
         ensures others { (p : ℕ) → p ≢ place → word_in self.new layer p ≡ word_in self.old layer p }
         ensures layers { (l p : ℕ) → l ≢ layer → word_in self.new l p ≡ word_in self.old l p }
@@ -298,52 +237,6 @@ impl Layers {
         self.top = word;
     }
 
-    /// Updates the bit above a word that has just become zero or nonzero (`stands`: nonzero), and returns whether the
-    /// word with that bit became so too.
-    #[inline]
-    pub(crate) fn update_parent_bit(&mut self, layer: usize, place: usize, stands: bool) -> bool
-        requires layer { layer + 2 < LAYERS }
-        requires place { place < len_in self.old layer }
-        requires stands { not (word_in self.old layer place == 0) ≡ stands }
-        requires summed { SummariesExactExceptAt LAYERS (word_in self.old) layer place }
-        ensures done { result ≡ false → SummariesExactEverywhere LAYERS (word_in self.new) }
-        ensures above { result ≡ true → SummariesExactExceptAt LAYERS (word_in self.new) (layer + 1)
-            (place / 64) }
-        ensures stands { result ≡ true → not (word_in self.new (layer + 1) (place / 64) == 0)
-            ≡ stands }
-        ensures lower { (l p : ℕ) → l ≤ layer → word_in self.new l p ≡ word_in self.old l p }
-        ensures lengths { (l : ℕ) → len_in self.new l ≡ len_in self.old l }
-    {
-        let before = self.slice(layer + 1)[place / 64];
-        let word = with_bit(before, place % 64, stands);
-        self.store_word(layer + 1, place / 64, word);
-        became_zero_or_nonzero(before, word, stands)
-    }
-
-    /// Updates the summary bits above a word that has just become zero or nonzero (`stands`: nonzero). It stops at the
-    /// first layer whose word does not. It is not inlined, to keep callers small.
-    #[inline(never)]
-    pub(crate) fn update_summaries(&mut self, layer: usize, place: usize, stands: bool)
-        requires layer { layer < LAYERS - 1 }
-        requires place { place < len_in self.old layer }
-        requires stands { not (word_in self.old layer place == 0) ≡ stands }
-        requires summed { SummariesExactExceptAt LAYERS (word_in self.old) layer place }
-        ensures summed { SummariesExactEverywhere LAYERS (word_in self.new) }
-        ensures lower { (l p : ℕ) → l ≤ layer → word_in self.new l p ≡ word_in self.old l p }
-        ensures lengths { (l : ℕ) → len_in self.new l ≡ len_in self.old l }
-    {
-        let mut layer = layer;
-        let mut place = place;
-        while layer + 2 < LAYERS {
-            if !self.update_parent_bit(layer, place, stands) {
-                return;
-            }
-            layer += 1;
-            place /= 64;
-        }
-        self.store_top(with_bit(self.top, place, stands));
-    }
-
     /// Applies `O` to those of the 64 words of layer 0 under `place` that `bits` selects. Returns their new summary;
     /// `summary` is the old one. Layers above are untouched.
     #[inline]
@@ -354,7 +247,7 @@ impl Layers {
         bits: usize,
         summary: usize,
     ) -> usize
-        requires range { place < 64 ^ (LAYERS - 2) }
+        requires in_range { place < 64 ^ (LAYERS - 2) }
         requires exact { Summarizes (word_in self.old 0) place summary }
         requires fits { (p : ℕ) → p < 64 ^ (LAYERS - 1) → len_in self.old 0 ≤ p
             → O.merged 0 (B.word other.now 0 p) ≡ 0 }
@@ -371,11 +264,11 @@ impl Layers {
     // Gives the vector room for so many words of layer 0, and moves the layers above it up, from the last one down. It
     // makes one request for memory at most; refused, nothing changes.
     fn reserve_layers(&mut self, room: usize) -> Result<(), AllocError>
-        requires more { room_in self.old ≤ room }
+        requires capacity_min { room_in self.old ≤ room }
         requires within { room ≤ 64 ^ (LAYERS - 1) }
         ensures same { (l p : ℕ) → word_in self.new l p ≡ word_in self.old l p }
         ensures length { len_in self.new 0 ≡ len_in self.old 0 }
-        ensures room { OnOk result (room_in self.new ≡ room) }
+        ensures capacity { OnOk result (room_in self.new ≡ room) }
     {
         let (starts, end) = starts_over(room);
         lengthen_to(&mut self.words, end)?;
@@ -387,7 +280,7 @@ impl Layers {
     // Sets the length of layer 0 to `len`, within the capacity, and of the layers above to match. The new words are 0
     // already.
     fn set_len_within(&mut self, len: usize)
-        requires more { len_in self.old 0 ≤ len }
+        requires len_min { len_in self.old 0 ≤ len }
         requires fits { len ≤ room_in self.old }
         ensures same { (l p : ℕ) → word_in self.new l p ≡ word_in self.old l p }
         ensures length { len_in self.new 0 ≡ len }
@@ -396,16 +289,16 @@ impl Layers {
     }
 
     /// Sets the length of layer 0 to `len`, and of the layers above to match, by zero words. It allocates at most once,
-    /// for a capacity of `room` words of layer 0 if that is more and not too much. If that fails, nothing changes.
-    pub(crate) fn set_len(&mut self, len: usize, room: usize) -> Result<(), AllocError>
-        requires more { len_in self.old 0 ≤ len }
+    /// for a capacity of `capacity` words of layer 0 if that is more and not too much. If that fails, nothing changes.
+    pub(crate) fn set_len(&mut self, len: usize, capacity: usize) -> Result<(), AllocError>
+        requires len_min { len_in self.old 0 ≤ len }
         requires within { len ≤ 64 ^ (LAYERS - 1) }
         ensures same { (l p : ℕ) → word_in self.new l p ≡ word_in self.old l p }
         ensures length { OnOk result (len_in self.new 0 ≡ len) }
         ensures err { OnErr result (len_in self.new 0 ≡ len_in self.old 0) }
     {
-        if self.room() < len {
-            self.reserve_layers(next_capacity(room, len))?;
+        if self.capacity() < len {
+            self.reserve_layers(next_capacity(capacity, len))?;
         }
         self.set_len_within(len);
         Ok(())
@@ -433,7 +326,7 @@ impl Layers {
 
     /// Takes all words away. The vector keeps its memory.
     pub(crate) fn clear(&mut self)
-        ensures none { (l p : ℕ) → word_in self.new l p ≡ 0 }
+        ensures zero { (l p : ℕ) → word_in self.new l p ≡ 0 }
         ensures lengths { (l : ℕ) → l < LAYERS - 1 → len_in self.new l ≡ 0 }
     {
         self.words.clear();

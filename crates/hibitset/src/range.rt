@@ -1,7 +1,7 @@
 //! Ranges of indices, added, taken out and flipped by whole words.
 #![tactic(auto, unfolding(crate::specs::BitSet::has, crate::specs::BitSet::word_of))]
 
-ghost use Rattle.std.specs.Prelude.{◌≡◌, ◌≢◌, ◌⊎◌, ℕ, ◌+◌, ◌-◌, ◌*◌, ◌/◌, ◌%◌, ◌^◌, ◌<◌, ◌≤◌, ◌==◌, ◌||◌, ◌&&◌, not, if◌then◌else◌, true, false, nat_lt, OnOk, OnErr, IsOk, max};
+ghost use Rattle.std.specs.Prelude.{◌≡◌, ◌≢◌, ◌⊎◌, ℕ, ◌+◌, ◌-◌, ◌*◌, ◌/◌, ◌%◌, ◌^◌, ◌<◌, ◌≤◌, ◌==◌, ◌||◌, ◌&&◌, not, if◌then◌else◌, true, false, OnOk, OnErr, IsOk, max};
 ghost use Rattle.std.specs.Int.{bit_at};
 ghost use Rattle.hibitset_base.specs.Sets.{bit_of};
 ghost use Rattle.hibitset_base.specs.declared.util.TheConstants.{LAYERS, MAX_EID};
@@ -13,40 +13,17 @@ ghost use Rattle.hibitset.specs.WordBits.{in_range, PutsRange};
 
 use crate::layers::Layers;
 use crate::set::BitSet;
+use hibitset_base::bits::bits_within;
 use hibitset_base::range::BitSetRange;
 use hibitset_base::util::{Index, LAYERS, MAX_EID};
 use std::alloc::AllocError;
-
-// A word of so many ones, from its lowest bit on.
-#[inline]
-fn low_bits(count: usize) -> usize
-    requires { count ≤ 64 }
-    ensures { (b : ℕ) → b < 64 → bit_at result b ≡ bit_of (nat_lt b count) }
-{
-    if count == 64 {
-        usize::MAX
-    } else {
-        (1 << count) - 1
-    }
-}
-
-// The bits of word `place` of layer 0 that stand for the indices of a range.
-#[inline]
-fn bits_within(place: usize, start: usize, end: usize) -> usize
-    requires { place < 64 ^ (LAYERS - 1) }
-    ensures { (b : ℕ) → b < 64 → bit_at result b ≡ bit_of (in_range start end (64 * place + b)) }
-{
-    let first = 64 * place;
-    let before = low_bits(start.saturating_sub(first).min(64));
-    low_bits(end.saturating_sub(first).min(64)) & !before
-}
 
 // The word with some of its bits set or cleared.
 #[inline]
 fn with_bits(word: usize, bits: usize, stands: bool) -> usize
     ensures bits { (b : ℕ) → b < 64 → bit_at result b
         ≡ (if bit_at bits b == 1 then bit_of stands else bit_at word b) }
-    ensures more { stands ≡ true → word ≤ result }
+    ensures grows { stands ≡ true → word ≤ result }
     ensures less { stands ≡ false → result ≤ word }
 {
     if stands { word | bits } else { word & !bits }
@@ -65,7 +42,7 @@ impl Layers {
     #[inline]
     fn put_bits(&mut self, layer: usize, place: usize, bits: usize, stands: bool)
         requires layer { layer < LAYERS - 1 }
-        requires place { place < len_in self.old layer }
+        requires in_range { place < len_in self.old layer }
         ensures here { (b : ℕ) → b < 64 → bit_at (word_in self.new layer place) b
             ≡ (if bit_at bits b == 1 then bit_of stands else bit_at (word_in self.old layer place)
             b) }
@@ -102,7 +79,7 @@ impl Layers {
     fn put_range(&mut self, layer: usize, from: usize, to: usize, stands: bool)
         requires layer { layer < LAYERS - 1 }
         requires order { from < to }
-        requires room { to ≤ 64 * len_in self.old layer }
+        requires long_enough { to ≤ 64 * len_in self.old layer }
         requires within { to ≤ MAX_EID }
         ensures put { PutsRange stands from to (word_in self.old layer) (word_in self.new layer) }
         ensures layers { (l p : ℕ) → l ≢ layer → word_in self.new l p ≡ word_in self.old l p }
@@ -110,10 +87,10 @@ impl Layers {
     {
         let first = from / 64;
         let last = (to - 1) / 64;
-        self.put_bits(layer, first, bits_within(first, from, to), stands);
+        self.put_bits(layer, first, bits_within(64 * first, from, to), stands);
         if first < last {
             self.put_words(layer, first + 1, last, whole_word(stands));
-            self.put_bits(layer, last, bits_within(last, from, to), stands);
+            self.put_bits(layer, last, bits_within(64 * last, from, to), stands);
         }
     }
 
@@ -121,7 +98,7 @@ impl Layers {
     // it touches.
     fn set_range(&mut self, start: usize, end: usize)
         requires order { start < end }
-        requires room { end ≤ 64 * len_in self.old 0 }
+        requires long_enough { end ≤ 64 * len_in self.old 0 }
         requires within { end ≤ MAX_EID }
         requires summed { SummariesExactEverywhere LAYERS (word_in self.old) }
         ensures filled { PutsRange true start end (word_in self.old 0) (word_in self.new 0) }
@@ -159,7 +136,7 @@ impl Layers {
     #[inline]
     fn last_zero_word(&self, layer: usize, to: usize) -> usize
         requires layer { layer < LAYERS - 1 }
-        requires some { 0 < to }
+        requires nonzero { 0 < to }
         ensures { result ≡ (if word_in self.now layer ((to - 1) / 64) == 0 then (to - 1) / 64
             + 1 else (to - 1) / 64) }
     {
@@ -175,7 +152,7 @@ impl Layers {
     // that have become zero.
     fn clear_range(&mut self, start: usize, end: usize)
         requires order { start < end }
-        requires room { end ≤ 64 * len_in self.old 0 }
+        requires long_enough { end ≤ 64 * len_in self.old 0 }
         requires within { end ≤ MAX_EID }
         requires summed { SummariesExactEverywhere LAYERS (word_in self.old) }
         ensures blanked { PutsRange false start end (word_in self.old 0) (word_in self.new 0) }
@@ -220,7 +197,7 @@ impl BitSet {
             → has self.new i ≡ (has self.old i || in_range start end i)) }
         ensures err { OnErr result ((i : ℕ) → has self.new i ≡ has self.old i) }
         ensures succeeds { end ≤ 64 * slice_len self.old 0 → IsOk result }
-        ensures none { end ≤ start → IsOk result }
+        ensures succeeds_empty { end ≤ start → IsOk result }
         ensures len_min { slice_len self.old 0 ≤ slice_len self.new 0 }
         ensures len_max { slice_len self.new 0 ≤ max (slice_len self.old 0) ((end - 1) / 64 + 1) }
         ensures upper_len_max { (l : ℕ) → l < LAYERS - 1
@@ -268,7 +245,7 @@ impl BitSet {
             → has self.new i ≡ differ (has self.old i) (in_range start end i)) }
         ensures err { OnErr result ((i : ℕ) → has self.new i ≡ has self.old i) }
         ensures succeeds { end ≤ 64 * slice_len self.old 0 → IsOk result }
-        ensures none { end ≤ start → IsOk result }
+        ensures succeeds_empty { end ≤ start → IsOk result }
         ensures len_min { slice_len self.old 0 ≤ slice_len self.new 0 }
         ensures len_max { slice_len self.new 0 ≤ max (slice_len self.old 0) ((end - 1) / 64 + 1) }
         ensures upper_len_max { (l : ℕ) → l < LAYERS - 1

@@ -1,7 +1,7 @@
 //! The set that keeps its words.
 #![tactic(auto, unfolding(crate::specs::BitSet::has, crate::specs::BitSet::word_of))]
 
-ghost use Rattle.std.specs.Prelude.{◌≡◌, ◌≢◌, ℕ, ◌+◌, ◌-◌, ◌*◌, ◌/◌, ◌%◌, ◌^◌, ◌<◌, ◌≤◌, ◌==◌, ◌||◌, ◌&&◌, not, if◌then◌else◌, ◌↔◌, Bool, true, false, List, [], ◌∷◌, get_or, length, slice_index_or, OnOk, OnErr, IfOk, IsOk, max, refl};
+ghost use Rattle.std.specs.Prelude.{◌≡◌, ℕ, ◌+◌, ◌-◌, ◌*◌, ◌/◌, ◌%◌, ◌^◌, ◌<◌, ◌≤◌, ◌==◌, ◌||◌, ◌&&◌, not, if◌then◌else◌, ◌↔◌, Bool, false, List, [], ◌∷◌, get_or, length, slice_index_or, OnOk, OnErr, IfOk, IsOk, max, refl};
 ghost use Rattle.std.specs.Int.{bit_at};
 ghost use Rattle.hibitset_base.specs.Words.{SummariesExactEverywhere, holds_at};
 ghost use Rattle.hibitset.specs.WordBits.{stands_in};
@@ -10,7 +10,6 @@ ghost use Rattle.hibitset_base.specs.declared.util.TheConstants.{LAYERS, MAX_EID
 
 use crate::growth::{Adds, Growth};
 use crate::layers::Layers;
-use crate::layout::became_zero_or_nonzero;
 use hibitset_base::bits::with_bit;
 use hibitset_base::like::{BitSetLike, DrainableBitSet};
 use hibitset_base::util::{Index, LAYERS, MAX_EID};
@@ -67,7 +66,7 @@ impl BitSet {
     pub fn with_capacity(alloc: Global, max: Index) -> Result<BitSet, AllocError>
         requires { max ≤ MAX_EID }
         ensures empty { IfOk result (λ set. (i : ℕ) → has set i ≡ false) }
-        ensures room { IfOk result (λ set. (i : ℕ) → i < max → i / 64 < slice_len set 0) }
+        ensures capacity { IfOk result (λ set. (i : ℕ) → i < max → i / 64 < slice_len set 0) }
         ensures length { IfOk result (λ set. slice_len set 0 ≡ (max + 63) / 64) }
         ensures upper_len_max { IfOk result
             (λ set. (l end : ℕ) → l < LAYERS - 1 → max ≤ 64 ^ (l + 1) * end
@@ -81,8 +80,8 @@ impl BitSet {
     // needs no room tests one length alone.
     #[inline(never)]
     pub(crate) fn ensure_word<G: Growth>(&mut self, id: Index) -> Result<(), AllocError>
-        requires range { id < MAX_EID }
-        requires more { slice_len self.old 0 ≤ id / 64 }
+        requires in_range { id < MAX_EID }
+        requires lacks_word { slice_len self.old 0 ≤ id / 64 }
         ensures same { (l p : ℕ) → word_of self.new l p ≡ word_of self.old l p }
         ensures len_min { slice_len self.old 0 ≤ slice_len self.new 0 }
         ensures len_max { slice_len self.new 0 ≤ max (slice_len self.old 0) (id / 64 + 1) }
@@ -92,8 +91,8 @@ impl BitSet {
         ensures covers { OnOk result (id / 64 < slice_len self.new 0) }
     {
         let len = id as usize / 64 + 1;
-        let room = G::room(self.layers.room(), len);
-        self.layers.set_len(len, room)
+        let capacity = G::capacity(self.layers.capacity(), len);
+        self.layers.set_len(len, capacity)
     }
 
     // Makes room for the words over `id`, and changes no word.
@@ -115,31 +114,11 @@ impl BitSet {
         self.ensure_word::<Adds>(id)
     }
 
-    // Puts a word into layer 0 in the place of the word `before`, of which one bit was set or cleared, and sets the
-    // summaries over it right, as far up as one becomes zero or nonzero.
-    #[inline]
-    pub(crate) fn store_word(&mut self, place: usize, before: usize, word: usize, stands: bool)
-        requires place { place < slice_len self.old 0 }
-        requires before { before ≡ word_of self.old 0 place }
-        requires set { stands ≡ true → 0 < word }
-        requires cleared { stands ≡ false → 0 < before }
-        ensures here { word_of self.new 0 place ≡ word }
-        ensures others { (p : ℕ) → p ≢ place → word_of self.new 0 p ≡ word_of self.old 0 p }
-        ensures length { slice_len self.new 0 ≡ slice_len self.old 0 }
-    {
-        self.layers.store_word(0, place, word);
-        if became_zero_or_nonzero(before, word, stands)
-            && self.layers.update_parent_bit(0, place, stands)
-        {
-            self.layers.update_summaries(1, place / 64, stands);
-        }
-    }
-
     // Puts an index in or takes it out, where there is room for it, and returns whether it was there.
     #[inline]
     fn set_bit(&mut self, id: Index, stands: bool) -> bool
         requires { id / 64 < slice_len self.old 0 }
-        ensures was { result ≡ has self.old id }
+        ensures was_member { result ≡ has self.old id }
         ensures put { (i : ℕ) → has self.new i ≡ (if i == id then stands else has self.old i) }
         ensures length { slice_len self.new 0 ≡ slice_len self.old 0 }
     {
@@ -149,7 +128,7 @@ impl BitSet {
         if word == before {
             return stands;
         }
-        self.store_word(place, before, word, stands);
+        self.layers.replace_word(place, before, word, stands);
         !stands
     }
 
@@ -168,7 +147,7 @@ impl BitSet {
     #[inline]
     pub fn add(&mut self, id: Index) -> Result<bool, AllocError>
         requires { id < MAX_EID }
-        ensures was { IfOk result (λ was. was ≡ has self.old id) }
+        ensures was_member { IfOk result (λ was. was ≡ has self.old id) }
         ensures added { OnOk result ((i : ℕ) → has self.new i ≡ (has self.old i || i == id)) }
         ensures err { OnErr result ((i : ℕ) → has self.new i ≡ has self.old i) }
         ensures succeeds { id / 64 < slice_len self.old 0 → IsOk result }
@@ -185,7 +164,7 @@ impl BitSet {
     /// Takes an index out, and returns whether it was there.
     #[inline]
     pub fn remove(&mut self, id: Index) -> bool
-        ensures was { result ≡ has self.old id }
+        ensures was_member { result ≡ has self.old id }
         ensures removed { (i : ℕ) → has self.new i ≡ (has self.old i && not (i == id)) }
         ensures length { slice_len self.new 0 ≡ slice_len self.old 0 }
     {
@@ -212,7 +191,7 @@ impl BitSet {
     pub fn layer0_as_slice(&self) -> &[usize]
         ensures members { (i : ℕ) → has self.now i ≡ stands_in result.now i }
         ensures length { length result.now ≡ slice_len self.now 0 }
-        ensures short { length result.now ≤ 64 ^ (LAYERS - 1) }
+        ensures len_max { length result.now ≤ 64 ^ (LAYERS - 1) }
         ensures words { (p : ℕ) → slice_index_or result.now p 0 ≡ word_of self.now 0 p }
     {
         self.layers.slice(0)
@@ -222,7 +201,7 @@ impl BitSet {
     #[inline]
     pub fn layer1_as_slice(&self) -> &[usize]
         ensures length { length result.now ≡ slice_len self.now 1 }
-        ensures short { length result.now ≤ 64 ^ (LAYERS - 2) }
+        ensures len_max { length result.now ≤ 64 ^ (LAYERS - 2) }
         ensures words { (p : ℕ) → slice_index_or result.now p 0 ≡ word_of self.now 1 p }
     {
         self.layers.slice(1)
@@ -232,7 +211,7 @@ impl BitSet {
     #[inline]
     pub fn layer2_as_slice(&self) -> &[usize]
         ensures length { length result.now ≡ slice_len self.now 2 }
-        ensures short { length result.now ≤ 64 ^ (LAYERS - 3) }
+        ensures len_max { length result.now ≤ 64 ^ (LAYERS - 3) }
         ensures words { (p : ℕ) → slice_index_or result.now p 0 ≡ word_of self.now 2 p }
     {
         self.layers.slice(2)
@@ -242,7 +221,7 @@ impl BitSet {
     #[inline]
     pub fn layer3_as_slice(&self) -> &[usize]
         ensures length { length result.now ≡ slice_len self.now 3 }
-        ensures short { length result.now ≤ 64 ^ (LAYERS - 4) }
+        ensures len_max { length result.now ≤ 64 ^ (LAYERS - 4) }
         ensures words { (p : ℕ) → slice_index_or result.now p 0 ≡ word_of self.now 3 p }
     {
         self.layers.slice(3)

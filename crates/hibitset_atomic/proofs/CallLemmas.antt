@@ -5,13 +5,13 @@ use Rattle.hibitset_atomic.specs.declared.steps.event.Event.TheVariants.{Begin, 
 use Rattle.hibitset_atomic.specs.declared.steps.event.StepError.{StepError}
 use Rattle.hibitset_atomic.specs.declared.steps.event.StepError.TheVariants.{Used}
 use Rattle.std.proofs.Math.Nat.{pow-suc, div-div-eq-div-mul}
+use Rattle.std.proofs.lemmas.Bool.{or_cases, or_left, or_right, cases_Bool, and_parts, eqb-true}
 use Rattle.hibitset_base.specs.Decisions.{eq_same}
 use Rattle.hibitset_atomic.specs.declared.steps.calls.Call.{Call}
 use Rattle.hibitset_base.specs.Sets.{bit_of}
 use Rattle.hibitset_atomic.specs.History.{one_layer_more, call_of, is_at, passes, has_passed, bit_of_history, is_taken, refusal, is_accepted, IsAccepted}
 use Rattle.hibitset_atomic.specs.HistoryFacts.{reports, IsAtRest}
-use Rattle.hibitset_atomic.proofs.SpanLemmas.{true_or_false, or_cases, or_left, or_right}
-use Rattle.hibitset_atomic.proofs.HistoryBitLemmas.{Sound, and_both, eq_true, calls_sound, stands-found, stands-from}
+use Rattle.hibitset_atomic.proofs.HistoryBitLemmas.{Sound, calls_sound, stands-found, stands-from}
 
 -- new once
 
@@ -47,17 +47,17 @@ taken_some x call e = rw e refl
 
 at_call : (x : Option Call) (l i : ℕ) → is_at x l i ≡ true → (call : Call) × (x ≡ Some call) × (call.passed ≡ l) × (call.index ≡ i)
 at_call None l i h = absurd (let k : false ≡ true = h in cc)
-at_call (Some call) l i h = let both = and_both (call.passed == l) (call.index == i) h in (call, refl, eq_true call.passed l both.0, eq_true call.index i both.1)
+at_call (Some call) l i h = let both = and_parts (call.passed == l) (call.index == i) h in (call, refl, eqb-true call.passed l both.0, eqb-true call.index i both.1)
 
 not_taken : (x : Option StepError) → not (is_taken x) ≡ true → x ≡ None
 not_taken None h = refl
 not_taken (Some e) h = absurd (let k : false ≡ true = h in cc)
 
 pub ok_here : (n : ℕ) (old : ℕ → Bool) (e : Event) (past : List Event) → IsAccepted n old (e ∷ past) → refusal n old past e ≡ None
-ok_here n old e past ok = not_taken (refusal n old past e) (and_both (not (is_taken (refusal n old past e))) (is_accepted n old past) ok).0
+ok_here n old e past ok = not_taken (refusal n old past e) (and_parts (not (is_taken (refusal n old past e))) (is_accepted n old past) ok).0
 
 pub ok_rest : (n : ℕ) (old : ℕ → Bool) (e : Event) (past : List Event) → IsAccepted n old (e ∷ past) → IsAccepted n old past
-ok_rest n old e past ok = (and_both (not (is_taken (refusal n old past e))) (is_accepted n old past) ok).1
+ok_rest n old e past ok = (and_parts (not (is_taken (refusal n old past e))) (is_accepted n old past) ok).1
 
 pub ok-more : (n : ℕ) (old : ℕ → Bool) (e : Event) (past : List Event) → refusal n old past e ≡ None → IsAccepted n old past → IsAccepted n old (e ∷ past)
 ok-more n old e past here rest = rw (here, rest) refl
@@ -67,9 +67,9 @@ passer n old [] l i ok h = absurd (let k : false ≡ true = h in cc)
 passer n old (Begin number index ∷ past) l i ok h =
     let p = passer n old past l i (ok_rest n old (Begin number index) past ok) h in
     let free : is_taken (call_of past number) ≡ false = begin_free (is_taken (call_of past number)) n index _ (ok_here n old (Begin number index) past ok) in
-    elim (true_or_false (number == p.number)) [
+    elim (cases_Bool (number == p.number)) [
       | inl same ↦
-          let e : number ≡ p.number = eq_true number p.number same in
+          let e : number ≡ p.number = eqb-true number p.number same in
           let t : is_taken (call_of past p.number) ≡ true = taken_some (call_of past p.number) p.call p.is in
           absurd (let f = rw e at free in let k : true ≡ false = sym t ∙ f in cc)
       | inr other ↦ record { number = p.number; call = p.call; is = rw other p.is; on = p.on; far = p.far }
@@ -84,7 +84,7 @@ passer n old (Step number ∷ past) l i ok h = elim (or_cases (passes past (Step
       record { number = number; call = record { index = (a.0).index; passed = (a.0).passed + 1 }; is = rw same (ap one_layer_more a.1); on = a.3; far = omega arith }
   | inr before ↦
       let p = passer n old past l i (ok_rest n old (Step number) past ok) before in
-      elim (true_or_false (number == p.number)) [
+      elim (cases_Bool (number == p.number)) [
         | inl same ↦ let f = p.far in record { number = p.number; call = record { index = (p.call).index; passed = (p.call).passed + 1 }; is = rw (same, p.is) refl; on = p.on; far = omega arith }
         | inr other ↦ record { number = p.number; call = p.call; is = rw other p.is; on = p.on; far = p.far }
       ]

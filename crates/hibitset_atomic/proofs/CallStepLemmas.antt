@@ -1,20 +1,19 @@
 -- What a step of a call does to the words.
-use Rattle.std.proofs.Common.{◌≡◌, ◌≢◌, ℕ, ◌+◌, ◌/◌, ◌%◌, ◌^◌, ◌<◌, ◌≤◌, Bool, true, false, cond, ◌&&◌, ◌||◌, ◌==◌, List, [], ◌∷◌, refl, sym, ◌∙◌, ap, subst, arith, ◌⊎◌, inl, inr, Option, Some, None, bit_or, nat_lt}
+use Rattle.std.proofs.Common.{◌≡◌, ◌≢◌, ℕ, ◌+◌, ◌/◌, ◌%◌, ◌^◌, ◌<◌, ◌≤◌, Bool, true, false, cond, ◌&&◌, ◌||◌, ◌==◌, List, [], ◌∷◌, refl, sym, ◌∙◌, ap, subst, arith, inl, inr, Option, Some, None, bit_or, nat_lt}
 use Rattle.std.specs.Int.{bit_at}
 use Rattle.std.proofs.Math.Nat.{eq-or-lt_of_le}
-use Rattle.std.proofs.lemmas.Bool.{cases_lt}
+use Rattle.std.proofs.lemmas.Bool.{or_cases, or_left, or_right, cases_Bool, and_parts, eqb-true}
 use Rattle.std.proofs.lemmas.Bool.Decides.{nat_tests}
-use Rattle.std.proofs.lemmas.Nat.Bits.{bit_at-lt, bit_at_or, bit_at-pow_same, bit_at-pow_other}
-use Rattle.hibitset_base.specs.Decisions.{eq_same}
+use Rattle.hibitset_base.specs.Decisions.{eq_same, eq_other, same_or_not}
 use Rattle.hibitset_atomic.specs.declared.steps.calls.Call.{Call}
 use Rattle.hibitset_atomic.specs.declared.steps.event.Event.{Event}
 use Rattle.hibitset_atomic.specs.declared.steps.event.Event.TheVariants.{Begin, Step, Open, Read}
 use Rattle.hibitset_atomic.specs.declared.steps.event.StepError.TheVariants.{Used, Range, Ended}
 use Rattle.hibitset_atomic.specs.History.{one_layer_more, call_of, is_at, passes, has_passed, bit_of_history, is_taken, refused_step, IsAccepted}
 use Rattle.hibitset_atomic.specs.LayerBits.{layer_bit}
-use Rattle.hibitset_atomic.proofs.SpanLemmas.{or_cases, or_left, or_right, true_or_false}
-use Rattle.hibitset_atomic.proofs.HistoryBitLemmas.{and_both, eq_true, stands-found, stands-from, stands-stays}
+use Rattle.hibitset_atomic.proofs.HistoryBitLemmas.{stands-found, stands-from, stands-stays}
 use Rattle.hibitset_atomic.proofs.CallLemmas.{ok_here, ok_rest, passer}
+use Rattle.hibitset_atomic.proofs.OrBitLemmas.{sets, others}
 
 pub same_truth : (a b : Bool) → (a ≡ true → b ≡ true) → (b ≡ true → a ≡ true) → a ≡ b
 same_truth true b f g = sym (f refl)
@@ -36,7 +35,7 @@ fits_cond n false x y h k = k
 
 begin_range : (n index : ℕ) (b : Bool) → cond b (Some Used) (cond (nat_lt index (64 ^ n)) None (Some Range)) ≡ None → index < 64 ^ n
 begin_range n index true h = absurd (let k : Some Used ≡ None = h in cc)
-begin_range n index false h = elim (true_or_false (nat_lt index (64 ^ n))) [
+begin_range n index false h = elim (cases_Bool (nat_lt index (64 ^ n))) [
   | inl below ↦ (let b = below in grind (arith, nat_tests))
   | inr not-below ↦ absurd (let k : cond (nat_lt index (64 ^ n)) None (Some Range) ≡ None = h in let l = rw not-below at k in let m : Some Range ≡ None = l in cc)
 ]
@@ -57,9 +56,9 @@ calls-fit n old (Begin number index ∷ past) c ok =
     fits_cond n (number == c) (Some (record { index = index; passed = 0 })) (call_of past c)
     (omega arith, begin_range n index (is_taken (call_of past number)) (ok_here n old (Begin number index) past ok))
     (calls-fit n old past c (ok_rest n old (Begin number index) past ok))
-calls-fit n old (Step number ∷ past) c ok = elim (true_or_false (number == c)) [
+calls-fit n old (Step number ∷ past) c ok = elim (cases_Bool (number == c)) [
   | inl same ↦
-      let e : number ≡ c = eq_true number c same in
+      let e : number ≡ c = eqb-true number c same in
       let h : refused_step n (call_of past c) ≡ None = subst (λ k. refused_step n (call_of past k) ≡ None) e (ok_here n old (Step number) past ok) in
       rw same (step_fits n (call_of past c) h (calls-fit n old past c (ok_rest n old (Step number) past ok)))
   | inr other ↦ rw other (calls-fit n old past c (ok_rest n old (Step number) past ok))
@@ -90,9 +89,9 @@ stands-step old past number call l q is =
       | inr new ↦ elim (or_cases (passes past (Step number) l u.index) (has_passed past l u.index) new) [
         | inl here ↦
             let at : is_at (Some call) l u.index ≡ true = (let k : is_at (call_of past number) l u.index ≡ true = here in rw is at k) in
-            let both = and_both (call.passed == l) (call.index == u.index) at in
-            let p : call.passed ≡ l = eq_true call.passed l both.0 in
-            let x : call.index ≡ u.index = eq_true call.index u.index both.1 in
+            let both = and_parts (call.passed == l) (call.index == u.index) at in
+            let p : call.passed ≡ l = eqb-true call.passed l both.0 in
+            let x : call.index ≡ u.index = eqb-true call.index u.index both.1 in
             let way : q ≡ call.index / 64 ^ l = sym (ap (λ k. k / 64 ^ l) x ∙ u.lies) in
             or_left (l == call.passed && q == call.index / 64 ^ l) (bit_of_history old past l q) (and_true (l == call.passed) (q == call.index / 64 ^ l) (eq_same l call.passed (sym p)) (eq_same q (call.index / 64 ^ l) way))
         | inr before ↦ or_right (l == call.passed && q == call.index / 64 ^ l) (bit_of_history old past l q) (subst (λ k. bit_of_history old past l k ≡ true) u.lies (stands-from old past l u.index (or_right (old u.index) (has_passed past l u.index) before)))
@@ -100,9 +99,9 @@ stands-step old past number call l q is =
     ])
     (λ h. elim (or_cases (l == call.passed && q == call.index / 64 ^ l) (bit_of_history old past l q) h) [
       | inl here ↦
-          let both = and_both (l == call.passed) (q == call.index / 64 ^ l) here in
-          let p : l ≡ call.passed = eq_true l call.passed both.0 in
-          let way : q ≡ call.index / 64 ^ l = eq_true q (call.index / 64 ^ l) both.1 in
+          let both = and_parts (l == call.passed) (q == call.index / 64 ^ l) here in
+          let p : l ≡ call.passed = eqb-true l call.passed both.0 in
+          let way : q ≡ call.index / 64 ^ l = eqb-true q (call.index / 64 ^ l) both.1 in
           let at : passes past (Step number) l call.index ≡ true = rw is (and_true (call.passed == l) (call.index == call.index) (eq_same call.passed l (sym p)) (eq_same call.index call.index refl)) in
           subst (λ k. bit_of_history old (Step number ∷ past) l k ≡ true) (sym way) (stands-from old (Step number ∷ past) l call.index (or_right (old call.index) (has_passed (Step number ∷ past) l call.index) (or_left (passes past (Step number) l call.index) (has_passed past l call.index) at)))
       | inr before ↦ stands-stays old (Step number) past l q before
@@ -110,34 +109,19 @@ stands-step old past number call l q is =
 
 -- the real words after a bit is set
 
-set_same : (x b : ℕ) → bit_at (bit_or x (2 ^ b)) b ≡ 1
-set_same x b = let h = bit_at_or x (2 ^ b) b in let k = bit_at-pow_same b in let l = bit_at-lt x b in omega arith
-
-set_other : (x b c : ℕ) → c ≢ b → bit_at (bit_or x (2 ^ b)) c ≡ bit_at x c
-set_other x b c other = let h = bit_at_or x (2 ^ b) c in let k = bit_at-pow_other b c other in omega arith
-
-eq_not : (a b : ℕ) → a ≢ b → (a == b) ≡ false
-eq_not a b other = grind (arith, nat_tests)
-
-same_or_not : (a b : ℕ) → (a ≡ b) ⊎ (a ≢ b)
-same_or_not a b = elim (cases_lt a b) [
-  | inl less ↦ inr (omega arith)
-  | inr more ↦ elim (eq-or-lt_of_le more) [ inl e ↦ inl (sym e) | inr less ↦ inr (omega arith) ]
-]
-
 pub lit-set : (w v : ℕ → ℕ → ℕ) (layer bit l q : ℕ) → ((l p : ℕ) → v l p ≡ cond (l == layer && p == bit / 64) (bit_or (w l p) (2 ^ (bit % 64))) (w l p))
     → layer_bit v l q ≡ ((l == layer && q == bit) || layer_bit w l q)
 lit-set w v layer bit l q set = elim (same_or_not l layer) [
   | inr other ↦
-      let t : (l == layer) ≡ false = eq_not l layer other in
+      let t : (l == layer) ≡ false = eq_other l layer other in
       let e : v l (q / 64) ≡ w l (q / 64) = (let s = set l (q / 64) in rw t at s) in
       rw (t, e) refl
   | inl here ↦ elim (same_or_not (q / 64) (bit / 64)) [
     | inr other ↦
-        let t : (q / 64 == bit / 64) ≡ false = eq_not (q / 64) (bit / 64) other in
+        let t : (q / 64 == bit / 64) ≡ false = eq_other (q / 64) (bit / 64) other in
         let d : (l == layer) ≡ true = eq_same l layer here in
         let e : v l (q / 64) ≡ w l (q / 64) = (let s = set l (q / 64) in rw (d, t) at s) in
-        let n : (q == bit) ≡ false = eq_not q bit (λ k. other (ap (λ x. x / 64) k)) in
+        let n : (q == bit) ≡ false = eq_other q bit (λ k. other (ap (λ x. x / 64) k)) in
         rw (d, n, e) refl
     | inl word ↦
         let t : (q / 64 == bit / 64) ≡ true = eq_same (q / 64) (bit / 64) word in
@@ -147,12 +131,12 @@ lit-set w v layer bit l q set = elim (same_or_not l layer) [
           | inl same ↦
               let y : (q == bit) ≡ true = eq_same q bit same in
               let b : q % 64 ≡ bit % 64 = ap (λ x. x % 64) same in
-              let one : bit_at (bit_or (w l (q / 64)) (2 ^ (bit % 64))) (bit % 64) ≡ 1 = set_same (w l (q / 64)) (bit % 64) in
+              let one : bit_at (bit_or (w l (q / 64)) (2 ^ (bit % 64))) (bit % 64) ≡ 1 = sets (w l (q / 64)) (bit % 64) in
               rw (d, y, e, b, one) refl
           | inr differs ↦
-              let y : (q == bit) ≡ false = eq_not q bit differs in
+              let y : (q == bit) ≡ false = eq_other q bit differs in
               let b : q % 64 ≢ bit % 64 = (λ k. differs (omega arith)) in
-              let zero-is : bit_at (bit_or (w l (q / 64)) (2 ^ (bit % 64))) (q % 64) ≡ bit_at (w l (q / 64)) (q % 64) = set_other (w l (q / 64)) (bit % 64) (q % 64) b in
+              let zero-is : bit_at (bit_or (w l (q / 64)) (2 ^ (bit % 64))) (q % 64) ≡ bit_at (w l (q / 64)) (q % 64) = others (w l (q / 64)) (bit % 64) (q % 64) b in
               rw (d, y, e, zero-is) refl
         ]
   ]

@@ -1,15 +1,15 @@
 -- Places of a cursor, and the words that they stand for.
 use Rattle.std.proofs.Common.{◌≡◌, ℕ, ◌-◌, ◌<◌, Bool, true, false, cond, List, [], ◌∷◌, ◌++◌, refl, ap, subst, IsTrue, ◌↔◌, ◌&&◌, nat_lt, arith}
 use Rattle.std.proofs.lemmas.Bool.Decides.{nat_tests}
+use Rattle.std.proofs.lemmas.Bool.{and_parts}
 use Rattle.hibitset_base.specs.Places.{Place, places_in}
 use Rattle.hibitset_atomic.specs.Ahead.{word_below, words_below, are_above, AllAbove}
-use Rattle.hibitset_atomic.proofs.HistoryBitLemmas.{and_both}
 
 both : (x : ℕ) (b : Bool) → 0 < x → b ≡ true → (nat_lt 0 x && b) ≡ true
 both x b some e = let t : nat_lt 0 x ≡ true = grind (arith, nat_tests) in rw (t, e) refl
 
 of_both : (x : ℕ) (b : Bool) → (nat_lt 0 x && b) ≡ true → (0 < x) × (b ≡ true)
-of_both x b h = let k = and_both (nat_lt 0 x) b h in let t = k.0 in (grind (arith, nat_tests), k.1)
+of_both x b h = let k = and_parts (nat_lt 0 x) b h in let t = k.0 in (grind (arith, nat_tests), k.1)
 
 pub above-append : (ps qs : List Place) → AllAbove ps → AllAbove qs → AllAbove (ps ++ qs)
 above-append [] qs h k = k

@@ -1,21 +1,14 @@
 -- Which bits are set after a past.
-use Rattle.std.proofs.Common.{◌≡◌, ℕ, suc, ◌+◌, ◌-◌, ◌*◌, ◌/◌, ◌^◌, ◌<◌, ◌≤◌, Bool, true, false, cond, ◌&&◌, ◌||◌, ◌==◌, List, [], ◌∷◌, refl, sym, ◌∙◌, subst, arith, inl, inr, Option, Some, None, lit<}
+use Rattle.std.proofs.Common.{◌≡◌, ℕ, suc, ◌+◌, ◌-◌, ◌*◌, ◌/◌, ◌^◌, ◌<◌, ◌≤◌, Bool, true, false, cond, ◌||◌, ◌==◌, List, [], ◌∷◌, refl, sym, ◌∙◌, subst, arith, inl, inr, Option, Some, None, lit<}
 use Rattle.std.proofs.Math.Nat.{eq-or-lt_of_le, pow-suc, lt-mul-div-succ, div-eq_of_lt-le, div-div-eq-div-mul, one-le-pow, div-mul-le_self}
-use Rattle.std.proofs.lemmas.Bool.Decides.{nat_tests}
+use Rattle.std.proofs.lemmas.Bool.{or_cases, or_left, or_right, cases_Bool, and_parts, eqb-true}
 use Rattle.hibitset_base.specs.Decisions.{eq_same}
 use Rattle.hibitset_atomic.specs.declared.steps.event.Event.{Event}
 use Rattle.hibitset_atomic.specs.declared.steps.event.Event.TheVariants.{Begin, Step, Open, Read}
 use Rattle.hibitset_atomic.specs.declared.steps.calls.Call.{Call}
 use Rattle.hibitset_atomic.specs.History.{some_in, one_layer_more, call_of, is_at, passes, has_passed, bit_of_history}
 use Rattle.hibitset_atomic.specs.HistoryFacts.{is_finished}
-use Rattle.hibitset_atomic.proofs.SpanLemmas.{or_cases, or_left, or_right, true_or_false, some_in-found, some_in-here}
-
-pub and_both : (a b : Bool) → (a && b) ≡ true → (a ≡ true) × (b ≡ true)
-and_both true b h = (refl, h)
-and_both false b h = absurd (let k : false ≡ true = h in cc)
-
-pub eq_true : (a b : ℕ) → (a == b) ≡ true → a ≡ b
-eq_true a b h = grind (arith, nat_tests)
+use Rattle.hibitset_atomic.proofs.SpanLemmas.{some_in-found, some_in-here}
 
 -- a call on i has passed the first k layers
 abbrev pub Passed : List Event → ℕ → ℕ → Type 0
@@ -48,9 +41,9 @@ pub calls_sound : (past : List Event) (c : ℕ) → Sound past (call_of past c)
 calls_sound [] c = tt
 calls_sound (Begin number index ∷ past) c =
     sound_cond (number == c) (Begin number index ∷ past) (Some (record { index = index; passed = 0 })) (call_of past c) (λ l below. absurd (omega arith)) (sound_later (Begin number index) past (call_of past c) (calls_sound past c))
-calls_sound (Step number ∷ past) c = elim (true_or_false (number == c)) [
+calls_sound (Step number ∷ past) c = elim (cases_Bool (number == c)) [
   | inl same ↦
-      let e : number ≡ c = eq_true number c same in
+      let e : number ≡ c = eqb-true number c same in
       rw same (subst (λ k. Sound (Step k ∷ past) (one_layer_more (call_of past c))) (sym e) (sound_step c past (call_of past c) refl (calls_sound past c)))
   | inr other ↦ rw other (sound_later (Step number) past (call_of past c) (calls_sound past c))
 ]
@@ -60,9 +53,9 @@ calls_sound (Read number ∷ past) c = sound_later (Read number) past (call_of p
 is_at-passed : (past : List Event) (call : Option Call) (l i : ℕ) → Sound past call → is_at call l i ≡ true → Passed past i l
 is_at-passed past None l i h at = absurd (let k : false ≡ true = at in cc)
 is_at-passed past (Some call) l i h at =
-    let both = and_both (call.passed == l) (call.index == i) at in
-    let p : call.passed ≡ l = eq_true call.passed l both.0 in
-    let x : call.index ≡ i = eq_true call.index i both.1 in
+    let both = and_parts (call.passed == l) (call.index == i) at in
+    let p : call.passed ≡ l = eqb-true call.passed l both.0 in
+    let x : call.index ≡ i = eqb-true call.index i both.1 in
     λ m below. subst (λ k. has_passed past m k ≡ true) x (h m (omega arith))
 
 -- who has passed a layer has passed those below it

@@ -1,16 +1,19 @@
 -- Walks in a past are honest.
 use Rattle.std.proofs.Common.{◌≡◌, ℕ, zero, suc, ◌+◌, ◌-◌, ◌*◌, ◌/◌, ◌^◌, ◌<◌, ◌≤◌, Bool, true, false, cond, ◌==◌, List, [], ◌∷◌, ◌++◌, refl, sym, ap, subst, arith, ◌⊎◌, inl, inr, Option, Some, None}
-use Rattle.std.proofs.Math.Nat.{pow-suc, div-div-eq-div-mul, div-eq_of_lt}
+use Rattle.std.proofs.Math.Nat.{div-eq_of_lt}
+use Rattle.std.proofs.lemmas.Bool.{cases_Bool, eqb-true}
 use Rattle.hibitset_atomic.specs.declared.steps.event.Event.{Event}
 use Rattle.hibitset_atomic.specs.declared.steps.event.Event.TheVariants.{Begin, Step, Open, Read}
 use Rattle.hibitset_base.specs.Places.{Place, places_in}
+use Rattle.hibitset_base.proofs.LayerLemmas.{zero_or_above}
 use Rattle.hibitset_atomic.specs.History.{some_in, bits, Walk, read_word, read_first, reads_on, new_walk, walk_after, walk_of, bit_of_history}
 use Rattle.hibitset_atomic.specs.Lists.{Has}
 use Rattle.hibitset_atomic.specs.HistoryFacts.{is_finished, finished_before, items_in, WasThere, IsHonest}
-use Rattle.hibitset_atomic.proofs.SpanLemmas.{true_or_false, members-has, members-holds, members-between, between-has, between-wider, ranges-le, has-append, has-left, has-right}
-use Rattle.hibitset_atomic.proofs.ListLemmas.{contains-from_has, has-from_contains}
-use Rattle.hibitset_atomic.proofs.HistoryBitLemmas.{eq_true, summary, stands-stays, path-stands, finished-stays}
-use Rattle.hibitset_atomic.proofs.WalkReadLemmas.{Sane, sane-more, sane_items, sane_places, zero_or_more, first_layer, not_nil}
+use Rattle.hibitset_atomic.proofs.SpanLemmas.{members-has, members-holds, members-between, between-has, between-wider, ranges-le}
+use Rattle.hibitset_atomic.proofs.ListLemmas.{contains-from_has, has-from_contains, has_split, has_left, has_right}
+use Rattle.hibitset_atomic.proofs.HistoryBitLemmas.{summary, stands-stays, path-stands, finished-stays}
+use Rattle.hibitset_atomic.proofs.WalkReadLemmas.{Sane, sane-more, sane_items, sane_places, first_layer, not_nil}
+use Rattle.hibitset_atomic.proofs.RestLemmas.{way_up_suc}
 
 -- 1. Order and counts
 
@@ -86,21 +89,18 @@ leads_places : (l : ℕ) (bs : List ℕ) (qs : List Place) (i : ℕ) → Has bs 
 leads_places l [] qs i h = absurd h
 leads_places l (b ∷ bs) qs i h = elim h [ inl e ↦ inl (sym e) | inr later ↦ inr (leads_places l bs qs i later) ]
 
-up_one : (i l : ℕ) → i / 64 ^ suc l ≡ i / 64 ^ l / 64
-up_one i l = rw (pow-suc 64 l) (sym (div-div-eq-div-mul i (64 ^ l) 64))
-
 found_bit : (standing : ℕ → ℕ → Bool) (l q i : ℕ) → q ≡ i / 64 ^ suc l → standing l (i / 64 ^ l) ≡ true → Has (bits standing l q) (i / 64 ^ l)
-found_bit standing l q i e h = let u = up_one i l in members-has (standing l) (64 * q) 64 (i / 64 ^ l) h (omega arith) (omega arith)
+found_bit standing l q i e h = let u = way_up_suc i l in members-has (standing l) (64 * q) 64 (i / 64 ^ l) h (omega arith) (omega arith)
 
 covers_word : (standing : ℕ → ℕ → Bool) (items : List ℕ) (reads layer position : ℕ) (rest : List Place) (i : ℕ) → ((l : ℕ) → l ≤ layer → standing l (i / 64 ^ l) ≡ true)
     → Has items i ⊎ Leads ((record { layer = layer; position = position }) ∷ rest) i
     → Has ((read_word standing items reads layer position rest).items) i ⊎ Leads ((read_word standing items reads layer position rest).left) i
 covers_word standing items reads zero position rest i path h = elim h [
-  | inl was ↦ inl (has-left items (bits standing 0 position) i was)
+  | inl was ↦ inl (has_left items (bits standing 0 position) i was)
   | inr leads ↦ elim leads [
     | inl here ↦
         let one : i / 1 ≡ i = omega arith in
-        inl (has-right items (bits standing 0 position) i (let f = found_bit standing 0 position i here (path 0 (omega arith)) in rw one at f))
+        inl (has_right items (bits standing 0 position) i (let f = found_bit standing 0 position i here (path 0 (omega arith)) in rw one at f))
     | inr later ↦ inr later
   ]
 ]
@@ -113,7 +113,7 @@ covers_word standing items reads (suc l) position rest i path h = elim h [
 ]
 
 pub first_low : (n : ℕ) (standing : ℕ → ℕ → Bool) (items : List ℕ) (p : Place) (rest : List Place) (reads : ℕ) → 0 < n → Sane n standing items (p ∷ rest) reads → p.layer < n
-first_low n standing items p rest reads layers h = elim (zero_or_more reads) [
+first_low n standing items p rest reads layers h = elim (zero_or_above reads) [
   | inl z ↦ let e : p.layer ≡ n - 1 = ap first_layer (h.root z) in omega arith
   | inr more ↦ let k = (h.known more).0 in omega arith
 ]
@@ -141,7 +141,7 @@ finished-now n old [] w i h = absurd (let k : false ≡ true = h in cc)
 finished-now n old (Begin number index ∷ past) w i h = finished-stays n old (Begin number index) past i (finished-now n old past w i h)
 finished-now n old (Step number ∷ past) w i h = finished-stays n old (Step number) past i (finished-now n old past w i h)
 finished-now n old (Read number ∷ past) w i h = finished-stays n old (Read number) past i (finished-now n old past w i h)
-finished-now n old (Open number ∷ past) w i h = elim (true_or_false (number == w)) [
+finished-now n old (Open number ∷ past) w i h = elim (cases_Bool (number == w)) [
   | inl same ↦ finished-stays n old (Open number) past i (let k = rw same at h in k)
   | inr other ↦ finished-stays n old (Open number) past i (finished-now n old past w i (let k = rw other at h in k))
 ]
@@ -177,7 +177,7 @@ AllThere n old past w walk = (i : ℕ) → Has (items_in walk) i → WasThere n 
 -- what a word of layer 0 gives
 word_items : (standing : ℕ → ℕ → Bool) (items : List ℕ) (reads layer position : ℕ) (rest : List Place) (i : ℕ) → Has ((read_word standing items reads layer position rest).items) i
     → Has items i ⊎ ((layer ≡ 0) × Has (bits standing 0 position) i)
-word_items standing items reads zero position rest i h = elim (has-append items (bits standing 0 position) i h) [ inl was ↦ inl was | inr new ↦ inr (refl, new) ]
+word_items standing items reads zero position rest i h = elim (has_split items (bits standing 0 position) i h) [ inl was ↦ inl was | inr new ↦ inr (refl, new) ]
 word_items standing items reads (suc l) position rest i h = inl h
 
 -- a new item was not among the items, and its bit is set
@@ -203,16 +203,16 @@ pub walks_there : (n : ℕ) (old : ℕ → Bool) (past : List Event) (w : ℕ) �
 walks_there n old [] w layers = λ i h. h
 walks_there n old (Begin number index ∷ past) w layers = λ i h. inr (walks_there n old past w layers i h)
 walks_there n old (Step number ∷ past) w layers = λ i h. inr (walks_there n old past w layers i h)
-walks_there n old (Open number ∷ past) w layers = elim (true_or_false (number == w)) [
+walks_there n old (Open number ∷ past) w layers = elim (cases_Bool (number == w)) [
   | inl same ↦ rw same (λ i h. absurd h)
   | inr other ↦ rw other (λ i h. inr (walks_there n old past w layers i h))
 ]
-walks_there n old (Read number ∷ past) w layers = λ i h. elim (true_or_false (number == w)) [
+walks_there n old (Read number ∷ past) w layers = λ i h. elim (cases_Bool (number == w)) [
   | inl same ↦
       let h2 : Has (items_in (reads_on (bit_of_history old past) (walk_of n old past w))) i = (let k = rw same at h in k) in
       elim (on_items n (bit_of_history old past) (walk_of n old past w) i (walks_sane n old past w layers) h2) [
         | inl was ↦ inr (walks_there n old past w layers i was)
-        | inr new ↦ inl (eq_true number w same, (λ was. new.0 (has-from_contains (items_in (walk_of n old past w)) i was)), contains-from_has (items_in (walk_of n old (Read number ∷ past) w)) i h, new.1)
+        | inr new ↦ inl (eqb-true number w same, (λ was. new.0 (has-from_contains (items_in (walk_of n old past w)) i was)), contains-from_has (items_in (walk_of n old (Read number ∷ past) w)) i h, new.1)
       ]
   | inr other ↦ inr (walks_there n old past w layers i (let k = rw other at h in k))
 ]

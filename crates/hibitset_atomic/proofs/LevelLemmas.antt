@@ -1,8 +1,8 @@
 -- The layers among the marks: what holds of all marks of an index, and what a load at a position of a layer tells.
 use Rattle.std.proofs.Common.{◌≡◌, ◌≢◌, ℕ, zero, suc, ◌+◌, ◌-◌, ◌*◌, ◌/◌, ◌%◌, ◌^◌, ◌<◌, sym, refl, subst, arith, add-one}
 use Rattle.std.specs.Int.{bit_at}
-use Rattle.std.proofs.Math.Nat.{pow-succ', div-div-eq-div-mul}
 use Rattle.atomic_table.specs.Table.{Me}
+use Rattle.hibitset_base.proofs.SummaryUpdateLemmas.{way_up}
 use Rattle.hibitset_atomic.specs.declared.shared.view.View.{View}
 use Rattle.hibitset_atomic.specs.Lists.{Has}
 use Rattle.hibitset_atomic.specs.Levels.{first_mark}
@@ -54,18 +54,11 @@ at_whole P i each = (
   subst P (sym (mark_3 i)) (each 3 (omega arith)),
 )
 
--- one layer up
-pub up_one : (i l : ℕ) → i / 64 ^ (l + 1) ≡ i / 64 ^ l / 64
-up_one i l =
-    let e : 64 ^ (l + 1) ≡ 64 * 64 ^ l = rw (add-one l) (pow-succ' 64 l) in
-    let f : 64 * 64 ^ l ≡ 64 ^ l * 64 = omega arith in
-    rw (e, f) (sym (div-div-eq-div-mul i (64 ^ l) 64))
-
 -- the mark of an index one layer up
 pub mark_up : (i l : ℕ) → l < 4 → above (first_mark l + i / 64 ^ l) ≡ first_mark (l + 1) + i / 64 ^ (l + 1)
 mark_up i l lt =
     let z = whole_words l lt in
-    let u = up_one i l in
+    let u = way_up i l in
     let first : first_mark (l + 1) ≡ ATOMIC_MAX_EID + first_mark l / 64 = rw (add-one l) refl in
     rw first (omega (arith, z, u))
 
@@ -86,7 +79,7 @@ lower_mark-lt i (suc (suc (suc l))) within lt = absurd (omega arith)
 module _ (l q : ℕ) (lt : l < 4) where
   -- the bit of an index in the word at its position
   place_of : (i : ℕ) → i / 64 ^ (l + 1) ≡ q → (first_mark l + i / 64 ^ l) / 64 ≡ first_mark l / 64 + q
-  place_of i e = let z = whole_words l lt in let u = up_one i l in omega (arith, z, u, e)
+  place_of i e = let z = whole_words l lt in let u = way_up i l in omega (arith, z, u, e)
 
   bit_of : (i : ℕ) → (first_mark l + i / 64 ^ l) % 64 ≡ i / 64 ^ l % 64
   bit_of i = let z = whole_words l lt in omega (arith, z)
@@ -112,5 +105,5 @@ module _ (l q : ℕ) (lt : l < 4) where
     pub load_known : (i : ℕ) → Knows v.0 i → i / 64 ^ (l + 1) ≡ q → bit_at n (i / 64 ^ l % 64) ≡ 1
     load_known i knows e =
         let h : Has v.0.seen (first_mark l + i / 64 ^ l) = whole_at (Has v.0.seen) i l knows lt in
-        let m-is : first_mark l + i / 64 ^ l ≡ (first_mark l / 64 + q) * 64 + i / 64 ^ l % 64 = (let z = whole_words l lt in let u = up_one i l in omega (arith, z, u, e)) in
+        let m-is : first_mark l + i / 64 ^ l ≡ (first_mark l / 64 + q) * 64 + i / 64 ^ l % 64 = (let z = whole_words l lt in let u = way_up i l in omega (arith, z, u, e)) in
         under_known (first_mark l / 64 + q) n v w t (i / 64 ^ l % 64) (omega arith) (subst (Has v.0.seen) m-is h)

@@ -8,6 +8,7 @@ pub mod OrBitLemmas
 pub mod MarkLemmas
 pub mod ViewLemmas
 pub mod InvariantLemmas
+pub mod SeatPairLemmas
 pub mod CallerStepLemmas
 pub mod RowLemmas
 pub mod LoadLemmas

@@ -69,10 +69,6 @@ pub below_distinct : (n : ℕ) → Distinct (below n)
 below_distinct zero = tt
 below_distinct (suc n) = (λ h. let r = below_less n n h in absurd (omega arith), below_distinct n)
 
-pub length_below : (n : ℕ) → length (below n) ≡ n
-length_below zero = refl
-length_below (suc n) = ap suc (length_below n)
-
 pub has_take : (n : ℕ) (xs : List ℕ) (x : ℕ) → Has (take n xs) x → Has xs x
 has_take zero xs x h = absurd h
 has_take (suc n) [] x h = absurd h

@@ -13,18 +13,18 @@ use Rattle.hibitset_atomic.specs.declared.atomic.TheConstants.{ATOMIC_MAX_EID}
 
 module _ (p n : ℕ) (v w : Me (Unit {0}) View) (t : LoadAt p v n w) where
   pub under_nonzero : Has v.0.seen (ATOMIC_MAX_EID + p) → n ≢ 0
-  under_nonzero h z = let f = t.2 in let q = f.4 p (f.2.1 (ATOMIC_MAX_EID + p) h) in
-      no_both 0 (q.0 % 64) (bit_at-zero (q.0 % 64)) (subst (λ x. bit_at x (q.0 % 64) ≡ 1) (ap (λ (j : ℕ). slice_index f.0 j) q.1 ∙ f.1 ∙ z) q.2)
+  under_nonzero h z = let f = t.2 in let q = f.summaries p (f.seat.seen (ATOMIC_MAX_EID + p) h) in
+      no_both 0 (q.0 % 64) (bit_at-zero (q.0 % 64)) (subst (λ x. bit_at x (q.0 % 64) ≡ 1) (ap (λ (j : ℕ). slice_index f.words j) q.1 ∙ f.found ∙ z) q.2)
 
   pub under_seen : (b : ℕ) → b < 64 → bit_at n b ≡ 1 → Has w.0.seen (p * 64 + b)
   under_seen b lt o = subst (λ x. Has x.seen (p * 64 + b)) (sym t.1)
       (has_left (marks p n 64) v.0.seen (p * 64 + b) (has_marks p n 64 (p * 64 + b) (mark_div p b lt) (omega arith) (subst (λ r. bit_at n r ≡ 1) (sym (mark_mod p b lt)) o)))
 
   pub under_known : (b : ℕ) → b < 64 → Has v.0.seen (p * 64 + b) → bit_at n b ≡ 1
-  under_known b lt h = let f = t.2 in subst (λ x. bit_at x b ≡ 1) f.1 (at_lit f.0 p b lt (f.2.1 (p * 64 + b) h))
+  under_known b lt h = let f = t.2 in subst (λ x. bit_at x b ≡ 1) f.found (at_lit f.words p b lt (f.seat.seen (p * 64 + b) h))
 
-  at_place : (m : ℕ) → IsSet t.2.0 m → m / 64 ≡ p → bit_at n (m % 64) ≡ 1
-  at_place m l e = subst (λ x. bit_at x (m % 64) ≡ 1) (ap (λ (j : ℕ). slice_index t.2.0 j) e ∙ t.2.1) l
+  at_place : (m : ℕ) → IsSet t.2.words m → m / 64 ≡ p → bit_at n (m % 64) ≡ 1
+  at_place m l e = subst (λ x. bit_at x (m % 64) ≡ 1) (ap (λ (j : ℕ). slice_index t.2.words j) e ∙ t.2.found) l
 
   pub under_old : (i : ℕ) → i < ATOMIC_MAX_EID → IsSet v.0.old i → HoldsOnPath (λ m. m / 64 ≡ p → bit_at n (m % 64) ≡ 1) i
-  under_old i lt o = let r = t.2.3 i lt o in (at_place i r.0, at_place (above i) r.1, at_place (above (above i)) r.2, at_place (above (above (above i))) r.3)
+  under_old i lt o = let r = t.2.old_paths i lt o in (at_place i r.0, at_place (above i) r.1, at_place (above (above i)) r.2, at_place (above (above (above i))) r.3)

@@ -19,28 +19,33 @@ mark_mod p b lt = omega arith
 pub mark_of : (m : ℕ) → m / 64 * 64 + m % 64 ≡ m
 mark_of m = div-add-mod' m 64
 
-pub low : (m : ℕ) → m % 64 < 64
-low m = omega arith
+-- the word p with its bit b set
+abbrev pub with_bit : List ℕ → ℕ → ℕ → ℕ
+with_bit words p b = bit_or (slice_index words p) (2 ^ b)
+
+-- the words with this one in its place
+abbrev pub exchanged : List ℕ → ℕ → ℕ → List ℕ
+exchanged words p b = set words p (with_bit words p b)
 
 module _ (words : List ℕ) (p b : ℕ) (within : p < length words) (lt : b < 64) where
-  pub lit_grows : (m : ℕ) → IsSet words m → IsSet (set words p (bit_or (slice_index words p) (2 ^ b))) m
+  pub lit_grows : (m : ℕ) → IsSet words m → IsSet (exchanged words p b) m
   lit_grows m h = dite (ℕ_discrete (m / 64) p)
-      (λ e. subst (λ x. bit_at x (m % 64) ≡ 1) (sym (ap (λ (q : ℕ). slice_index (set words p (bit_or (slice_index words p) (2 ^ b))) q) e ∙ get_or-set_same words p (bit_or (slice_index words p) (2 ^ b)) 0 within))
+      (λ e. subst (λ x. bit_at x (m % 64) ≡ 1) (sym (ap (λ (q : ℕ). slice_index (exchanged words p b) q) e ∙ get_or-set_same words p (with_bit words p b) 0 within))
       (stays (slice_index words p) (2 ^ b) (m % 64) (subst (λ q. bit_at (slice_index words q) (m % 64) ≡ 1) e h)))
-      (λ ne. subst (λ x. bit_at x (m % 64) ≡ 1) (sym (get_or-set_other words p (m / 64) (bit_or (slice_index words p) (2 ^ b)) 0 ne)) h)
+      (λ ne. subst (λ x. bit_at x (m % 64) ≡ 1) (sym (get_or-set_other words p (m / 64) (with_bit words p b) 0 ne)) h)
 
-  pub lit_new : IsSet (set words p (bit_or (slice_index words p) (2 ^ b))) (p * 64 + b)
-  lit_new = subst (λ q. bit_at (slice_index (set words p (bit_or (slice_index words p) (2 ^ b))) q) ((p * 64 + b) % 64) ≡ 1) (sym (mark_div p b lt))
-      (subst (λ r. bit_at (slice_index (set words p (bit_or (slice_index words p) (2 ^ b))) p) r ≡ 1) (sym (mark_mod p b lt))
-      (subst (λ x. bit_at x b ≡ 1) (sym (get_or-set_same words p (bit_or (slice_index words p) (2 ^ b)) 0 within)) (sets (slice_index words p) b)))
+  pub lit_new : IsSet (exchanged words p b) (p * 64 + b)
+  lit_new = subst (λ q. bit_at (slice_index (exchanged words p b) q) ((p * 64 + b) % 64) ≡ 1) (sym (mark_div p b lt))
+      (subst (λ r. bit_at (slice_index (exchanged words p b) p) r ≡ 1) (sym (mark_mod p b lt))
+      (subst (λ x. bit_at x b ≡ 1) (sym (get_or-set_same words p (with_bit words p b) 0 within)) (sets (slice_index words p) b)))
 
-  pub lit_was : (m : ℕ) → IsSet (set words p (bit_or (slice_index words p) (2 ^ b))) m → IsSet words m ⊎ (m ≡ p * 64 + b)
+  pub lit_was : (m : ℕ) → IsSet (exchanged words p b) m → IsSet words m ⊎ (m ≡ p * 64 + b)
   lit_was m h = dite (ℕ_discrete (m / 64) p)
-      (λ e. let k = subst (λ x. bit_at x (m % 64) ≡ 1) (ap (λ (q : ℕ). slice_index (set words p (bit_or (slice_index words p) (2 ^ b))) q) e ∙ get_or-set_same words p (bit_or (slice_index words p) (2 ^ b)) 0 within) h in
+      (λ e. let k = subst (λ x. bit_at x (m % 64) ≡ 1) (ap (λ (q : ℕ). slice_index (exchanged words p b) q) e ∙ get_or-set_same words p (with_bit words p b) 0 within) h in
       dite (ℕ_discrete (m % 64) b)
       (λ same. inr (sym (mark_of m) ∙ ap (λ (q : ℕ). q * 64 + m % 64) e ∙ ap (λ (r : ℕ). p * 64 + r) same))
       (λ ne. inl (subst (λ q. bit_at (slice_index words q) (m % 64) ≡ 1) (sym e) (sym (others (slice_index words p) b (m % 64) ne) ∙ k))))
-      (λ ne. inl (subst (λ x. bit_at x (m % 64) ≡ 1) (get_or-set_other words p (m / 64) (bit_or (slice_index words p) (2 ^ b)) 0 ne) h))
+      (λ ne. inl (subst (λ x. bit_at x (m % 64) ≡ 1) (get_or-set_other words p (m / 64) (with_bit words p b) 0 ne) h))
 
 -- the bit b of the word p, and the mark
 pub lit_at : (words : List ℕ) (p b : ℕ) → b < 64 → bit_at (slice_index words p) b ≡ 1 → IsSet words (p * 64 + b)

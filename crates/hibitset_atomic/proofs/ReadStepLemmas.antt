@@ -21,12 +21,6 @@ module _ (words : ℕ → ℕ → ℕ) (items : List ℕ) (left rest : List Plac
       let b : bits_from (64 * position) word ≡ bits (layer_bit words) 0 position = (let f = found in rw low at f) in
       rw (first, low, e, b) refl
 
-  pub left-low : layer ≡ 0 → rest ≡ (read_first (layer_bit words) items 0 left).left
-  left-low low = rw (first, low) refl
-
-  pub items-high : 0 < layer → items ≡ (read_first (layer_bit words) items 0 left).items
-  items-high high = let e : layer ≡ suc (layer - 1) = omega arith in sym (ap (λ xs. (read_first (layer_bit words) items 0 xs).items) first ∙ ap (λ k. (read_word (layer_bit words) items 0 k position rest).items) e)
-
   pub left-high : (new : List Place) → 0 < layer → new ≡ places_in (layer - 1) (bits_from (64 * position) word) ++ rest → new ≡ (read_first (layer_bit words) items 0 left).left
   left-high new high e =
       let s : layer ≡ suc (layer - 1) = omega arith in

@@ -1,11 +1,12 @@
 -- Exact summaries, said of indices: a bit of a layer is set exactly where some index under it is in the set.
-use Rattle.std.proofs.Common.{◌≡◌, ℕ, zero, suc, ◌+◌, ◌*◌, ◌/◌, ◌%◌, ◌^◌, ◌<◌, true, ◌==◌, sym, ◌∙◌, ap, arith, inl, inr, w64}
+use Rattle.std.proofs.Common.{◌≡◌, ℕ, zero, suc, ◌+◌, ◌*◌, ◌/◌, ◌%◌, ◌^◌, ◌<◌, true, sym, ◌∙◌, ap, arith, inl, inr, w64}
 use Rattle.std.specs.Int.{bit_at, trailing_zeros}
-use Rattle.std.proofs.lemmas.Bool.Decides.{nat_tests}
 use Rattle.std.proofs.lemmas.Nat.Bits.{bit_at-zero, bit_at-trailing_zeros}
 use Rattle.hibitset_base.specs.Decisions.{same_or_not}
 use Rattle.hibitset_base.specs.Words.{SummariesExactEverywhere, holds_at}
 use Rattle.hibitset_base.proofs.SummaryUpdateLemmas.{way_up}
+use Rattle.hibitset_base.proofs.DescentLemmas.{one_of}
+use Rattle.hibitset_base.proofs.PlaceLemmas.{eq_one}
 
 -- the bit q of layer l is set
 abbrev pub Stands : (ℕ → ℕ → ℕ) → ℕ → ℕ → Type 0
@@ -15,14 +16,9 @@ pub record StandsOver (n : ℕ) (w : ℕ → ℕ → ℕ) : Type 0 where
   pub up : (l i : ℕ) → l < n → holds_at w i ≡ true → Stands w l (i / 64 ^ l)
   pub down : (l q : ℕ) → l < n → Stands w l q → (i : ℕ) × (i / 64 ^ l ≡ q) × (holds_at w i ≡ true)
 
-way_up_suc : (q l : ℕ) → q / 64 ^ suc l ≡ q / 64 ^ l / 64
+-- one layer up
+pub way_up_suc : (q l : ℕ) → q / 64 ^ suc l ≡ q / 64 ^ l / 64
 way_up_suc q l = let next : suc l ≡ l + 1 = omega arith in rw next (way_up q l)
-
-test_one : (x : ℕ) → (x == 1) ≡ true → x ≡ 1
-test_one x h = grind (arith, nat_tests)
-
-one_test : (x : ℕ) → x ≡ 1 → (x == 1) ≡ true
-one_test x h = grind (arith, nat_tests)
 
 pub some_of_bit : (x b : ℕ) → bit_at x b ≡ 1 → 0 < x
 some_of_bit x b stands = elim (same_or_not x 0) [
@@ -43,7 +39,7 @@ bit_under w l q fits some =
 module _ (n : ℕ) (w : ℕ → ℕ → ℕ) (fits : (l p : ℕ) → w l p < 2 ^ 64) where
   module _ (exact : SummariesExactEverywhere n w) where
     over : (l i : ℕ) → l < n → holds_at w i ≡ true → Stands w l (i / 64 ^ l)
-    over zero i below holds = let one : i / 64 ^ 0 ≡ i = omega arith in rw one (test_one (bit_at (w 0 (i / 64)) (i % 64)) holds)
+    over zero i below holds = let one : i / 64 ^ 0 ≡ i = omega arith in rw one (one_of (bit_at (w 0 (i / 64)) (i % 64)) holds)
     over (suc l) i below holds =
         let lower = over l i (omega arith) holds in
         let q : ℕ = i / 64 ^ l / 64 in
@@ -57,7 +53,7 @@ module _ (n : ℕ) (w : ℕ → ℕ → ℕ) (fits : (l p : ℕ) → w l p < 2 ^
         rw (way_up_suc i l) stands_next
 
     under : (l q : ℕ) → l < n → Stands w l q → (i : ℕ) × (i / 64 ^ l ≡ q) × (holds_at w i ≡ true)
-    under zero q below stands = (q, omega arith, one_test (bit_at (w 0 (q / 64)) (q % 64)) stands)
+    under zero q below stands = (q, omega arith, eq_one (bit_at (w 0 (q / 64)) (q % 64)) stands)
     under (suc l) q below stands =
         let q-is : 64 * (q / 64) + q % 64 ≡ q = omega arith in
         let next : l + 1 ≡ suc l = omega arith in

@@ -10,6 +10,7 @@ use Rattle.hibitset_base.proofs.PlaceLemmas.{bits-first, eq_one}
 use Rattle.hibitset_base.proofs.MaskLemmas.{takes_first}
 use Rattle.hibitset_base.proofs.DescentLemmas.{all-members, one_of, depth_of_word}
 use Rattle.hibitset_base.proofs.DrainLemmas.{LiesBefore}
+use Rattle.hibitset_base.proofs.SummaryUpdateLemmas.{way_up}
 use Rattle.hibitset_atomic.specs.declared.shared.view.View.{View}
 use Rattle.hibitset_atomic.specs.declared.shared.types.Seat.{Seat}
 use Rattle.hibitset_atomic.specs.declared.shared.types.SharedBitSet.{SharedBitSet}
@@ -18,7 +19,7 @@ use Rattle.hibitset_atomic.specs.Levels.{first_mark}
 use Rattle.hibitset_atomic.specs.Rule.{Knows}
 use Rattle.hibitset_atomic.specs.Seats.{BelongsTo, IsKnown, loads_by}
 use Rattle.hibitset_atomic.specs.SharedWalk.{view_of, IsSeen, IsBelowRoot, RestIsLow, WalkInvariant, IsUnder, lowest, IsOldOrKnown, Keeps, LoadsTo}
-use Rattle.hibitset_atomic.proofs.LevelLemmas.{up_one, at_whole}
+use Rattle.hibitset_atomic.proofs.LevelLemmas.{at_whole}
 use Rattle.hibitset_atomic.specs.declared.atomic.TheConstants.{ATOMIC_MAX_EID}
 
 -- ---- what lies under places
@@ -50,7 +51,7 @@ under_members t l i x a (suc n) from below here at = elim (eq-or-lt_of_le from) 
 -- an index under a position lies under the bits of the word there, if its own bit is set
 pub under_word : (l q n i : ℕ) → i / 64 ^ (l + 1) ≡ q → bit_at n (i / 64 ^ l % 64) ≡ 1 → IsUnder (places_in l (bits_from (64 * q) n)) i
 under_word l q n i at stands =
-    let u = up_one i l in
+    let u = way_up i l in
     let b-is : i / 64 ^ l - 64 * q ≡ i / 64 ^ l % 64 = omega (arith, u, at) in
     under_members (λ x. bit_at n (x - 64 * q) == 1) l i (i / 64 ^ l) (64 * q) 64 (omega (arith, u, at)) (omega (arith, u, at))
     (eq_one (bit_at n (i / 64 ^ l - 64 * q)) (subst (λ b. bit_at n b ≡ 1) (sym b-is) stands)) refl

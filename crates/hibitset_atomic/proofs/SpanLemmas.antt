@@ -1,27 +1,12 @@
 -- Tests over ranges, and the lists of what is found.
-use Rattle.std.proofs.Common.{◌≡◌, ℕ, zero, suc, ◌+◌, ◌*◌, ◌^◌, ◌<◌, ◌≤◌, Bool, true, false, cond, ◌||◌, List, [], ◌∷◌, ◌++◌, refl, sym, subst, arith, ◌⊎◌, inl, inr}
+use Rattle.std.proofs.Common.{◌≡◌, ℕ, zero, suc, ◌+◌, ◌*◌, ◌^◌, ◌<◌, ◌≤◌, Bool, true, false, cond, List, [], ◌∷◌, ◌++◌, refl, sym, subst, arith, ◌⊎◌, inl, inr}
 use Rattle.std.proofs.Math.Nat.{eq-or-lt_of_le, mul-le-mul_right}
+use Rattle.std.proofs.lemmas.Bool.{or_cases, or_left, or_right}
 use Rattle.hibitset_base.specs.Members.{members}
 use Rattle.hibitset_base.specs.Places.{Place, places_in}
 use Rattle.hibitset_atomic.specs.History.{some_in}
 use Rattle.hibitset_atomic.specs.Lists.{Has}
 use Rattle.hibitset_atomic.specs.HistoryFacts.{Between, Ranges, Rises}
-
-pub or_cases : (a b : Bool) → (a || b) ≡ true → (a ≡ true) ⊎ (b ≡ true)
-or_cases true b h = inl refl
-or_cases false b h = inr h
-
-pub or_left : (a b : Bool) → a ≡ true → (a || b) ≡ true
-or_left true b h = refl
-or_left false b h = absurd (let k : false ≡ true = h in cc)
-
-pub or_right : (a b : Bool) → b ≡ true → (a || b) ≡ true
-or_right true b h = refl
-or_right false b h = h
-
-pub true_or_false : (a : Bool) → (a ≡ true) ⊎ (a ≡ false)
-true_or_false true = inl refl
-true_or_false false = inr refl
 
 pub some_in-here : (p : ℕ → Bool) (a n i : ℕ) → p i ≡ true → a ≤ i → i < a + n → some_in p a n ≡ true
 unfolding some_in
@@ -64,18 +49,6 @@ between-has a b i (x ∷ xs) h has = elim has [
   | inl e ↦ (let k = h.0 in omega arith, let l = between-le (suc x) b xs h.1 in omega arith)
   | inr later ↦ let k = between-has (suc x) b i xs h.1 later in (let l = h.0 in let m = k.0 in omega arith, k.1)
 ]
-
-pub has-append : (xs ys : List ℕ) (i : ℕ) → Has (xs ++ ys) i → Has xs i ⊎ Has ys i
-has-append [] ys i h = inr h
-has-append (x ∷ xs) ys i h = elim h [ inl e ↦ inl (inl e) | inr later ↦ elim (has-append xs ys i later) [ inl l ↦ inl (inr l) | inr r ↦ inr r ] ]
-
-pub has-left : (xs ys : List ℕ) (i : ℕ) → Has xs i → Has (xs ++ ys) i
-has-left [] ys i h = absurd h
-has-left (x ∷ xs) ys i h = elim h [ inl e ↦ inl e | inr later ↦ inr (has-left xs ys i later) ]
-
-pub has-right : (xs ys : List ℕ) (i : ℕ) → Has ys i → Has (xs ++ ys) i
-has-right [] ys i h = h
-has-right (x ∷ xs) ys i h = inr (has-right xs ys i h)
 
 -- members
 

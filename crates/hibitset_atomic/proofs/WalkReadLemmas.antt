@@ -1,7 +1,8 @@
 -- What one read of a walk keeps.
-use Rattle.std.proofs.Common.{◌≡◌, ℕ, zero, suc, ◌+◌, ◌-◌, ◌*◌, ◌^◌, ◌<◌, ◌≤◌, Bool, true, List, [], ◌∷◌, ◌++◌, length, refl, sym, ap, arith, ◌⊎◌, inl, inr, length-append}
+use Rattle.std.proofs.Common.{◌≡◌, ℕ, suc, ◌+◌, ◌-◌, ◌*◌, ◌^◌, ◌<◌, ◌≤◌, Bool, true, List, [], ◌∷◌, ◌++◌, length, refl, sym, ap, arith, inl, inr, length-append}
 use Rattle.std.proofs.Math.Nat.{pow-succ', mul-le-mul_left}
 use Rattle.hibitset_base.specs.Places.{Place, places_in}
+use Rattle.hibitset_base.proofs.LayerLemmas.{zero_or_above}
 use Rattle.hibitset_atomic.specs.History.{some_in, bits, new_walk}
 use Rattle.hibitset_atomic.specs.Lists.{Has}
 use Rattle.hibitset_atomic.specs.HistoryFacts.{Between, Ranges, Rises}
@@ -49,10 +50,6 @@ sane-more n now then items left reads more h = record {
   known = λ some. under-more n now then left more (h.known some);
 }
 
-pub zero_or_more : (x : ℕ) → (x ≡ 0) ⊎ (0 < x)
-zero_or_more zero = inl refl
-zero_or_more (suc x) = inr (omega arith)
-
 pub not_nil : (p : Place) (ps : List Place) → [] ≡ p ∷ ps → ⊥
 not_nil p ps h = cc
 
@@ -80,11 +77,11 @@ module _ (n : ℕ) (standing : ℕ → ℕ → Bool) (layers : 0 < n) (sums : (l
     rest_none l none h = let e = h.root none in (ap first_layer e, ap rest_of e)
 
     bound_item : (ps : List Place) (k b : ℕ) → reads + 0 + 1 ≤ (n - 1) * k + n → (0 < reads → 0 < b) → (0 < reads → AllUnder n standing ps) → (reads ≡ 0 → ps ≡ []) → Bound n (k + b) (reads + 1) ps
-    bound_item [] k b h some under none = elim (zero_or_more reads) [
+    bound_item [] k b h some under none = elim (zero_or_above reads) [
       | inl z ↦ omega arith
       | inr more ↦ let s : 1 ≤ b = some more in let m : ℕ = n - 1 in let p : m * 1 ≤ m * b = mul-le-mul_left m s in let e : n ≡ m + 1 = omega arith in let d : m * (k + b) ≡ m * k + m * b = omega arith in omega arith
     ]
-    bound_item (q ∷ qs) k b h some under none = elim (zero_or_more reads) [
+    bound_item (q ∷ qs) k b h some under none = elim (zero_or_above reads) [
       | inl z ↦ absurd (not_nil q qs (sym (none z)))
       | inr more ↦ let s : 1 ≤ b = some more in let m : ℕ = n - 1 in let p : m * 1 ≤ m * b = mul-le-mul_left m s in let e : n ≡ m + 1 = omega arith in let d : m * (k + b) ≡ m * k + m * b = omega arith in let u = (under more).0 in omega arith
     ]
@@ -101,12 +98,12 @@ module _ (n : ℕ) (standing : ℕ → ℕ → Bool) (layers : 0 < n) (sums : (l
           ranges = ranges-weaker (64 * position + 64) ((position + 1) * 64 ^ 1) (64 ^ n) rest (omega arith) after;
           rises = rises-weaker 0 0 rest (omega arith) h.rises.1;
           bound = rw length-append (bound_item rest (length items) (length (bits standing 0 position)) h.bound (λ some. some_bits 0 position ((h.known some).1)) (λ some. (h.known some).2) (λ none. (rest_none 0 none h).1));
-          known = λ _. elim (zero_or_more reads) [ inl z ↦ rw (rest_none 0 z h).1 tt | inr more ↦ (h.known more).2 ];
+          known = λ _. elim (zero_or_above reads) [ inl z ↦ rw (rest_none 0 z h).1 tt | inr more ↦ (h.known more).2 ];
           root = λ none. absurd (omega arith);
         }
 
     bound_places : (l k : ℕ) (bs : List ℕ) → reads + suc l + 1 ≤ (n - 1) * k + n → (0 < reads → 0 < length bs) → (reads ≡ 0 → rest ≡ []) → Bound n k (reads + 1) (places_in l bs ++ rest)
-    bound_places l k [] h some none = elim (zero_or_more reads) [
+    bound_places l k [] h some none = elim (zero_or_above reads) [
       | inl z ↦ rw (none z) (omega arith)
       | inr more ↦ absurd (let s = some more in omega arith)
     ]
@@ -122,7 +119,7 @@ module _ (n : ℕ) (standing : ℕ → ℕ → Bool) (layers : 0 < n) (sums : (l
         let after : Ranges ((position + 1) * 64 ^ suc (suc l)) (64 ^ n) rest = h.ranges.1 in
         let from2 : h.middle ≤ 64 * position * size = (let f = rw e at from in omega arith) in
         let after2 : Ranges ((64 * position + 64) * size) (64 ^ n) rest = (let same : (position + 1) * (64 * size) ≡ (64 * position + 64) * size = omega arith in let a = rw (e, same) at after in a) in
-        let below : l + 1 < n = elim (zero_or_more reads) [ inl z ↦ (let r = (rest_none (suc l) z h).0 in omega arith) | inr more ↦ (let k = (h.known more).0 in omega arith) ] in
+        let below : l + 1 < n = elim (zero_or_above reads) [ inl z ↦ (let r = (rest_none (suc l) z h).0 in omega arith) | inr more ↦ (let k = (h.known more).0 in omega arith) ] in
         record {
           middle = h.middle;
           given = h.given;
@@ -132,6 +129,6 @@ module _ (n : ℕ) (standing : ℕ → ℕ → Bool) (layers : 0 < n) (sums : (l
           rises = rises-weaker 0 l (places_in l (bits standing (suc l) position) ++ rest) (omega arith) (places-rise l (bits standing (suc l) position) rest (rises-weaker l (suc l) rest (omega arith) h.rises.1));
           bound = bound_places l (length items) (bits standing (suc l) position) h.bound (λ some. some_bits (suc l) position ((h.known some).1)) (λ none. (rest_none (suc l) none h).1);
           known = λ _. under-append n standing (places_in l (bits standing (suc l) position)) rest (places_under n standing l (bits standing (suc l) position) below (λ q has. members-holds (standing (suc l)) (64 * position) 64 q has))
-              (elim (zero_or_more reads) [ inl z ↦ rw (rest_none (suc l) z h).1 tt | inr more ↦ (h.known more).2 ]);
+              (elim (zero_or_above reads) [ inl z ↦ rw (rest_none (suc l) z h).1 tt | inr more ↦ (h.known more).2 ]);
           root = λ none. absurd (omega arith);
         }

@@ -2,9 +2,9 @@
 use Rattle.std.proofs.Common.{◌≡◌, ◌≢◌, ℕ, zero, suc, ◌+◌, ◌-◌, ◌/◌, ◌%◌, ◌^◌, ◌<◌, ◌≤◌, Bool, true, false, cond, ◌==◌, ◌&&◌, ◌||◌, List, [], ◌∷◌, ◌++◌, refl, sym, ◌∙◌, ap, subst, arith, inl, inr, Option, Some, None, bit_or, bit_and, reverse, lit<}
 use Rattle.std.specs.Int.{bit_at}
 use Rattle.std.proofs.lemmas.List.{reverse-append}
-use Rattle.std.proofs.lemmas.Bool.Decides.{nat_tests}
 use Rattle.std.proofs.lemmas.Nat.Bits.{shr_and_one}
 use Rattle.std.proofs.Math.Nat.{eq-or-lt_of_le}
+use Rattle.std.proofs.lemmas.Bool.{or_cases, or_left, or_right, cases_Bool, eqb-true}
 use Rattle.hibitset_atomic.specs.declared.steps.calls.Call.{Call}
 use Rattle.hibitset_atomic.specs.declared.steps.calls.Calls.{Calls}
 use Rattle.hibitset_atomic.specs.declared.steps.walks.Walks.{Walks}
@@ -20,10 +20,12 @@ use Rattle.hibitset_atomic.specs.Layers.{layer_word}
 use Rattle.hibitset_atomic.specs.LayerBits.{layer_bit}
 use Rattle.hibitset_atomic.proofs.LayerLemmas.{layers_fit}
 use Rattle.hibitset_base.specs.Words.{SummariesExactEverywhere, holds_at}
+use Rattle.hibitset_base.specs.Decisions.{eq_other}
+use Rattle.hibitset_base.proofs.DescentLemmas.{one_of}
+use Rattle.hibitset_base.proofs.PlaceLemmas.{eq_one}
 use Rattle.hibitset_atomic.proofs.RestLemmas.{StandsOver, summed_over, over_summed}
 use Rattle.hibitset_atomic.specs.CoreState.{call_in, shown_in, walk_shown, read_shown, Shown, IsOfPast}
-use Rattle.hibitset_atomic.proofs.SpanLemmas.{true_or_false, or_cases, or_left, or_right}
-use Rattle.hibitset_atomic.proofs.HistoryBitLemmas.{eq_true, stands-from, stands-found}
+use Rattle.hibitset_atomic.proofs.HistoryBitLemmas.{stands-from, stands-found}
 use Rattle.hibitset_atomic.proofs.CallLemmas.{ok-more, rest-passed}
 use Rattle.hibitset_atomic.proofs.CallStepLemmas.{same_truth, stands-step, lit-set, FitsCall, calls-fit}
 use Rattle.hibitset_atomic.proofs.HistoryWalkLemmas.{walks_sane}
@@ -44,18 +46,15 @@ read_walk : (b : Bool) (now then : ℕ → ℕ → Bool) (s : Option Shown) (wal
 read_walk true now then s walk e r = ap (read_shown now) e ∙ r
 read_walk false now then s walk e r = e
 
-eq_not : (a b : ℕ) → a ≢ b → (a == b) ≡ false
-eq_not a b other = grind (arith, nat_tests)
-
 pub step_ok : (call : Call) (x : Option Call) → x ≡ Some call → call.passed ≢ 4 → refused_step 4 x ≡ None
-step_ok call x e open-call = rw (e, eq_not call.passed 4 open-call) refl
+step_ok call x e open-call = rw (e, eq_other call.passed 4 open-call) refl
 
 step_word : (lit-there standing here : Bool) (q bit way : ℕ) → lit-there ≡ standing → (here ≡ true → bit ≡ way) → ((here && q == bit) || lit-there) ≡ ((here && q == way) || standing)
 step_word a b true q bit way e f = rw (e, f refl) refl
 step_word a b false q bit way e f = e
 
 step_call : (number c : ℕ) (now is : Option Call) (call : Call) → now ≡ is → ((number == c) ≡ true → is ≡ Some call) → cond (number == c) (Some (record { index = call.index; passed = call.passed + 1 })) now ≡ cond (number == c) (one_layer_more is) is
-step_call number c now is call e f = elim (true_or_false (number == c)) [
+step_call number c now is call e f = elim (cases_Bool (number == c)) [
   | inl same ↦ rw same (sym (ap one_layer_more (f same)))
   | inr other ↦ rw other e
 ]
@@ -82,8 +81,8 @@ pub after-step : (old : ℕ → Bool) (past then : List Event) (ws vs : ℕ → 
     → then ≡ Step number ∷ past → IsOfPast 4 old then vs later walks
 after-step old past then ws vs calls later walks number bit call h is open-call bit-is set put e = subst (λ p. IsOfPast 4 old p vs later walks) (sym e) (record {
   accepted = ok-more 4 old (Step number) past (step_ok call (call_of past number) is open-call) h.accepted;
-  words_of_past = λ l q low. lit-set ws vs call.passed bit l q set ∙ (step_word (layer_bit ws l q) (bit_of_history old past l q) (l == call.passed) q bit (call.index / 64 ^ l) (h.words_of_past l q low) (λ here. bit-is ∙ ap (λ k. call.index / 64 ^ k) (sym (eq_true l call.passed here))) ∙ sym (stands-step old past number call l q is));
-  calls_of_past = λ c. put c ∙ step_call number c (call_in calls c) (call_of past c) call (h.calls_of_past c) (λ same. subst (λ k. call_of past k ≡ Some call) (eq_true number c same) is);
+  words_of_past = λ l q low. lit-set ws vs call.passed bit l q set ∙ (step_word (layer_bit ws l q) (bit_of_history old past l q) (l == call.passed) q bit (call.index / 64 ^ l) (h.words_of_past l q low) (λ here. bit-is ∙ ap (λ k. call.index / 64 ^ k) (sym (eqb-true l call.passed here))) ∙ sym (stands-step old past number call l q is));
+  calls_of_past = λ c. put c ∙ step_call number c (call_in calls c) (call_of past c) call (h.calls_of_past c) (λ same. subst (λ k. call_of past k ≡ Some call) (eqb-true number c same) is);
   walks_of_past = h.walks_of_past;
 })
 
@@ -109,12 +108,6 @@ pub members-rest : (old : ℕ → Bool) (past : List Event) (ws : ℕ → ℕ �
 members-rest old past ws calls walks h i = h.words_of_past 0 i (lit< tt) ∙ stands-lowest old past i
 
 -- at rest each bit is set exactly where an index under it does
-bit_one : (x : ℕ) → (x == 1) ≡ true → x ≡ 1
-bit_one x h = grind (arith, nat_tests)
-
-one_bit : (x : ℕ) → x ≡ 1 → (x == 1) ≡ true
-one_bit x h = grind (arith, nat_tests)
-
 rests_over : (old : ℕ → Bool) (past : List Event) (ws : ℕ → ℕ → ℕ) (calls : Calls) (walks : Walks) → IsOfPast 4 old past ws calls walks → IsAtRest 4 past → StandsOver 4 ws
 rests_over old past ws calls walks h rest = record {
   up = λ l i low holds.
@@ -123,9 +116,9 @@ rests_over old past ws calls walks h rest = record {
         | inl was ↦ or_left (old i) (has_passed past l i) was
         | inr new ↦ or_right (old i) (has_passed past l i) (rest-passed 4 old past 0 l i h.accepted rest low new)
       ] in
-      bit_one _ (h.words_of_past l (i / 64 ^ l) low ∙ stands-from old past l i far);
+      one_of _ (h.words_of_past l (i / 64 ^ l) low ∙ stands-from old past l i far);
   down = λ l q low stand.
-      let u = stands-found old past l q (sym (h.words_of_past l q low) ∙ one_bit _ stand) in
+      let u = stands-found old past l q (sym (h.words_of_past l q low) ∙ eq_one _ stand) in
       let came : (old u.index || has_passed past 0 u.index) ≡ true = elim (or_cases (old u.index) (has_passed past l u.index) u.came) [
         | inl was ↦ or_left (old u.index) (has_passed past 0 u.index) was
         | inr new ↦ or_right (old u.index) (has_passed past 0 u.index) (rest-passed 4 old past l 0 u.index h.accepted rest (lit< tt) new)
@@ -147,8 +140,8 @@ of_nothing ws calls walks fits exact no-calls no-walks =
     record {
       accepted = refl;
       words_of_past = λ l q low. same_truth (layer_bit ws l q) (bit_of_history (holds_at ws) [] l q)
-          (λ h. let d = over.down l q low (bit_one _ h) in subst (λ k. bit_of_history (holds_at ws) [] l k ≡ true) d.1 (stands-from (holds_at ws) [] l d.0 (or_left (holds_at ws d.0) false d.2)))
-          (λ h. let u = stands-found (holds_at ws) [] l q h in subst (λ k. layer_bit ws l k ≡ true) u.lies (one_bit _ (over.up l u.index low (not_or (holds_at ws u.index) u.came))));
+          (λ h. let d = over.down l q low (one_of _ h) in subst (λ k. bit_of_history (holds_at ws) [] l k ≡ true) d.1 (stands-from (holds_at ws) [] l d.0 (or_left (holds_at ws d.0) false d.2)))
+          (λ h. let u = stands-found (holds_at ws) [] l q h in subst (λ k. layer_bit ws l k ≡ true) u.lies (eq_one _ (over.up l u.index low (not_or (holds_at ws u.index) u.came))));
       calls_of_past = no-calls;
       walks_of_past = no-walks;
     }

@@ -54,18 +54,18 @@ AllBlocksReserved set = HasRoom set.layers.layer0
 
 -- The same blocks are made as before, and room for all stays.
 pub record KeepsBlocks (old new : AtomicBitSet) : Type 0 where
-  pub keeps : (i : ℕ) → NeedsAllocation new i → NeedsAllocation old i
-  pub most : (i : ℕ) → NeedsAllocation old i → NeedsAllocation new i
-  pub room : AllBlocksReserved old → AllBlocksReserved new
+  pub frees_none : (i : ℕ) → NeedsAllocation new i → NeedsAllocation old i
+  pub makes_no_more : (i : ℕ) → NeedsAllocation old i → NeedsAllocation new i
+  pub all_reserved : AllBlocksReserved old → AllBlocksReserved new
 
 pub keeps_own_blocks : (set : AtomicBitSet) → KeepsBlocks set set
-keeps_own_blocks set = record { keeps = λ i lacks. lacks; most = λ i lacks. lacks; room = λ all. all }
+keeps_own_blocks set = record { frees_none = λ i lacks. lacks; makes_no_more = λ i lacks. lacks; all_reserved = λ all. all }
 
 pub keeps_blocks_twice : (a b c : AtomicBitSet) → KeepsBlocks a b → KeepsBlocks b c → KeepsBlocks a c
 keeps_blocks_twice a b c first second = record {
-  keeps = λ i lacks. first.keeps i (second.keeps i lacks);
-  most = λ i lacks. second.most i (first.most i lacks);
-  room = λ all. second.room (first.room all);
+  frees_none = λ i lacks. first.frees_none i (second.frees_none i lacks);
+  makes_no_more = λ i lacks. second.makes_no_more i (first.makes_no_more i lacks);
+  all_reserved = λ all. second.all_reserved (first.all_reserved all);
 }
 
 pub block_apart : (set : AtomicBitSet) (i j : ℕ) → has set i ≡ true → NeedsAllocation set j → i / 4096 ≢ j / 4096

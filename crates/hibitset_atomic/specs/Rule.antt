@@ -37,12 +37,16 @@ abbrev pub Reported : List View → ℕ → Type 0
 Reported views i = (id : ℕ) × (v : View) × (get_elem? views id ≡ some v) × Has v.reports i
 
 -- layer 0 has the old indices and all reports
-abbrev pub Layer0IsOldOrReported : List ℕ → List ℕ → List View → Type 0
-Layer0IsOldOrReported old words views = ((i : ℕ) → IsSet old i → IsSet words i) × ((i : ℕ) → i < ATOMIC_MAX_EID → IsSet words i → IsSet old i ⊎ Reported views i)
+pub record Layer0IsOldOrReported (old words : List ℕ) (views : List View) : Type 0 where
+  pub old_set : (i : ℕ) → IsSet old i → IsSet words i
+  pub told : (i : ℕ) → i < ATOMIC_MAX_EID → IsSet words i → IsSet old i ⊎ Reported views i
 
 -- a seat's reports are indices in layer 0, not old, and each once
-abbrev pub ReportsAreNew : List ℕ → List ℕ → View → Type 0
-ReportsAreNew old words v = ((i : ℕ) → Has v.reports i → IsSet words i × ¬ IsSet old i × (i < ATOMIC_MAX_EID)) × Distinct v.reports
+pub record ReportsAreNew (old words reports : List ℕ) : Type 0 where
+  pub set : (i : ℕ) → Has reports i → IsSet words i
+  pub new : (i : ℕ) → Has reports i → ¬ IsSet old i
+  pub below : (i : ℕ) → Has reports i → i < ATOMIC_MAX_EID
+  pub once : Distinct reports
 
 -- what it has seen stands
 abbrev pub Sees : List ℕ → View → Type 0
@@ -55,16 +59,26 @@ AtMostOneUnfinished v = (i j : ℕ) → Has v.reports i → Has v.reports j → 
 abbrev pub AllReportsKnown : View → Type 0
 AllReportsKnown v = (i : ℕ) → Has v.reports i → Knows v i
 
-abbrev pub Shares : View → Type 0
-Shares v = ((x : ℕ) → Has v.shares x → x < SHARES) × Distinct v.shares
+-- shares are below `SHARES`, and each once
+pub record Shares (shares : List ℕ) : Type 0 where
+  pub below : (x : ℕ) → Has shares x → x < SHARES
+  pub once : Distinct shares
 
 -- a view with no share is no seat: it has no report
-abbrev pub EmptyWithoutShares : List ℕ → View → Type 0
-EmptyWithoutShares old v = (length v.shares ≡ 0 → v.reports ≡ []) × (0 < length v.shares → v.old ≡ old)
+abbrev pub EmptyWithoutShares : View → Type 0
+EmptyWithoutShares v = length v.shares ≡ 0 → v.reports ≡ []
 
-abbrev pub SeatInvariant : List ℕ → List ℕ → View → Type 0
-SeatInvariant old words v = ReportsAreNew old words v × Sees words v × AtMostOneUnfinished v × Shares v × EmptyWithoutShares old v
+-- what holds of each view beside the words
+pub record SeatInvariant (old words : List ℕ) (v : View) : Type 0 where
+  pub reports : ReportsAreNew old words v.reports
+  pub seen : Sees words v
+  pub unfinished : AtMostOneUnfinished v
+  pub shares : Shares v.shares
+  pub empty : EmptyWithoutShares v
+  -- a seat has the words from before
+  pub old_words : 0 < length v.shares → v.old ≡ old
 
+-- two seats have no report and no share in common
 abbrev pub AreDisjointSeats : View → View → Type 0
 AreDisjointSeats v w = Apart v.reports w.reports × Apart v.shares w.shares
 
@@ -76,10 +90,15 @@ SummariesOverNonzero words = (p : ℕ) → IsSet words (ATOMIC_MAX_EID + p) → 
 abbrev pub OldPathsSet : List ℕ → List ℕ → Type 0
 OldPathsSet old words = (i : ℕ) → i < ATOMIC_MAX_EID → IsSet old i → HoldsOnPath (IsSet words) i
 
-abbrev pub Invariant : List ℕ → State (Unit {0}) View → Type 0
-Invariant old s =
-    (length s.words ≡ ROW_WORDS) × Layer0IsOldOrReported old s.words s.views × Each (SeatInvariant old s.words) s.views × Pairs AreDisjointSeats s.views
-    × OldPathsSet old s.words × SummariesOverNonzero s.words
+-- what holds between any two steps of any seats
+pub record Invariant (old : List ℕ) (s : State (Unit {0}) View) : Type 0 where
+  -- the row has all its words
+  pub size : length s.words ≡ ROW_WORDS
+  pub layer0 : Layer0IsOldOrReported old s.words s.views
+  pub seats : Each (SeatInvariant old s.words) s.views
+  pub disjoint : Pairs AreDisjointSeats s.views
+  pub old_paths : OldPathsSet old s.words
+  pub summaries : SummariesOverNonzero s.words
 
 abbrev pub pick : ℕ → ℕ → List ℕ → List ℕ
 pick zero mark marks = marks
@@ -110,8 +129,12 @@ abbrev pub exchanging : View → View
 exchanging v = counting v.loads (v.exchanges + 1) v
 
 -- what the rule tells a seat that finds n in the word p
-abbrev pub Finds : ℕ → ℕ → View → Type 0
-Finds p n v = (words : List ℕ) × (slice_index words p ≡ n) × SeatInvariant v.old words v × OldPathsSet v.old words × SummariesOverNonzero words
+pub record Finds (p n : ℕ) (v : View) : Type 0 where
+  pub words : List ℕ
+  pub found : slice_index words p ≡ n
+  pub seat : SeatInvariant v.old words v
+  pub old_paths : OldPathsSet v.old words
+  pub summaries : SummariesOverNonzero words
 
 -- the exchange at layer 0: the index is reported where its bit was clear
 abbrev pub FetchOrLayer0At : ℕ → ℕ → Me (Unit {0}) View → ℕ → Me (Unit {0}) View → Type 0

@@ -39,7 +39,7 @@ impl AtomicBitSet {
     /// An allocation fails.
     pub fn new(alloc: Global) -> Result<AtomicBitSet, AllocError>
         ensures empty { IfOk result (λ set. (i : ℕ) → has set i ≡ false) }
-        ensures bare { IfOk result (λ set. (i : ℕ) → NeedsAllocation set i) }
+        ensures all_lack_room { IfOk result (λ set. (i : ℕ) → NeedsAllocation set i) }
     {
         let layers = Layers::new(alloc)?;
         Ok(AtomicBitSet { layers })
@@ -70,7 +70,7 @@ impl AtomicBitSet {
     /// The empty set, with capacity for all blocks.
     pub(crate) fn with_room(alloc: Global) -> Result<AtomicBitSet, AllocError>
         ensures zero { IfOk result (λ set. (l p : ℕ) → word_of set l p ≡ 0) }
-        ensures room { IfOk result (λ set. HasRoom set.layers.layer0) }
+        ensures has_room { IfOk result (λ set. HasRoom set.layers.layer0) }
     {
         let mut layers = Layers::new(alloc)?;
         layers.make_room()?;
@@ -80,11 +80,11 @@ impl AtomicBitSet {
     /// Stores a word in layer 0, if there is capacity for all blocks, and sets the summaries over it right.
     #[inline]
     pub(crate) fn store_word(&mut self, place: usize, word: usize)
-        requires place { place < 64 ^ (ATOMIC_LAYERS - 1) }
-        requires room { HasRoom self.old.layers.layer0 }
+        requires in_range { place < 64 ^ (ATOMIC_LAYERS - 1) }
+        requires has_room { HasRoom self.old.layers.layer0 }
         ensures here { word_of self.new 0 place ≡ word }
         ensures others { (p : ℕ) → p ≢ place → word_of self.new 0 p ≡ word_of self.old 0 p }
-        ensures room { HasRoom self.new.layers.layer0 }
+        ensures has_room { HasRoom self.new.layers.layer0 }
     {
         if self.layers.make(place).is_ok() {
             let before = self.layers.layer0(place);
@@ -96,10 +96,10 @@ impl AtomicBitSet {
     #[inline]
     fn set_bit(&mut self, id: Index, stands: bool) -> bool
         requires { IsMade self.old.layers.layer0 (id / 64) }
-        ensures was { result ≡ has self.old id }
+        ensures was_member { result ≡ has self.old id }
         ensures put { (i : ℕ) → has self.new i ≡ (if i == id then stands else has self.old i) }
         ensures blocks { self.new.layers.layer0.places.items ≡ self.old.layers.layer0.places.items }
-        ensures room { HasRoom self.old.layers.layer0 → HasRoom self.new.layers.layer0 }
+        ensures keeps_room { HasRoom self.old.layers.layer0 → HasRoom self.new.layers.layer0 }
     {
         let place = id as usize / 64;
         let before = self.layers.layer0(place);
@@ -126,17 +126,18 @@ impl AtomicBitSet {
     #[inline]
     pub fn add(&mut self, id: Index) -> Result<bool, AllocError>
         requires { id < ATOMIC_MAX_EID }
-        ensures was { IfOk result (λ was. was ≡ has self.old id) }
+        ensures was_member { IfOk result (λ was. was ≡ has self.old id) }
         ensures added { OnOk result ((i : ℕ) → has self.new i ≡ (has self.old i || i == id)) }
         ensures err { OnErr result ((i : ℕ) → has self.new i ≡ has self.old i) }
-        ensures near { SharesBlockWithMember self.old id → IsOk result }
-        ensures lacking { OnErr result (NeedsAllocation self.old id) }
-        ensures keeps { (i : ℕ) → NeedsAllocation self.new i → NeedsAllocation self.old i }
-        ensures most { (i : ℕ) → i / 4096 ≢ id / 4096 → NeedsAllocation self.old i
+        ensures succeeds_near { SharesBlockWithMember self.old id → IsOk result }
+        ensures err_lacks_room { OnErr result (NeedsAllocation self.old id) }
+        ensures frees_none { (i : ℕ) → NeedsAllocation self.new i → NeedsAllocation self.old i }
+        ensures makes_no_more { (i : ℕ) → i / 4096 ≢ id / 4096 → NeedsAllocation self.old i
             → NeedsAllocation self.new i }
-        ensures stays { OnErr result ((i : ℕ) → NeedsAllocation self.old i
+        ensures err_makes_none { OnErr result ((i : ℕ) → NeedsAllocation self.old i
             → NeedsAllocation self.new i) }
-        ensures succeeds { AllBlocksReserved self.old → IsOk result × AllBlocksReserved self.new }
+        ensures succeeds { AllBlocksReserved self.old → IsOk result }
+        ensures all_reserved { AllBlocksReserved self.old → AllBlocksReserved self.new }
     {
         self.layers.make(id as usize / 64)?;
         Ok(self.set_bit(id, true))
@@ -145,11 +146,11 @@ impl AtomicBitSet {
     /// Takes an index out, and returns whether it was there. Blocks that were made stay, and none is made.
     #[inline]
     pub fn remove(&mut self, id: Index) -> bool
-        ensures was { result ≡ has self.old id }
+        ensures was_member { result ≡ has self.old id }
         ensures removed { (i : ℕ) → has self.new i ≡ (has self.old i && not (i == id)) }
-        ensures keeps { (i : ℕ) → NeedsAllocation self.new i → NeedsAllocation self.old i }
-        ensures most { (i : ℕ) → NeedsAllocation self.old i → NeedsAllocation self.new i }
-        ensures room { AllBlocksReserved self.old → AllBlocksReserved self.new }
+        ensures frees_none { (i : ℕ) → NeedsAllocation self.new i → NeedsAllocation self.old i }
+        ensures makes_no_more { (i : ℕ) → NeedsAllocation self.old i → NeedsAllocation self.new i }
+        ensures all_reserved { AllBlocksReserved self.old → AllBlocksReserved self.new }
     {
         if !self.contains(id) {
             return false;
@@ -169,9 +170,9 @@ impl AtomicBitSet {
     /// Takes all members out, and keeps the memory: blocks that were made stay, and none is made.
     pub fn clear(&mut self)
         ensures empty { (i : ℕ) → has self.new i ≡ false }
-        ensures keeps { (i : ℕ) → NeedsAllocation self.new i → NeedsAllocation self.old i }
-        ensures most { (i : ℕ) → NeedsAllocation self.old i → NeedsAllocation self.new i }
-        ensures room { AllBlocksReserved self.old → AllBlocksReserved self.new }
+        ensures frees_none { (i : ℕ) → NeedsAllocation self.new i → NeedsAllocation self.old i }
+        ensures makes_no_more { (i : ℕ) → NeedsAllocation self.old i → NeedsAllocation self.new i }
+        ensures all_reserved { AllBlocksReserved self.old → AllBlocksReserved self.new }
     {
         self.layers.clear();
     }

@@ -44,7 +44,7 @@ fn zero_block(words: &mut Vec<usize>, start: usize)
     ensures before { (p : ℕ) → p < start → get_or words.new.items p 0 ≡ get_or words.old.items p 0 }
     ensures after { (p : ℕ) → start + 64 ≤ p
         → get_or words.new.items p 0 ≡ get_or words.old.items p 0 }
-    ensures room { vec_capacity words.new ≡ vec_capacity words.old }
+    ensures same_capacity { vec_capacity words.new ≡ vec_capacity words.old }
 {
     for i in start..start + 64 {
         words[i] = 0;
@@ -67,7 +67,7 @@ impl Blocks {
     /// Reserves capacity for all blocks, and makes none of them.
     pub(crate) fn make_room(&mut self) -> Result<(), AllocError>
         ensures same { (p : ℕ) → block_word self.new p ≡ block_word self.old p }
-        ensures room { OnOk result (HasRoom self.new) }
+        ensures has_room { OnOk result (HasRoom self.new) }
     {
         self.words.reserve(64 * BLOCK_COUNT)
     }
@@ -108,10 +108,10 @@ impl Blocks {
         requires { position < 64 ^ (ATOMIC_LAYERS - 1) }
         ensures same { (p : ℕ) → block_word self.new p ≡ block_word self.old p }
         ensures made { OnOk result (IsMade self.new position) }
-        ensures there { IsMade self.old position → IsOk result }
+        ensures succeeds_made { IsMade self.old position → IsOk result }
         ensures err { OnErr result (IsUnmade self.old (position / 64)
             × (self.new.places.items ≡ self.old.places.items)) }
-        ensures keeps { (k : ℕ) → IsUnmade self.new k → IsUnmade self.old k }
+        ensures frees_none { (k : ℕ) → IsUnmade self.new k → IsUnmade self.old k }
         ensures others { (k : ℕ) → k ≢ position / 64 → IsUnmade self.old k → IsUnmade self.new k }
         ensures succeeds { HasRoom self.old → IsOk result × HasRoom self.new }
     {
@@ -128,7 +128,7 @@ impl Blocks {
         ensures here { block_word self.new position ≡ word }
         ensures others { (p : ℕ) → p ≢ position → block_word self.new p ≡ block_word self.old p }
         ensures made { self.new.places.items ≡ self.old.places.items }
-        ensures room { vec_capacity self.new.words ≡ vec_capacity self.old.words }
+        ensures same_capacity { vec_capacity self.new.words ≡ vec_capacity self.old.words }
     {
         let place = self.places[position / 64];
         self.words[place as usize * 64 + position % 64] = word;
@@ -156,7 +156,7 @@ impl Blocks {
         ensures inside { (p : ℕ) → p / 64 ≡ block → block_word self.new p ≡ 0 }
         ensures outside { (p : ℕ) → p / 64 ≢ block → block_word self.new p ≡ block_word self.old p }
         ensures made { self.new.places.items ≡ self.old.places.items }
-        ensures room { vec_capacity self.new.words ≡ vec_capacity self.old.words }
+        ensures same_capacity { vec_capacity self.new.words ≡ vec_capacity self.old.words }
     {
         let place = self.places[block];
         zero_block(&mut self.words, place as usize * 64);

@@ -26,7 +26,7 @@ use hibitset_base::util::LAYERS;
 /// - Past its positions each layer has zero words: layer 0 has 262,144 positions, and each layer above it a 64th of
 ///   those below.
 pub fn atomic_laws()
-    ensures within { (set : AtomicBitSet) (i : ℕ) → has set i ≡ true → i < ATOMIC_MAX_EID }
+    ensures in_range { (set : AtomicBitSet) (i : ℕ) → has set i ≡ true → i < ATOMIC_MAX_EID }
     ensures exact { (set : AtomicBitSet)
         → SummariesExact LAYERS (topped_word set) × AreWords (topped_word set) }
     ensures intersection { (a b : AtomicBitSet)
@@ -34,9 +34,9 @@ pub fn atomic_laws()
         × CoversWords LAYERS (has b) (topped_word b) (intersection_word a b) }
     ensures kept { (set : AtomicBitSet)
         → SummariesExact ATOMIC_LAYERS (word_of set) × AreWords (word_of set) }
-    ensures past { (set : AtomicBitSet) (l p : ℕ) → 64 ^ (ATOMIC_LAYERS - 1 - l) ≤ p
+    ensures zero_past { (set : AtomicBitSet) (l p : ℕ) → 64 ^ (ATOMIC_LAYERS - 1 - l) ≤ p
         → topped_word set l p ≡ 0 }
-    ensures beside { (set : AtomicBitSet) (word : ℕ → ℕ → ℕ)
+    ensures intersection_covered { (set : AtomicBitSet) (word : ℕ → ℕ → ℕ)
         → CoversWords LAYERS (has set) (topped_word set)
         (λ l p. bit_and (topped_word set l p) (word l p))
         × CoversWords LAYERS (has set) (topped_word set)
@@ -58,7 +58,7 @@ pub fn world_laws()
     ensures lowest { (world : World) → LowestIsRead world }
     ensures few_reads { (world : World) → FewAreRead world }
     ensures none_empty { (world : World) → NoneIsEmpty world }
-    ensures within { (world : World) → NoneIsBeyond world }
+    ensures in_range { (world : World) → NoneIsBeyond world }
     ensures none_hollow { (world : World) → NoneIsHollow world }
     ensures exact_at_rest { (world : World) → RestIsExact world }
     ensures new_once { (world : World) → NewOnce world }

@@ -5,7 +5,7 @@ ghost use Rattle.hibitset_atomic.specs.Clear.{IsCovered, IsClearUnder, IsSameBes
 ghost use Rattle.hibitset_atomic.specs.declared.layers.TheConstants.{ATOMIC_LAYERS};
 
 use crate::blocks::{Blocks, zeros};
-use hibitset_base::bits::{replace, take_bit, with_bit};
+use hibitset_base::bits::{replace, take_bit, with_bit, word_or_zero};
 use std::alloc::{AllocError, Global};
 
 /// Number of layers of an atomic set.
@@ -75,20 +75,20 @@ impl Layers {
     /// Reserves capacity for all blocks, and changes no word.
     pub(crate) fn make_room(&mut self) -> Result<(), AllocError>
         ensures same { (l p : ℕ) → layer_word self.new l p ≡ layer_word self.old l p }
-        ensures room { OnOk result (HasRoom self.new.layer0) }
+        ensures has_room { OnOk result (HasRoom self.new.layer0) }
     {
         self.layer0.make_room()
     }
 
     // Makes the word of layer 2 at a place 0, and all words under it. It goes by the bits, and only to nonzero words.
     fn clear_under(&mut self, place: usize)
-        requires place { place < 64 }
+        requires in_range { place < 64 }
         requires covered { IsCovered (layer_word self.old) }
         ensures inside { IsClearUnder (layer_word self.new) place }
         ensures outside { IsSameBeside (layer_word self.old) (layer_word self.new) place }
         ensures top { self.new.layer3 ≡ self.old.layer3 }
         ensures blocks { self.new.layer0.places.items ≡ self.old.layer0.places.items }
-        ensures room { vec_capacity self.new.layer0.words ≡ vec_capacity self.old.layer0.words }
+        ensures same_capacity { vec_capacity self.new.layer0.words ≡ vec_capacity self.old.layer0.words }
     {
         let mut left = self.layer2[place];
         self.layer2[place] = 0;
@@ -104,7 +104,7 @@ impl Layers {
         requires { SummariesExactEverywhere ATOMIC_LAYERS (layer_word self.old) }
         ensures zero { (l p : ℕ) → layer_word self.new l p ≡ 0 }
         ensures blocks { self.new.layer0.places.items ≡ self.old.layer0.places.items }
-        ensures room { vec_capacity self.new.layer0.words ≡ vec_capacity self.old.layer0.words }
+        ensures same_capacity { vec_capacity self.new.layer0.words ≡ vec_capacity self.old.layer0.words }
     {
         let mut left = self.layer3;
         self.layer3 = 0;
@@ -126,7 +126,7 @@ impl Layers {
     pub(crate) fn layer2(&self, position: usize) -> usize
         ensures { result ≡ layer_word self.now 2 position }
     {
-        self.layer2.get(position).copied().unwrap_or(0)
+        word_or_zero(&self.layer2, position)
     }
 
     /// The word of layer 1 at a position.
@@ -134,7 +134,7 @@ impl Layers {
     pub(crate) fn layer1(&self, position: usize) -> usize
         ensures { result ≡ layer_word self.now 1 position }
     {
-        self.layer1.get(position).copied().unwrap_or(0)
+        word_or_zero(&self.layer1, position)
     }
 
     /// The word of layer 0 at a position.
@@ -151,10 +151,10 @@ impl Layers {
         requires { place < 64 ^ (ATOMIC_LAYERS - 1) }
         ensures same { (l p : ℕ) → layer_word self.new l p ≡ layer_word self.old l p }
         ensures made { OnOk result (IsMade self.new.layer0 place) }
-        ensures there { IsMade self.old.layer0 place → IsOk result }
+        ensures succeeds_made { IsMade self.old.layer0 place → IsOk result }
         ensures err { OnErr result (IsUnmade self.old.layer0 (place / 64)
             × (self.new.layer0.places.items ≡ self.old.layer0.places.items)) }
-        ensures keeps { (k : ℕ) → IsUnmade self.new.layer0 k → IsUnmade self.old.layer0 k }
+        ensures frees_none { (k : ℕ) → IsUnmade self.new.layer0 k → IsUnmade self.old.layer0 k }
         ensures others { (k : ℕ) → k ≢ place / 64 → IsUnmade self.old.layer0 k
             → IsUnmade self.new.layer0 k }
         ensures succeeds { HasRoom self.old.layer0 → IsOk result × HasRoom self.new.layer0 }
@@ -172,7 +172,7 @@ impl Layers {
         ensures here { layer_word self.new 0 place ≡ word }
         ensures others { (p : ℕ) → p ≢ place → layer_word self.new 0 p ≡ layer_word self.old 0 p }
         ensures summed { SummariesExactEverywhere ATOMIC_LAYERS (layer_word self.new) }
-        ensures room { HasRoom self.old.layer0 → HasRoom self.new.layer0 }
+        ensures keeps_room { HasRoom self.old.layer0 → HasRoom self.new.layer0 }
         ensures blocks { self.new.layer0.places.items ≡ self.old.layer0.places.items }
     {
         self.layer0.store_word(place, word);

@@ -48,7 +48,7 @@ pub fn path(id: Index) -> [(usize, usize, usize); 4]
 pub(crate) fn bit_over(id: Index, layer: usize) -> (usize, u32)
     requires id { id < ATOMIC_MAX_EID }
     requires layer { layer < ATOMIC_LAYERS }
-    ensures place { result.0 ≡ id / 64 ^ layer / 64 }
+    ensures word_index { result.0 ≡ id / 64 ^ layer / 64 }
     ensures bit { result.1 ≡ id / 64 ^ layer % 64 }
 {
     let (_, place, mask) = path(id)[layer];
@@ -69,7 +69,7 @@ impl World {
     /// It does not allocate. `alloc` is for what the world keeps of its history, its calls and its walks.
     pub fn new(alloc: Global, set: AtomicBitSet) -> World
         ensures old { old_of result ≡ has set }
-        ensures past { past_of result ≡ [] }
+        ensures no_history { past_of result ≡ [] }
     {
         World {
             alloc,

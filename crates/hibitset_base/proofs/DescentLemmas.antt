@@ -65,7 +65,7 @@ goes_down n p w lawful l q r ps layer within fits = record {
   taken = (record { layer = l; position = q }) ∷ [];
   ahead = ap (λ ws. (record { layer = l; position = q }) ∷ ws) (sym (words_after w l q ps));
   count = omega arith;
-  drawn = λ drawn. All-append (BitIsSet w) (places_in l (bits_from (64 * q) (w l q))) ps (drawn_from_word w l q) (All-tail (BitIsSet w) (record { layer = suc l; position = q }) ps drawn);
+  from_set = λ drawn. All-append (BitIsSet w) (places_in l (bits_from (64 * q) (w l q))) ps (drawn_from_word w l q) (All-tail (BitIsSet w) (record { layer = suc l; position = q }) ps drawn);
   few = λ exact drawn.
       let k : ℕ = n - 2 - l in
       let k-is : n - (l + 1) ≡ suc k = omega arith in

@@ -20,13 +20,15 @@ pub mod ReadsToLemmas
 pub mod BlockLemmas
 pub mod DescentLemmas
 pub mod StepLemmas
+pub mod PartLemmas
 pub mod WalkFromLemmas
 pub mod DrainLemmas
-pub mod PartLemmas
 pub mod RankLemmas
 pub mod RankedLemmas
 pub mod ReadBoundLemmas
+pub mod TopLemmas
 pub mod CoverLemmas
+pub mod PlaceCutLemmas
 pub mod SkipLemmas
 pub mod RunLemmas
 pub mod RevPlaceLemmas
@@ -39,6 +41,7 @@ pub mod SyncLemmas
 pub mod WholeWalkLemmas
 pub mod SummaryUpdateLemmas
 pub mod MembershipLemmas
+pub mod BitLemmas
 pub mod ErrorLemmas
 pub mod SliceLemmas
 pub mod RangeLemmas

@@ -1,38 +1,19 @@
 -- The bits of a word from one bit on before another, and the members under them.
-use Rattle.std.proofs.Common.{◌≡◌, ℕ, ◌+◌, ◌-◌, ◌*◌, ◌/◌, ◌%◌, ◌^◌, ◌<◌, ◌≤◌, Bool, ◌==◌, [], ◌++◌, bit_and, sym, ◌∙◌, ap, ap₂, arith, inl, inr}
+use Rattle.std.proofs.Common.{◌≡◌, ℕ, ◌+◌, ◌-◌, ◌*◌, ◌/◌, ◌%◌, ◌^◌, ◌<◌, Bool, ◌==◌, [], ◌++◌, sym, ◌∙◌, ap, ap₂, arith, inl, inr}
 use Rattle.std.specs.Int.{bit_at}
 use Rattle.std.specs.List.{flat_map}
 use Rattle.std.proofs.lemmas.Bool.{cases_lt}
 use Rattle.std.proofs.lemmas.List.{append-nil}
 use Rattle.std.proofs.lemmas.List.Folds.{flat_map-map}
-use Rattle.std.proofs.lemmas.Nat.Bits.{bit_at_and, bit_at-lt, bit_at_mask_below, bit_at_mask_inside, bit_at_mask_above}
+use Rattle.hibitset_base.specs.Bits.{HasPart}
 use Rattle.hibitset_base.specs.Members.{members}
 use Rattle.hibitset_base.specs.Sets.{IsLawful}
 use Rattle.hibitset_base.specs.Places.{places_in, bits_from, items_under, items_of}
-use Rattle.hibitset_base.specs.Ranks.{HasHead, HasPart}
 use Rattle.hibitset_base.specs.WordsRead.{BitIsSet, AllAreSet}
 use Rattle.hibitset_base.proofs.MemberLemmas.{members-none, members-same, members-append, members-blocks}
 use Rattle.hibitset_base.proofs.PlaceLemmas.{eq_none}
 use Rattle.hibitset_base.proofs.LayerLemmas.{block_here}
-use Rattle.hibitset_base.proofs.CutLemmas.{CutsAt}
 use Rattle.hibitset_base.proofs.DescentLemmas.{one_of, all-members}
-
--- with the ones from bit a on before bit b a word keeps its part there
-pub has_part : (m a b : ℕ) → a ≤ b → b ≤ 64 → HasPart m a b (bit_and m (2 ^ b - 2 ^ a))
-has_part m a b order few = record {
-  order = order;
-  few = few;
-  same = λ j from below. let e = bit_at_and m (2 ^ b - 2 ^ a) j in let one = bit_at_mask_inside a b j from below in let less = bit_at-lt m j in omega (arith, e, one, less);
-  before = λ j lower. let e = bit_at_and m (2 ^ b - 2 ^ a) j in let none = bit_at_mask_below a b j lower in omega (arith, e, none);
-  after = λ j upper small. let e = bit_at_and m (2 ^ b - 2 ^ a) j in let none = bit_at_mask_above a b j upper in omega (arith, e, none);
-}
-
-pub head_cut : (m c low high : ℕ) → CutsAt m c low high → HasHead m c low
-head_cut m c low high cuts = record { few = (let h = cuts.here in omega arith); same = cuts.low_same; none = cuts.low_none }
-
--- a head is the part before its end
-part_of_head : (m c head : ℕ) → HasHead m c head → HasPart m 0 c head
-part_of_head m c head has = record { order = omega arith; few = has.few; same = λ j from below. has.same j below; before = λ j lower. absurd (omega arith); after = has.none }
 
 -- the bits of a part
 module _ (s m a b part : ℕ) (has : HasPart m a b part) where
@@ -69,22 +50,25 @@ items_of_part n p w lawful l k q a b part layers within has =
     listed ∙ (ap (flat_map (λ i. items_under p l i)) (bits_of_part (64 * q) (w l q) a b part has) ∙ found)
 
 -- and a head of a word for the members before its end
-pub items_of_head : (n : ℕ) (p : ℕ → Bool) (w : ℕ → ℕ → ℕ) → IsLawful n p w → (l k q c head : ℕ) → l + k + 1 ≡ n → q < 64 ^ k → HasHead (w l q) c head
+pub items_of_head : (n : ℕ) (p : ℕ → Bool) (w : ℕ → ℕ → ℕ) → IsLawful n p w → (l k q c head : ℕ) → l + k + 1 ≡ n → q < 64 ^ k → HasPart (w l q) 0 c head
     → items_of p (places_in l (bits_from (64 * q) head)) ≡ members p (64 * q * 64 ^ l) (c * 64 ^ l)
 items_of_head n p w lawful l k q c head layers within has =
     let first : 64 * q + 0 ≡ 64 * q = omega arith in
     let count : c - 0 ≡ c = omega arith in
-    items_of_part n p w lawful l k q 0 c head layers within (part_of_head (w l q) c head has) ∙ ap₂ (λ x y. members p (x * 64 ^ l) (y * 64 ^ l)) first count
+    items_of_part n p w lawful l k q 0 c head layers within has ∙ ap₂ (λ x y. members p (x * 64 ^ l) (y * 64 ^ l)) first count
 
--- the bits of a head are set in the set's own word
-pub drawn_head : (w : ℕ → ℕ → ℕ) (l q c head : ℕ) → HasHead (w l q) c head → AllAreSet w (places_in l (bits_from (64 * q) head))
-drawn_head w l q c head has =
-    all-members (BitIsSet w) l (λ i. bit_at head (i - 64 * q) == 1) (64 * q) 64
+-- the bits of a part are set in the set's own word
+pub drawn_part : (w : ℕ → ℕ → ℕ) (l q a b part : ℕ) → HasPart (w l q) a b part → AllAreSet w (places_in l (bits_from (64 * q) part))
+drawn_part w l q a b part has =
+    all-members (BitIsSet w) l (λ i. bit_at part (i - 64 * q) == 1) (64 * q) 64
     (λ i from below stands.
     let place : i / 64 ≡ q = omega arith in
     let bit : i % 64 ≡ i - 64 * q = omega arith in
-    let here : bit_at head (i - 64 * q) ≡ 1 = one_of (bit_at head (i - 64 * q)) stands in
-    rw (place, bit) (elim (cases_lt (i - 64 * q) c) [
-      | inl lower ↦ sym (has.same (i - 64 * q) lower) ∙ here
-      | inr upper ↦ absurd (let z = has.none (i - 64 * q) upper (omega arith) in omega (arith, z, here))
+    let here : bit_at part (i - 64 * q) ≡ 1 = one_of (bit_at part (i - 64 * q)) stands in
+    rw (place, bit) (elim (cases_lt (i - 64 * q) a) [
+      | inl lower ↦ absurd (let z = has.before (i - 64 * q) lower in omega (arith, z, here))
+      | inr later ↦ elim (cases_lt (i - 64 * q) b) [
+        | inl inside ↦ sym (has.same (i - 64 * q) later inside) ∙ here
+        | inr upper ↦ absurd (let z = has.after (i - 64 * q) upper (omega arith) in omega (arith, z, here))
+      ]
     ]))

@@ -5,11 +5,12 @@ use Rattle.std.specs.Prelude.{slice_get}
 use Rattle.std.specs.Int.{bit_at}
 use Rattle.std.proofs.Math.Nat.{pow-suc, one-le-pow, div-lt_iff_lt-mul, div-eq_of_lt, div-mul-le_self, lt-div-mul-add}
 use Rattle.std.proofs.lemmas.Nat.{pow-add}
+use Rattle.hibitset_base.specs.Bits.{HasPart}
 use Rattle.hibitset_base.specs.Members.{members, members_below}
 use Rattle.hibitset_base.specs.Sets.{IsLawful}
 use Rattle.hibitset_base.specs.Places.{places_in, bits_from, items_under, items_of}
 use Rattle.hibitset_base.specs.WalkFrom.{bit_over}
-use Rattle.hibitset_base.specs.Ranks.{HasHead, start_over}
+use Rattle.hibitset_base.specs.Ranks.{start_over}
 use Rattle.hibitset_base.proofs.MemberLemmas.{members-none, members-append}
 use Rattle.hibitset_base.proofs.FirstLemmas.{none_in}
 use Rattle.hibitset_base.proofs.PlaceLemmas.{eq_none}
@@ -45,7 +46,7 @@ start_here end l =
 
 -- The word over an index in a layer, as code finds it, with its head before the bit over the index.
 module _ (n : ℕ) (p : ℕ → Bool) (w : ℕ → ℕ → ℕ) (lawful : IsLawful n p w) (end : ℕ) (within : end < 64 ^ n) (l k : ℕ) (layers : l + k + 1 ≡ n) where
-  pub count_head : (place v start head : ℕ) → place ≡ end / 64 ^ l → v ≡ w l (place / 64) → start ≡ 64 * (place / 64) → HasHead v (place % 64) head
+  pub count_head : (place v start head : ℕ) → place ≡ end / 64 ^ l → v ≡ w l (place / 64) → start ≡ 64 * (place / 64) → HasPart v 0 (place % 64) head
       → items_of p (places_in l (bits_from start head)) ≡ members p (start_over end (l + 1)) (start_over end l - start_over end (l + 1))
   count_head place v start head place-is read start-is has =
       let q : ℕ = end / 64 ^ (l + 1) in
@@ -53,7 +54,7 @@ module _ (n : ℕ) (p : ℕ → Bool) (w : ℕ → ℕ → ℕ) (lawful : IsLawf
       let word : v ≡ w l q = read ∙ ap (w l) q-is in
       let begins : start ≡ 64 * q = start-is ∙ ap (λ x. 64 * x) q-is in
       let bit : place % 64 ≡ end / 64 ^ l % 64 = ap (λ x. x % 64) place-is in
-      let has_here : HasHead (w l q) (end / 64 ^ l % 64) head = rw (word, bit) at has in
+      let has_here : HasPart (w l q) 0 (end / 64 ^ l % 64) head = rw (word, bit) at has in
       let items = items_of_head n p w lawful l k q (end / 64 ^ l % 64) head layers (word_within n p w lawful end within l k layers) has_here in
       let more : end / 64 ^ l % 64 * 64 ^ l ≡ start_over end l - start_over end (l + 1) = (let e = start_here end l in omega (arith, e)) in
       ap (λ s. items_of p (places_in l (bits_from s head))) begins ∙ (items ∙ ap₂ (members p) (sym (start_next end l)) more)

@@ -5,7 +5,7 @@ use Rattle.hibitset_base.specs.WordsRead.{words_of, ReadsTo}
 
 module _ {n : ℕ} {holds : ℕ → Bool} {word : ℕ → ℕ → ℕ} where
   pub goes_nowhere : (r : ℕ) (ps : List Place) → ReadsTo n holds word r ps r ps
-  goes_nowhere r ps = record { items = refl; taken = []; ahead = refl; count = omega arith; drawn = λ h. h; few = λ exact drawn. omega arith }
+  goes_nowhere r ps = record { items = refl; taken = []; ahead = refl; count = omega arith; from_set = λ h. h; few = λ exact drawn. omega arith }
 
   pub goes_both : {r s t : ℕ} {ps qs xs : List Place} → ReadsTo n holds word r ps s qs → ReadsTo n holds word s qs t xs → ReadsTo n holds word r ps t xs
   goes_both a b = record {
@@ -13,8 +13,8 @@ module _ {n : ℕ} {holds : ℕ → Bool} {word : ℕ → ℕ → ℕ} where
     taken = a.taken ++ b.taken;
     ahead = a.ahead ∙ (ap (λ ws. a.taken ++ ws) b.ahead ∙ sym (append_assoc a.taken b.taken _));
     count = let h = a.count in let k = b.count in let e = length-append a.taken b.taken in omega arith;
-    drawn = λ h. b.drawn (a.drawn h);
-    few = λ exact drawn. let h = a.few exact drawn in let k = b.few exact (a.drawn drawn) in omega arith;
+    from_set = λ h. b.from_set (a.from_set h);
+    few = λ exact drawn. let h = a.few exact drawn in let k = b.few exact (a.from_set drawn) in omega arith;
   }
 
   -- what is ahead gets no more

@@ -88,15 +88,15 @@ module _ (s m r b : ℕ) (small : b < 64) (on : bit_at m b ≡ 1) (last : (c : �
 -- several reads
 module _ {n : ℕ} {holds : ℕ → Bool} {word : ℕ → ℕ → ℕ} where
   pub stays_back : (r : ℕ) (ps : List Place) → GoesBack n holds word r ps r ps
-  stays_back r ps = record { items = refl; count = refl; drawn = λ h. h; few = λ exact drawn. omega arith; some = λ exact drawn some. some }
+  stays_back r ps = record { items = refl; count = refl; from_set = λ h. h; few = λ exact drawn. omega arith; some = λ exact drawn some. some }
 
   pub both_back : {r s t : ℕ} {ps qs xs : List Place} → GoesBack n holds word r ps s qs → GoesBack n holds word s qs t xs → GoesBack n holds word r ps t xs
   both_back a b = record {
     items = b.items ∙ a.items;
     count = b.count ∙ a.count;
-    drawn = λ h. b.drawn (a.drawn h);
-    few = λ exact drawn. let h = a.few exact drawn in let k = b.few exact (a.drawn drawn) in omega (arith, h, k);
-    some = λ exact drawn some. b.some exact (a.drawn drawn) (a.some exact drawn some);
+    from_set = λ h. b.from_set (a.from_set h);
+    few = λ exact drawn. let h = a.few exact drawn in let k = b.few exact (a.from_set drawn) in omega (arith, h, k);
+    some = λ exact drawn some. b.some exact (a.from_set drawn) (a.some exact drawn some);
   }
 
 -- a list with an element is not empty
@@ -178,7 +178,7 @@ module _ (n : ℕ) (p : ℕ → Bool) (w : ℕ → ℕ → ℕ) (lawful : IsLawf
   goes_down_back r = record {
     items = same_items;
     count = one_word r;
-    drawn = λ drawn. All-append (BitIsSet w) rest under (All-pop (BitIsSet w) (rest ++ (place ∷ [])) rest (Some place) refl drawn).0 (drawn_from_word w l q);
+    from_set = λ drawn. All-append (BitIsSet w) rest under (All-pop (BitIsSet w) (rest ++ (place ∷ [])) rest (Some place) refl drawn).0 (drawn_from_word w l q);
     few = λ exact drawn.
         let there = some_place (some_bit exact (All-pop (BitIsSet w) (rest ++ (place ∷ [])) rest (Some place) refl drawn).1) in
         let new : depth (reverse (rest ++ under)) ≡ l = ap (λ ys. depth (reverse (rest ++ places_in l ys))) there.2 ∙ depth_behind rest l there.0 there.1 in
@@ -204,7 +204,7 @@ module _ {T : Type 0} (holds : T → ℕ → Bool) (word : T → ℕ → ℕ →
   keeps_back goes same drawn = record {
     set = set;
     count = (let all = goes.count in let e = ap length same in let f = ap (λ s. length (words_of (word s) (rev_left new.cursor))) set in omega (arith, all, e, f));
-    drawn = λ before. rw set (drawn (goes.drawn before));
+    from_set = λ before. rw set (drawn (goes.from_set before));
     few = λ exact before. let few = goes.few exact before in let most = few_layers_back (λ l. get_or old.cursor.masks l 0) (λ l. get_or old.cursor.starts l 0) (LAYERS - 1) in omega (arith, few, most);
   }
 

@@ -165,7 +165,7 @@ module _ {S : Type 0} (holds : S → ℕ → Bool) (word : S → ℕ → ℕ →
       apart_divided = rw (set, other_set) (share_no_range LAYERS h.layer (holds old.set) h.places (cursor_places new.cursor) (cursor_places other.cursor) h.lies h.cut lowest h.from)
 
       drawn_both : BitsAreFromSet word old → AllAreSet (word old.set) (cursor_places new.cursor ++ cursor_places other.cursor)
-      drawn_both drawn = subst (AllAreSet (word old.set)) h.cut.all (h.goes.drawn drawn)
+      drawn_both drawn = subst (AllAreSet (word old.set)) h.cut.all (h.goes.from_set drawn)
 
       pub drawn_divided : BitsAreFromSet word old → BitsAreFromSet word new × BitsAreFromSet word other
       drawn_divided drawn = rw (set, other_set) (

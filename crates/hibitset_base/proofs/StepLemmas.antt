@@ -22,7 +22,7 @@ module _ {T : Type 0} (holds : T → ℕ → Bool) (word : T → ℕ → ℕ →
     read = goes.taken;
     ahead = rw set (goes.ahead ∙ ap (λ ws. goes.taken ++ ws) same);
     count = goes.count;
-    drawn = λ before. rw set (drawn (goes.drawn before));
+    from_set = λ before. rw set (drawn (goes.from_set before));
     few = λ exact before. let few = goes.few exact before in let most = few_layers in omega arith;
   }
 

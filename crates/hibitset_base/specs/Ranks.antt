@@ -1,22 +1,7 @@
 -- How many members come before an index, and which one stands at a place of their list.
 use Rattle.std.specs.Prelude.{◌≡◌, ℕ, ◌-◌, ◌*◌, ◌/◌, ◌^◌, ◌<◌, ◌≤◌, Bool, true, List, length, get_or}
-use Rattle.std.specs.Int.{bit_at}
 use Rattle.hibitset_base.specs.Members.{members_below}
 use Rattle.hibitset_base.specs.declared.util.TheConstants.{MAX_EID}
-
--- The bits of a word m before bit c are those of head, which has none from there on.
-pub record HasHead (m c head : ℕ) : Type 0 where
-  pub few : c ≤ 64
-  pub same : (j : ℕ) → j < c → bit_at head j ≡ bit_at m j
-  pub none : (j : ℕ) → c ≤ j → j < 64 → bit_at head j ≡ 0
-
--- The bits of a word m from bit a on before bit b are those of part, which has no other.
-pub record HasPart (m a b part : ℕ) : Type 0 where
-  pub order : a ≤ b
-  pub few : b ≤ 64
-  pub same : (j : ℕ) → a ≤ j → j < b → bit_at part j ≡ bit_at m j
-  pub before : (j : ℕ) → j < a → bit_at part j ≡ 0
-  pub after : (j : ℕ) → b ≤ j → j < 64 → bit_at part j ≡ 0
 
 -- where the place over an index begins, in a layer
 abbrev pub start_over : ℕ → ℕ → ℕ

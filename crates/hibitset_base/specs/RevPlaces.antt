@@ -19,6 +19,6 @@ AreAligned n starts = (l : ℕ) → l < n → (get_or starts l 0 % 64 ≡ 0) × 
 pub record GoesBack (n : ℕ) (holds : ℕ → Bool) (word : ℕ → ℕ → ℕ) (reads : ℕ) (ps : List Place) (later : ℕ) (qs : List Place) : Type 0 where
   pub items : items_of holds qs ≡ items_of holds ps
   pub count : later + length (words_of word qs) ≡ reads + length (words_of word ps)
-  pub drawn : AllAreSet word ps → AllAreSet word qs
+  pub from_set : AllAreSet word ps → AllAreSet word qs
   pub few : SummariesExact n word → AllAreSet word ps → later + depth (reverse qs) ≤ reads + depth (reverse ps)
   pub some : SummariesExact n word → AllAreSet word ps → ps ≢ [] → qs ≢ []

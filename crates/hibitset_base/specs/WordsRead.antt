@@ -35,7 +35,7 @@ pub record ReadsTo (n : ℕ) (holds : ℕ → Bool) (word : ℕ → ℕ → ℕ)
   pub taken : List Place
   pub ahead : words_of word ps ≡ taken ++ words_of word qs
   pub count : later ≡ reads + length taken
-  pub drawn : AllAreSet word ps → AllAreSet word qs
+  pub from_set : AllAreSet word ps → AllAreSet word qs
   pub few : SummariesExact n word → AllAreSet word ps → later + depth qs ≤ reads + depth ps
 
 -- The set p has exact summaries, and its words have each bit of these words.

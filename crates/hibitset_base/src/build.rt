@@ -57,11 +57,11 @@ pub trait FallibleInsert: BitSetLike {
         ensures added { OnOk result ((i : ℕ)
             → Self.holds self.new i ≡ (Self.holds self.old i || i == index)) }
         ensures err { OnErr result ((i : ℕ) → Self.holds self.new i ≡ Self.holds self.old i) }
-        ensures lacking { OnErr result (needs_allocation self.old index) }
-        ensures keeps { (j : ℕ) → needs_allocation self.new j → needs_allocation self.old j }
-        ensures most { OnOk result ((j : ℕ) → needs_allocation self.old j
+        ensures err_lacks_room { OnErr result (needs_allocation self.old index) }
+        ensures frees_none { (j : ℕ) → needs_allocation self.new j → needs_allocation self.old j }
+        ensures makes_no_more { OnOk result ((j : ℕ) → needs_allocation self.old j
             → need_separate_room index j → needs_allocation self.new j) }
-        ensures stays { OnErr result ((j : ℕ) → needs_allocation self.old j
+        ensures err_makes_none { OnErr result ((j : ℕ) → needs_allocation self.old j
             → needs_allocation self.new j) };
 
     // Each member has room, and so has what does not lie apart from it.
@@ -76,10 +76,10 @@ fn add_item<T: FallibleInsert>(set: &mut T, place: usize, index: Index) -> Resul
     ensures in_range { OnOk result (index < T.RANGE) }
     ensures err { IfErr result (λ error. IsRefusalBelow T.RANGE (T.needs_allocation set.new)
         error place index × ((i : ℕ) → T.holds set.new i ≡ T.holds set.old i)) }
-    ensures keeps { (j : ℕ) → T.needs_allocation set.new j → T.needs_allocation set.old j }
-    ensures most { OnOk result ((j : ℕ) → T.needs_allocation set.old j
+    ensures frees_none { (j : ℕ) → T.needs_allocation set.new j → T.needs_allocation set.old j }
+    ensures makes_no_more { OnOk result ((j : ℕ) → T.needs_allocation set.old j
         → T.need_separate_room index j → T.needs_allocation set.new j) }
-    ensures stays { OnErr result ((j : ℕ) → T.needs_allocation set.old j
+    ensures err_makes_none { OnErr result ((j : ℕ) → T.needs_allocation set.old j
         → T.needs_allocation set.new j) }
 {
     if index as usize >= T::RANGE {
@@ -103,8 +103,8 @@ pub fn extend_indices<T: FallibleInsert, U: IntoIterator<Item = Index>>(
     ensures stops { IfErr result (StopsAtRefusedBelow T.RANGE U.into_iter_gives
         U.IntoIter.next_gives (λ i. i) iter (T.holds set.old) (T.holds set.new)
         (T.needs_allocation set.new)) }
-    ensures keeps { (j : ℕ) → T.needs_allocation set.new j → T.needs_allocation set.old j }
-    ensures most { (j : ℕ) → T.needs_allocation set.old j
+    ensures frees_none { (j : ℕ) → T.needs_allocation set.new j → T.needs_allocation set.old j }
+    ensures makes_no_more { (j : ℕ) → T.needs_allocation set.old j
         → LiesApart T.need_separate_room (T.holds set.new) j → T.needs_allocation set.new j }
 {
     let mut place = 0usize;
@@ -127,8 +127,8 @@ pub fn extend_index_refs<'a, T: FallibleInsert, U: IntoIterator<Item = &'a Index
     ensures stops { IfErr result (StopsAtRefusedBelow T.RANGE U.into_iter_gives
         U.IntoIter.next_gives (λ i. i.now) iter (T.holds set.old) (T.holds set.new)
         (T.needs_allocation set.new)) }
-    ensures keeps { (j : ℕ) → T.needs_allocation set.new j → T.needs_allocation set.old j }
-    ensures most { (j : ℕ) → T.needs_allocation set.old j
+    ensures frees_none { (j : ℕ) → T.needs_allocation set.new j → T.needs_allocation set.old j }
+    ensures makes_no_more { (j : ℕ) → T.needs_allocation set.old j
         → LiesApart T.need_separate_room (T.holds set.new) j → T.needs_allocation set.new j }
 {
     let mut place = 0usize;
@@ -148,10 +148,10 @@ pub fn from_indices<T: FallibleInsert, U: IntoIterator<Item = Index>>(
     requires finite { IsFiniteIterable U.into_iter_gives U.IntoIter.can_next U.IntoIter.remaining
         iter }
     requires empty { (i : ℕ) → T.holds set i ≡ false }
-    requires bare { (j : ℕ) → T.needs_allocation set j }
+    requires all_lack_room { (j : ℕ) → T.needs_allocation set j }
     ensures all { IfOk result (λ made. TakesAllBelow T.RANGE U.into_iter_gives U.IntoIter.next_gives
         (λ i. i) iter (λ _. false) (T.holds made)) }
-    ensures most { IfOk result (λ made. (j : ℕ) → LiesApart T.need_separate_room (T.holds made) j
+    ensures makes_no_more { IfOk result (λ made. (j : ℕ) → LiesApart T.need_separate_room (T.holds made) j
         → T.needs_allocation made j) }
     ensures stops { IfErr result (RefusesBelow T.RANGE U.into_iter_gives U.IntoIter.next_gives
         (λ i. i) iter T.need_separate_room) }
@@ -169,10 +169,10 @@ pub fn from_index_refs<'a, T: FallibleInsert, U: IntoIterator<Item = &'a Index>>
     requires finite { IsFiniteIterable U.into_iter_gives U.IntoIter.can_next U.IntoIter.remaining
         iter }
     requires empty { (i : ℕ) → T.holds set i ≡ false }
-    requires bare { (j : ℕ) → T.needs_allocation set j }
+    requires all_lack_room { (j : ℕ) → T.needs_allocation set j }
     ensures all { IfOk result (λ made. TakesAllBelow T.RANGE U.into_iter_gives U.IntoIter.next_gives
         (λ i. i.now) iter (λ _. false) (T.holds made)) }
-    ensures most { IfOk result (λ made. (j : ℕ) → LiesApart T.need_separate_room (T.holds made) j
+    ensures makes_no_more { IfOk result (λ made. (j : ℕ) → LiesApart T.need_separate_room (T.holds made) j
         → T.needs_allocation made j) }
     ensures stops { IfErr result (RefusesBelow T.RANGE U.into_iter_gives U.IntoIter.next_gives
         (λ i. i.now) iter T.need_separate_room) }
@@ -191,13 +191,13 @@ pub fn extend_from_slice<T: FallibleInsert>(
     ensures in_range { OnOk result (InRangeBefore T.RANGE indices.now (length indices.now)) }
     ensures added_before { IfErr result (λ error. AddsList (T.holds set.old) (T.holds set.new)
         (take (place_of error) indices.now)) }
-    ensures place { IfErr result (λ error. place_of error < length indices.now) }
+    ensures error_place { IfErr result (λ error. place_of error < length indices.now) }
     ensures in_range_before { IfErr result (λ error. InRangeBefore T.RANGE indices.now
         (place_of error)) }
-    ensures why { IfErr result (IsRefusalIn T.RANGE indices.now) }
+    ensures reason { IfErr result (IsRefusalIn T.RANGE indices.now) }
     ensures lacks_room { IfErr result (LacksRoom (T.needs_allocation set.new) indices.now) }
-    ensures keeps { (j : ℕ) → T.needs_allocation set.new j → T.needs_allocation set.old j }
-    ensures most { (j : ℕ) → T.needs_allocation set.old j
+    ensures frees_none { (j : ℕ) → T.needs_allocation set.new j → T.needs_allocation set.old j }
+    ensures makes_no_more { (j : ℕ) → T.needs_allocation set.old j
         → LiesApart T.need_separate_room (T.holds set.new) j → T.needs_allocation set.new j }
 {
     extend_index_refs(set, indices)
@@ -207,16 +207,16 @@ pub fn extend_from_slice<T: FallibleInsert>(
 #[doc(hidden)]
 pub fn from_slice<T: FallibleInsert>(set: T, indices: &[Index]) -> Result<T, BuildError>
     requires empty { (i : ℕ) → T.holds set i ≡ false }
-    requires bare { (j : ℕ) → T.needs_allocation set j }
+    requires all_lack_room { (j : ℕ) → T.needs_allocation set j }
     ensures members { IfOk result (λ made. (i : ℕ)
         → (T.holds made i ≡ true) ↔ Contains indices.now i) }
     ensures in_range { IfOk result (λ _. InRangeBefore T.RANGE indices.now (length indices.now)) }
-    ensures most { IfOk result (λ made. (j : ℕ) → LiesApart T.need_separate_room (T.holds made) j
+    ensures makes_no_more { IfOk result (λ made. (j : ℕ) → LiesApart T.need_separate_room (T.holds made) j
         → T.needs_allocation made j) }
-    ensures place { IfErr result (λ error. place_of error < length indices.now) }
+    ensures error_place { IfErr result (λ error. place_of error < length indices.now) }
     ensures in_range_before { IfErr result (λ error. InRangeBefore T.RANGE indices.now
         (place_of error)) }
-    ensures why { IfErr result (IsRefusalIn T.RANGE indices.now) }
+    ensures reason { IfErr result (IsRefusalIn T.RANGE indices.now) }
     ensures apart { IfErr result (LiesApartIn T.need_separate_room indices.now) }
 {
     from_index_refs(set, indices)

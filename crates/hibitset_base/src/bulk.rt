@@ -33,7 +33,7 @@ pub(crate) fn take_next_word<T: BitSetLike>(
         (λ found. ReadsTo LAYERS (T.holds set.now) (T.word set.now) reads.old.count
         (cursor_places cursor.old) reads.new.count
         (places_in 0 (bits_from found.0 found.1) ++ cursor_places cursor.new)) }
-    ensures some { IfSome result (λ found. (0 < found.1) × (found.1 < 2 ^ 64)) }
+    ensures nonzero { IfSome result (λ found. (0 < found.1) × (found.1 < 2 ^ 64)) }
     ensures within { IfSome result (λ found. (found.0 % 64 ≡ 0) × (found.0 < MAX_EID)) }
 {
     'layers: while cursor.is_empty(0) {
@@ -59,9 +59,9 @@ pub(crate) fn take_next_block<T: BitSetLike>(
         (λ found. ReadsTo LAYERS (T.holds set.now) (T.word set.now) reads.old.count
         (cursor_places cursor.old) reads.new.count
         (places_in 1 (bits_from found.0 found.1) ++ cursor_places cursor.new)) }
-    ensures some { IfSome result (λ found. (0 < found.1) × (found.1 < 2 ^ 64)) }
+    ensures nonzero { IfSome result (λ found. (0 < found.1) × (found.1 < 2 ^ 64)) }
     ensures within { IfSome result (λ found. (found.0 % 64 ≡ 0) × (found.0 < 64 ^ (LAYERS - 1))) }
-    ensures below { IfSome result (λ _. IsEmptyBelow cursor.new 1) }
+    ensures empty_below { IfSome result (λ _. IsEmptyBelow cursor.new 1) }
 {
     'layers: while cursor.is_empty(1) {
         if !load_next_from_layer2(set, cursor, reads) {
@@ -75,7 +75,7 @@ pub(crate) fn take_next_block<T: BitSetLike>(
 // the position of that word's first bit, and the word.
 #[inline]
 pub(crate) fn take_child<T: BitSetLike>(set: &T, start: u32, rest: &mut usize) -> (Index, usize)
-    requires some { 0 < rest.old }
+    requires nonzero { 0 < rest.old }
     requires aligned { start % 64 ≡ 0 }
     requires within { start < 64 ^ (LAYERS - 1) }
     ensures items { items_of (T.holds set.now) (places_in 1 (bits_from start rest.old))
@@ -97,7 +97,7 @@ pub(crate) fn take_lowest_word(cursor: &mut Cursor<LAYERS>) -> (Index, usize)
     ensures items { (holds : ℕ → Bool)
         → items_of holds (cursor_places cursor.old)
         ≡ bits_from result.0 result.1 ++ items_of holds (cursor_places cursor.new) }
-    ensures below { IsEmptyBelow cursor.new 1 }
+    ensures empty_below { IsEmptyBelow cursor.new 1 }
     ensures fits { result.1 < 2 ^ 64 }
     ensures within { (result.0 % 64 ≡ 0) × (result.0 < MAX_EID) }
 {
@@ -109,8 +109,8 @@ pub(crate) fn take_lowest_word(cursor: &mut Cursor<LAYERS>) -> (Index, usize)
 
 // Takes the first bit of a word whose own first bit is at `start`, and returns its index.
 #[inline]
-pub(crate) fn take_bit(start: Index, rest: &mut usize) -> Index
-    requires some { 0 < rest.old }
+pub(crate) fn take_index(start: Index, rest: &mut usize) -> Index
+    requires nonzero { 0 < rest.old }
     requires aligned { start % 64 ≡ 0 }
     ensures taken { bits_from start rest.old ≡ result ∷ bits_from start rest.new }
     ensures less { rest.new < rest.old }

@@ -85,7 +85,7 @@ fn keep_or_remove<T: DrainableBitSet, F: Fn(Index) -> bool>(set: &mut T, index: 
     requires { F.IsAlwaysCallable keep.now }
     ensures answer { T.holds set.old index ≡ true → F.post keep.now index (T.holds set.new index) }
     ensures others { (i : ℕ) → i ≢ index → T.holds set.new i ≡ T.holds set.old i }
-    ensures room { T.keeps_room set.old set.new }
+    ensures keeps_room { T.keeps_room set.old set.new }
 {
     if keep(index) {
         return;
@@ -101,7 +101,7 @@ pub(crate) fn retain_members<T: DrainableBitSet, F: Fn(Index) -> bool>(set: &mut
         → F.post keep.now i (T.holds set.new i) }
     ensures others { (i : ℕ) → is_member (T.holds set.old) i ≡ false
         → T.holds set.new i ≡ T.holds set.old i }
-    ensures room { T.keeps_room set.old set.new }
+    ensures keeps_room { T.keeps_room set.old set.new }
 {
     let mut reads = Reads::none();
     let mut cursor = root_cursor(&*set, &mut reads);

@@ -16,7 +16,7 @@ use crate::util::{Index, LAYERS, MAX_EID};
 pub(crate) fn find_first<T: BitSetLike>(set: &T, reads: &mut Reads) -> Option<Index>
     ensures first { MatchOption result (HasNone MAX_EID (T.holds set.now))
         (IsFirst MAX_EID (T.holds set.now)) }
-    ensures few { SummariesExact LAYERS (T.word set.now)
+    ensures reads_max { SummariesExact LAYERS (T.word set.now)
         → reads.new.count ≤ reads.old.count + LAYERS }
 {
     let mut cursor = root_cursor(set, reads);
@@ -31,7 +31,7 @@ pub(crate) fn find_first<T: BitSetLike>(set: &T, reads: &mut Reads) -> Option<In
 pub(crate) fn find_last<T: BitSetLike>(set: &T, reads: &mut Reads) -> Option<Index>
     ensures last { MatchOption result (HasNone MAX_EID (T.holds set.now))
         (IsLast MAX_EID (T.holds set.now)) }
-    ensures few { SummariesExact LAYERS (T.word set.now)
+    ensures reads_max { SummariesExact LAYERS (T.word set.now)
         → reads.new.count ≤ reads.old.count + LAYERS }
 {
     let mut cursor = start_at_end(set, reads);
@@ -44,7 +44,7 @@ fn find_last_before<T: BitSetLike>(set: &T, reads: &mut Reads, end: Index) -> Op
     requires { end < MAX_EID }
     ensures last { MatchOption result (HasNone end (T.holds set.now))
         (IsLast end (T.holds set.now)) }
-    ensures few { SummariesExact LAYERS (T.word set.now)
+    ensures reads_max { SummariesExact LAYERS (T.word set.now)
         → reads.new.count ≤ reads.old.count + 2 * LAYERS - 1 }
 {
     'layers: for layer in 0..LAYERS {
@@ -66,7 +66,7 @@ pub(crate) fn find_last_below<T: BitSetLike>(
 ) -> Option<Index>
     ensures last { MatchOption result (HasNone (min end MAX_EID) (T.holds set.now))
         (IsLast (min end MAX_EID) (T.holds set.now)) }
-    ensures few { SummariesExact LAYERS (T.word set.now)
+    ensures reads_max { SummariesExact LAYERS (T.word set.now)
         → reads.new.count ≤ reads.old.count + 2 * LAYERS - 1 }
 {
     if end as usize >= MAX_EID {

@@ -1,46 +1,28 @@
 //! Walks that begin at an index.
-#![tactic(auto, unfolding(crate::specs::Walk::items_left, crate::specs::Walk::set_of))]
+#![tactic(auto)]
 
-ghost use Rattle.std.specs.Prelude.{◌≡◌, ℕ, ◌+◌, ◌-◌, ◌%◌, ◌<◌, ◌≤◌, Bool, true, false, length};
-ghost use Rattle.std.specs.Iterator.Runs.{YieldsInOrder};
+ghost use Rattle.std.specs.Prelude.{◌≡◌, ◌+◌, ◌-◌, ◌%◌, ◌<◌, ◌≤◌, true, false};
+ghost use Rattle.hibitset_base.specs.Bits.{HasPart};
 ghost use Rattle.hibitset_base.specs.Members.{members};
-ghost use Rattle.hibitset_base.specs.WalkFrom.{HasTail, IsTail, IsAheadFrom, AreOver, BeginsAt, bit_over};
+ghost use Rattle.hibitset_base.specs.WalkFrom.{IsTail, IsAheadFrom, AreOver, BeginsAt, StartsAt, bit_over};
 ghost use Rattle.hibitset_base.specs.Places.{items_of};
 ghost use Rattle.hibitset_base.specs.Cursor.{cursor_places};
-ghost use Rattle.hibitset_base.specs.WordsRead.{AllAreSet, CoversWords, AreBoundByMembers, words_under, words_of};
-ghost use Rattle.hibitset_base.specs.Walk.{set_of, items_left, words_read, words_ahead, BitsAreFromSet, WalkSteps};
+ghost use Rattle.hibitset_base.specs.WordsRead.{AllAreSet, words_under, words_of};
 ghost use Rattle.hibitset_base.specs.declared.util.TheConstants.{LAYERS, MAX_EID};
 
+use crate::bits::{tail, tail_after};
 use crate::cursor::Cursor;
 use crate::iter::{BitIter, read};
 use crate::like::BitSetLike;
 use crate::read_count::Reads;
 use crate::util::{BITS, Index, LAYERS, MAX_EID};
 
-// The bits of a word from a bit on.
-#[inline]
-fn tail(word: usize, bit: u32) -> usize
-    requires { bit < 64 }
-    ensures { HasTail word bit result }
-{
-    word & !((1usize << bit) - 1)
-}
-
-// The bits of a word after a bit.
-#[inline]
-fn tail_after(word: usize, bit: u32) -> usize
-    requires { bit < 64 }
-    ensures { HasTail word (bit + 1) result }
-{
-    word & (!1usize << bit)
-}
-
 // The bits of a word that an iteration from an index still visits: from the index's own bit on in layer 0, strictly
 // after it above.
 #[inline]
 fn left_over(layer: usize, word: usize, place: u32) -> usize
-    ensures lowest { layer ≡ 0 → HasTail word (place % 64) result }
-    ensures above { 0 < layer → HasTail word (place % 64 + 1) result }
+    ensures lowest { layer ≡ 0 → HasPart word (place % 64) 64 result }
+    ensures above { 0 < layer → HasPart word (place % 64 + 1) 64 result }
 {
     if layer == 0 {
         tail(word, place % 64)
@@ -111,7 +93,7 @@ fn begin_at<T: BitSetLike>(set: &T, reads: &mut Reads, from: Index) -> Cursor<LA
     ensures read { reads.new.count ≤ LAYERS }
     ensures items { items_of (T.holds set.now) (cursor_places result)
         ≡ members (T.holds set.now) from (MAX_EID - from) }
-    ensures drawn { AllAreSet (T.word set.now) (cursor_places result) }
+    ensures from_set { AllAreSet (T.word set.now) (cursor_places result) }
     ensures ahead { IsAheadFrom from reads.new.count (words_under (T.word set.now) LAYERS 0)
         (words_of (T.word set.now) (cursor_places result)) }
 {
@@ -124,16 +106,7 @@ impl<T: BitSetLike> BitIter<T> {
     // Starts at an index.
     #[inline]
     pub(crate) fn from_index(set: T, from: Index) -> Self
-        ensures set { set_of result ≡ set }
-        ensures items { items_left T.holds result ≡ members (T.holds set) from (MAX_EID - from) }
-        ensures drawn { BitsAreFromSet T.word result }
-        ensures read { words_read result ≤ LAYERS }
-        ensures bound { (p : ℕ → Bool) (a : ℕ → ℕ → ℕ) → CoversWords LAYERS p a (T.word set)
-            → AreBoundByMembers LAYERS p (words_ahead T.word result) }
-        ensures ahead { IsAheadFrom from (words_read result) (words_under (T.word set) LAYERS 0)
-            (words_ahead T.word result) }
-        ensures runs { YieldsInOrder (WalkSteps T.holds T.word) (items_left T.holds) }
-        ensures fits { length (items_left T.holds result) ≤ MAX_EID - from }
+        ensures { StartsAt T.holds T.word set from result }
     {
         let mut reads = Reads::none();
         if from as usize >= MAX_EID {

@@ -38,7 +38,7 @@ fn look_at<'a, T: BitSetLike>(walk: &mut BitIter<&'a T>, layer: usize) -> Option
     requires above { 0 < layer }
     requires one { IsOneBelow walk.old.cursor (layer + 1) }
     ensures set { set_of walk.new ≡ set_of walk.old }
-    ensures few { words_read walk.new ≤ words_read walk.old + 1 }
+    ensures reads_max { words_read walk.new ≤ words_read walk.old + 1 }
     ensures other { IfSome result (λ other. (set_of other ≡ set_of walk.old)
         × (words_read other ≡ 0)) }
     ensures one_mask { IfSome result (λ other. HasOneMask LAYERS (masks_left walk.new)
@@ -66,7 +66,7 @@ fn divide<'a, T: BitSetLike>(walk: &mut BitIter<&'a T>, looks: usize) -> Option<
     requires looks { looks < LAYERS }
     requires one { IsOneBelow walk.old.cursor LAYERS }
     ensures set { set_of walk.new ≡ set_of walk.old }
-    ensures few { words_read walk.new ≤ words_read walk.old + looks }
+    ensures reads_max { words_read walk.new ≤ words_read walk.old + looks }
     ensures other { IfSome result (λ other. (set_of other ≡ set_of walk.old)
         × (words_read other ≡ 0)) }
     ensures one_mask { IfSome result (λ other. HasOneMask LAYERS (masks_left walk.new)
@@ -74,7 +74,7 @@ fn divide<'a, T: BitSetLike>(walk: &mut BitIter<&'a T>, looks: usize) -> Option<
     ensures parts { MatchOption result
         (IsUndivided (λ s. T.holds s.now) (λ s. T.word s.now) (LAYERS - looks) walk.old walk.new)
         (IsDivided (λ s. T.holds s.now) (λ s. T.word s.now) (LAYERS - looks) walk.old walk.new) }
-    ensures some { SummariesExact LAYERS (T.word (set_of walk.old).now)
+    ensures nonempty { SummariesExact LAYERS (T.word (set_of walk.old).now)
         → AreWords (T.word (set_of walk.old).now) → BitsAreFromSet (λ s. T.word s.now) walk.old
         → IfSome result (λ other. (0 < length (items_left (λ s. T.holds s.now) walk.new))
         × (0 < length (items_left (λ s. T.holds s.now) other))) }
@@ -100,18 +100,18 @@ impl<'a, T: BitSetLike + Send + Sync> BitProducer<'a, T> {
             ≡ part_items T.holds result.0 ++ items_of_second T.holds result.1 }
         ensures more_masks { ¬ PartHasOneMask LAYERS self.entry
             → (result.0 ≡ self.entry) × (result.1 ≡ None) }
-        ensures none { PartHasOneMask LAYERS self.entry → result.1 ≡ None
+        ensures indivisible { PartHasOneMask LAYERS self.entry → result.1 ≡ None
             → LieInOneRange (range_size LAYERS self.entry.1) (part_items T.holds self.entry) }
         ensures apart { IfSome result.1 (λ other. ShareNoRange (range_size LAYERS self.entry.1)
             (part_items T.holds result.0) (part_items T.holds other)) }
-        ensures half { IfSome result.1 (DifferByAtMostOne result.0) }
-        ensures some { SummariesExact LAYERS (T.word (part_set self.entry))
+        ensures balanced { IfSome result.1 (DifferByAtMostOne result.0) }
+        ensures nonempty { SummariesExact LAYERS (T.word (part_set self.entry))
             → AreWords (T.word (part_set self.entry)) → PartBitsAreFromSet T.word self.entry
             → IfSome result.1 (λ other. (0 < length (part_items T.holds result.0))
             × (0 < length (part_items T.holds other))) }
         ensures same { SameSetAndLayers self.entry result.0
             × IfSome result.1 (SameSetAndLayers self.entry) }
-        ensures drawn { PartBitsAreFromSet T.word self.entry
+        ensures from_set { PartBitsAreFromSet T.word self.entry
             → PartBitsAreFromSet T.word result.0 × IfSome result.1 (PartBitsAreFromSet T.word) }
         ensures one_mask { PartHasOneMask LAYERS self.entry
             → PartHasOneMask LAYERS result.0 × IfSome result.1 (PartHasOneMask LAYERS) }

@@ -3,35 +3,21 @@ ghost use Rattle.std.specs.Prelude.{◌≡◌, ℕ, ◌+◌, ◌-◌, ◌*◌, �
 ghost use Rattle.hibitset_base.specs.Ranges.{in_range, run_word, range_word, range_lawful};
 ghost use Rattle.hibitset_base.specs.declared.util.TheConstants.{LAYERS};
 
+use crate::bits::bits_within;
 use crate::like::BitSetLike;
 use crate::util::{Index, LAYERS, SHIFT1, SHIFT2, SHIFT3, SHIFT4};
-
-// A word whose lowest `count` bits are set.
-#[inline]
-pub(crate) fn low_ones(count: usize) -> usize
-    requires { count ≤ 64 }
-    ensures { result ≡ 2 ^ count - 1 }
-{
-    if count == 64 {
-        usize::MAX
-    } else {
-        (1 << count) - 1
-    }
-}
 
 // The word `place` of a layer, with the bits of the positions from `from` on before `to`. Most words of a long range
 // have all bits, so that is asked first.
 #[inline]
-fn bits_between(from: usize, to: usize, place: usize) -> usize
+fn word_of_range(from: usize, to: usize, place: usize) -> usize
     ensures { result ≡ run_word from to place }
 {
     let first = place.saturating_mul(64);
     if from <= first && to.saturating_sub(first) >= 64 {
         return usize::MAX;
     }
-    let before = low_ones(from.saturating_sub(first).min(64));
-    let upto = low_ones(to.saturating_sub(first).min(64));
-    upto.saturating_sub(before)
+    bits_within(first, from, to)
 }
 
 /// The indices from `start` on before `end`, as a set: `&set & range` has the members of a set within a range.
@@ -54,7 +40,7 @@ impl BitSetLike for BitSetRange {
 
     #[inline]
     fn layer4(&self) -> usize {
-        bits_between(
+        word_of_range(
             self.start as usize >> SHIFT4,
             (self.end as usize).div_ceil(1 << SHIFT4),
             0,
@@ -63,7 +49,7 @@ impl BitSetLike for BitSetRange {
 
     #[inline]
     fn layer3(&self, i: usize) -> usize {
-        bits_between(
+        word_of_range(
             self.start as usize >> SHIFT3,
             (self.end as usize).div_ceil(1 << SHIFT3),
             i,
@@ -72,7 +58,7 @@ impl BitSetLike for BitSetRange {
 
     #[inline]
     fn layer2(&self, i: usize) -> usize {
-        bits_between(
+        word_of_range(
             self.start as usize >> SHIFT2,
             (self.end as usize).div_ceil(1 << SHIFT2),
             i,
@@ -81,7 +67,7 @@ impl BitSetLike for BitSetRange {
 
     #[inline]
     fn layer1(&self, i: usize) -> usize {
-        bits_between(
+        word_of_range(
             self.start as usize >> SHIFT1,
             (self.end as usize).div_ceil(1 << SHIFT1),
             i,
@@ -90,7 +76,7 @@ impl BitSetLike for BitSetRange {
 
     #[inline]
     fn layer0(&self, i: usize) -> usize {
-        bits_between(self.start as usize, self.end as usize, i)
+        word_of_range(self.start as usize, self.end as usize, i)
     }
 
     #[inline]

@@ -65,8 +65,8 @@ impl<T: BitSetLike> Ranked<T> {
     /// and the words under its bits.
     pub fn new(alloc: Global, set: T) -> Result<Ranked<T>, AllocError>
         ensures set { IfOk result (λ ranked. counted_set ranked ≡ set) }
-        ensures small { IfOk result (λ ranked. counts_len ranked ≤ MAX_EID / block_size + 1) }
-        ensures few { IfOk result (λ ranked. (blocks : ℕ)
+        ensures len_bound { IfOk result (λ ranked. counts_len ranked ≤ MAX_EID / block_size + 1) }
+        ensures len_max { IfOk result (λ ranked. (blocks : ℕ)
             → ((i : ℕ) → i < MAX_EID → T.holds set i ≡ true → i < block_size * blocks)
             → counts_len ranked ≤ blocks + 1) }
     {

@@ -2,39 +2,16 @@
 ghost use Rattle.std.specs.Prelude.{◌≡◌, ℕ, ◌+◌, ◌-◌, ◌*◌, ◌%◌, ◌/◌, ◌^◌, ◌<◌, ◌≤◌, length, slice_get};
 ghost use Rattle.hibitset_base.specs.Members.{members, members_below};
 ghost use Rattle.hibitset_base.specs.Places.{places_in, bits_from, items_of};
-ghost use Rattle.hibitset_base.specs.Ranks.{HasHead, HasPart};
 ghost use Rattle.hibitset_base.specs.declared.util.TheConstants.{LAYERS, MAX_EID};
 
+use crate::bits::part;
 use crate::bulk::count::{count_left, count_subtree};
-use crate::bulk::{take_bit, take_child, take_next_block};
+use crate::bulk::{take_child, take_index, take_next_block};
 use crate::cursor::Cursor;
 use crate::iter::{read, root_cursor};
 use crate::like::BitSetLike;
-use crate::range::low_ones;
 use crate::read_count::Reads;
 use crate::util::{Index, LAYERS};
-
-// The bits of a word before a bit.
-#[inline]
-pub(crate) fn head(word: usize, bit: u32) -> usize
-    requires { bit < 64 }
-    ensures { HasHead word bit result }
-{
-    word & ((1usize << bit) - 1)
-}
-
-// The bits of a word from one bit on before another.
-#[inline]
-fn part(word: usize, from: u32, to: u32) -> usize
-    requires order { from ≤ to }
-    requires few { to ≤ 64 }
-    ensures { HasPart word from to result }
-{
-    let upto = low_ones(to as usize);
-    let before = low_ones(from as usize);
-    let ones = upto - before;
-    word & ones
-}
 
 // How many members lie under the bits of a word of a layer, where the first bit lies at `start`.
 #[inline]
@@ -110,7 +87,7 @@ fn nth_bit(start: Index, word: usize, at: usize) -> Option<Index>
     let mut rest = word;
     let mut left = at;
     'bits: while rest != 0 {
-        let index = take_bit(start, &mut rest);
+        let index = take_index(start, &mut rest);
         if left == 0 {
             return Some(index);
         }

@@ -22,7 +22,7 @@ impl<const N: usize> RevCursor<N> {
     pub(crate) fn empty() -> Self
         requires { 64 ^ N ≤ 2 ^ 32 }
         ensures left { rev_left result ≡ [] }
-        ensures below { IsRevEmptyBelow result N }
+        ensures empty_below { IsRevEmptyBelow result N }
     {
         RevCursor {
             masks: [0; N],
@@ -35,7 +35,7 @@ impl<const N: usize> RevCursor<N> {
     pub(crate) fn is_empty(&self, layer: usize) -> bool
         requires { layer < N }
         ensures empty { result ≡ true → rev_mask self.now layer ≡ 0 }
-        ensures some { result ≡ false → 0 < rev_mask self.now layer }
+        ensures nonempty { result ≡ false → 0 < rev_mask self.now layer }
     {
         self.masks[layer] == 0
     }
@@ -44,7 +44,7 @@ impl<const N: usize> RevCursor<N> {
     #[inline]
     pub(crate) fn take_last(&mut self, layer: usize) -> u32
         requires layer { layer < N }
-        requires some { 0 < rev_mask self.old layer }
+        requires nonempty { 0 < rev_mask self.old layer }
         requires lowest { IsRevEmptyBelow self.old layer }
         ensures taken { rev_left self.old
             ≡ rev_left self.new ++ ((record { layer = layer; position = result }) ∷ []) }

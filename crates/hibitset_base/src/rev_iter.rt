@@ -1,21 +1,21 @@
 //! Walks over a set, in descending order.
 #![tactic(auto, unfolding(crate::specs::RevWalk::rev_items_left, crate::specs::RevWalk::rev_set_of))]
 
-ghost use Rattle.std.specs.Prelude.{◌≡◌, ℕ, ◌+◌, ◌-◌, ◌*◌, ◌^◌, ◌<◌, ◌≤◌, ◌++◌, ◌∷◌, [], Bool, true, false, None, length, reverse, min, MatchOption};
+ghost use Rattle.std.specs.Prelude.{◌≡◌, ◌+◌, ◌-◌, ◌*◌, ◌^◌, ◌<◌, ◌≤◌, ◌++◌, ◌∷◌, [], true, false, None, MatchOption};
 ghost use Rattle.std.specs.Iterator.{item_count};
-ghost use Rattle.std.specs.Iterator.Runs.{YieldsInOrder};
 ghost use Rattle.hibitset_base.specs.Members.{members, members_below};
 ghost use Rattle.hibitset_base.specs.Places.{places_in, items_of};
 ghost use Rattle.hibitset_base.specs.Ranks.{start_over};
-ghost use Rattle.hibitset_base.specs.WordsRead.{words_under, words_of, AllAreSet, CoversWords, AreBoundByMembers};
+ghost use Rattle.hibitset_base.specs.WordsRead.{AllAreSet};
+ghost use Rattle.hibitset_base.specs.Walk.{AreUnderTop};
 ghost use Rattle.hibitset_base.specs.RevCursor.{rev_left, rev_mask, IsRevEmptyBelow};
 ghost use Rattle.hibitset_base.specs.RevPlaces.{GoesBack};
-ghost use Rattle.hibitset_base.specs.RevWalk.{rev_set_of, rev_items_left, rev_words_read, rev_words_ahead, RevBitsAreFromSet, RevWalkSteps};
+ghost use Rattle.hibitset_base.specs.RevWalk.{StartsAtEnd, StartsBefore, rev_items_left, RevWalkSteps};
 ghost use Rattle.hibitset_base.specs.declared.util.TheConstants.{LAYERS, MAX_EID};
 
+use crate::bits::head;
 use crate::iter::read;
 use crate::like::BitSetLike;
-use crate::ranks::head;
 use crate::read_count::Reads;
 use crate::rev_cursor::RevCursor;
 use crate::util::{BITS, Index, LAYERS, MAX_EID};
@@ -32,14 +32,7 @@ pub struct BitRevIter<T> {
 #[inline]
 pub(crate) fn start_at_end<T: BitSetLike>(set: &T, reads: &mut Reads) -> RevCursor<LAYERS>
     ensures reads { reads.new.count ≡ reads.old.count + 1 }
-    ensures items { items_of (T.holds set.now) (rev_left result)
-        ≡ members_below MAX_EID (T.holds set.now) }
-    ensures drawn { AllAreSet (T.word set.now) (rev_left result) }
-    ensures bound { (p : ℕ → Bool) (a : ℕ → ℕ → ℕ) → CoversWords LAYERS p a (T.word set.now)
-        → AreBoundByMembers LAYERS p (words_of (T.word set.now) (rev_left result)) }
-    ensures ahead { words_under (T.word set.now) LAYERS 0
-        ≡ (record { layer = LAYERS - 1; position = 0 })
-        ∷ words_of (T.word set.now) (rev_left result) }
+    ensures start { AreUnderTop (T.holds set.now) (T.word set.now) (rev_left result) }
 {
     let word = read(set, reads, LAYERS - 1, 0);
     let mut cursor = RevCursor::<LAYERS>::empty();
@@ -64,12 +57,12 @@ pub(crate) fn put_head<T: BitSetLike>(
         ≡ items_of (T.holds set.now) (rev_left cursor.old)
         ++ members (T.holds set.now) (start_over end (layer + 1))
         (start_over end layer - start_over end (layer + 1)) }
-    ensures drawn { AllAreSet (T.word set.now) (rev_left cursor.old)
+    ensures from_set { AllAreSet (T.word set.now) (rev_left cursor.old)
         → AllAreSet (T.word set.now) (rev_left cursor.new) }
     ensures clear { result ≡ false → members (T.holds set.now) (start_over end layer) (64 ^ layer)
         ≡ [] }
     ensures reads { reads.new.count ≡ reads.old.count + 1 }
-    ensures below { IsRevEmptyBelow cursor.new layer }
+    ensures empty_below { IsRevEmptyBelow cursor.new layer }
 {
     let place = end >> (BITS * layer);
     let word = read(set, reads, layer, place >> BITS);
@@ -85,7 +78,7 @@ fn start_before<T: BitSetLike>(set: &T, reads: &mut Reads, end: Index) -> RevCur
     ensures read { reads.new.count ≤ reads.old.count + LAYERS }
     ensures items { items_of (T.holds set.now) (rev_left result)
         ≡ members_below end (T.holds set.now) }
-    ensures drawn { AllAreSet (T.word set.now) (rev_left result) }
+    ensures from_set { AllAreSet (T.word set.now) (rev_left result) }
 {
     let mut cursor = RevCursor::<LAYERS>::empty();
     'layers: for depth in 0..LAYERS {
@@ -107,11 +100,11 @@ fn descend_last<T: BitSetLike>(
     requires layer { layer < LAYERS }
     requires above { 0 < layer }
     requires lowest { IsRevEmptyBelow cursor.old layer }
-    ensures none { result ≡ false → IsRevEmptyBelow cursor.new (layer + 1) }
+    ensures end { result ≡ false → IsRevEmptyBelow cursor.new (layer + 1) }
     ensures goes { GoesBack LAYERS (T.holds set.now) (T.word set.now) reads.old.count
         (rev_left cursor.old) reads.new.count (rev_left cursor.new) }
     ensures same { result ≡ false → reads.new.count ≡ reads.old.count }
-    ensures more { result ≡ true → reads.old.count < reads.new.count }
+    ensures reads_min { result ≡ true → reads.old.count < reads.new.count }
 {
     if cursor.is_empty(layer) {
         return false;
@@ -130,10 +123,10 @@ fn load_last_from_layer3<T: BitSetLike>(
     reads: &mut Reads,
 ) -> bool
     requires { IsRevEmptyBelow cursor.old 3 }
-    ensures none { result ≡ false → IsRevEmptyBelow cursor.new LAYERS }
+    ensures end { result ≡ false → IsRevEmptyBelow cursor.new LAYERS }
     ensures goes { GoesBack LAYERS (T.holds set.now) (T.word set.now) reads.old.count
         (rev_left cursor.old) reads.new.count (rev_left cursor.new) }
-    ensures more { result ≡ true → reads.old.count < reads.new.count }
+    ensures reads_min { result ≡ true → reads.old.count < reads.new.count }
 {
     if descend_last(set, cursor, reads, 3) {
         return true;
@@ -149,10 +142,10 @@ fn load_last_from_layer2<T: BitSetLike>(
     reads: &mut Reads,
 ) -> bool
     requires { IsRevEmptyBelow cursor.old 2 }
-    ensures none { result ≡ false → IsRevEmptyBelow cursor.new LAYERS }
+    ensures end { result ≡ false → IsRevEmptyBelow cursor.new LAYERS }
     ensures goes { GoesBack LAYERS (T.holds set.now) (T.word set.now) reads.old.count
         (rev_left cursor.old) reads.new.count (rev_left cursor.new) }
-    ensures more { result ≡ true → reads.old.count < reads.new.count }
+    ensures reads_min { result ≡ true → reads.old.count < reads.new.count }
 {
     if descend_last(set, cursor, reads, 2) {
         return true;
@@ -164,10 +157,10 @@ fn load_last_from_layer2<T: BitSetLike>(
 #[inline]
 fn load_last_word<T: BitSetLike>(set: &T, cursor: &mut RevCursor<LAYERS>, reads: &mut Reads) -> bool
     requires { IsRevEmptyBelow cursor.old 1 }
-    ensures none { result ≡ false → IsRevEmptyBelow cursor.new LAYERS }
+    ensures end { result ≡ false → IsRevEmptyBelow cursor.new LAYERS }
     ensures goes { GoesBack LAYERS (T.holds set.now) (T.word set.now) reads.old.count
         (rev_left cursor.old) reads.new.count (rev_left cursor.new) }
-    ensures more { result ≡ true → reads.old.count < reads.new.count }
+    ensures reads_min { result ≡ true → reads.old.count < reads.new.count }
 {
     if descend_last(set, cursor, reads, 1) {
         return true;
@@ -201,17 +194,7 @@ impl<T: BitSetLike> BitRevIter<T> {
     // Starts at the end of the set.
     #[inline]
     pub(crate) fn from_end(set: T) -> Self
-        ensures set { rev_set_of result ≡ set }
-        ensures items { rev_items_left T.holds result
-            ≡ reverse (members_below MAX_EID (T.holds set)) }
-        ensures drawn { RevBitsAreFromSet T.word result }
-        ensures read { rev_words_read result ≡ 1 }
-        ensures bound { (p : ℕ → Bool) (a : ℕ → ℕ → ℕ) → CoversWords LAYERS p a (T.word set)
-            → AreBoundByMembers LAYERS p (rev_words_ahead T.word result) }
-        ensures ahead { words_under (T.word set) LAYERS 0
-            ≡ (record { layer = LAYERS - 1; position = 0 }) ∷ rev_words_ahead T.word result }
-        ensures runs { YieldsInOrder (RevWalkSteps T.holds T.word) (rev_items_left T.holds) }
-        ensures fits { length (rev_items_left T.holds result) ≤ MAX_EID }
+        ensures { StartsAtEnd T.holds T.word set result }
     {
         let mut reads = Reads::none();
         let cursor = start_at_end(&set, &mut reads);
@@ -221,13 +204,7 @@ impl<T: BitSetLike> BitRevIter<T> {
     // Starts before an index.
     #[inline]
     pub(crate) fn from_before(set: T, end: Index) -> Self
-        ensures set { rev_set_of result ≡ set }
-        ensures items { rev_items_left T.holds result
-            ≡ reverse (members_below (min end MAX_EID) (T.holds set)) }
-        ensures drawn { RevBitsAreFromSet T.word result }
-        ensures read { rev_words_read result ≤ LAYERS }
-        ensures runs { YieldsInOrder (RevWalkSteps T.holds T.word) (rev_items_left T.holds) }
-        ensures fits { length (rev_items_left T.holds result) ≤ min end MAX_EID }
+        ensures { StartsBefore T.holds T.word set end result }
     {
         if end as usize >= MAX_EID {
             return BitRevIter::from_end(set);

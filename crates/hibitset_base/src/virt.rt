@@ -84,10 +84,10 @@ impl<A: DrainableBitSet, B: DrainableBitSet> DrainableBitSet for BitSetAnd<A, B>
     /// Takes an index out of both operands, if both have it. They keep their capacity.
     #[inline]
     fn remove(&mut self, i: Index) -> bool
-        ensures was { result ≡ (A.holds self.old.0 i && B.holds self.old.1 i) }
+        ensures was_member { result ≡ (A.holds self.old.0 i && B.holds self.old.1 i) }
         ensures removed { (j : ℕ) → (A.holds self.new.0 j && B.holds self.new.1 j)
             ≡ (A.holds self.old.0 j && B.holds self.old.1 j && not (j == i)) }
-        ensures room { A.keeps_room self.old.0 self.new.0 × B.keeps_room self.old.1 self.new.1 }
+        ensures keeps_room { A.keeps_room self.old.0 self.new.0 × B.keeps_room self.old.1 self.new.1 }
         ensures first { (j : ℕ) → A.holds self.new.0 j
             ≡ (A.holds self.old.0 j && not (result && j == i)) }
         ensures second { (j : ℕ) → B.holds self.new.1 j
@@ -175,10 +175,10 @@ impl<A: DrainableBitSet, B: DrainableBitSet> DrainableBitSet for BitSetOr<A, B> 
     /// Takes an index out of each operand that has it. They keep their capacity.
     #[inline]
     fn remove(&mut self, i: Index) -> bool
-        ensures was { result ≡ (A.holds self.old.0 i || B.holds self.old.1 i) }
+        ensures was_member { result ≡ (A.holds self.old.0 i || B.holds self.old.1 i) }
         ensures removed { (j : ℕ) → (A.holds self.new.0 j || B.holds self.new.1 j)
             ≡ ((A.holds self.old.0 j || B.holds self.old.1 j) && not (j == i)) }
-        ensures room { A.keeps_room self.old.0 self.new.0 × B.keeps_room self.old.1 self.new.1 }
+        ensures keeps_room { A.keeps_room self.old.0 self.new.0 × B.keeps_room self.old.1 self.new.1 }
         ensures first { (j : ℕ) → A.holds self.new.0 j ≡ (A.holds self.old.0 j && not (j == i)) }
         ensures second { (j : ℕ) → B.holds self.new.1 j ≡ (B.holds self.old.1 j && not (j == i)) }
     {

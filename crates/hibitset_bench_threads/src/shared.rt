@@ -26,7 +26,7 @@ trait Work {
     // What the set returns for an index.
     fn answer(set: &SharedBitSet, seat: &mut Seat, id: Index) -> bool
         requires seat { BelongsTo set.now seat.old }
-        requires range { id < 16777216 }
+        requires in_range { id < 16777216 }
         ensures { BelongsTo set.now seat.new };
 }
 

@@ -29,7 +29,7 @@ pub extern "C" fn hibitset_atomic_free(alloc: Global, set: &mut AtomicSet)
 /// Adds an index. Returns whether it was a member, or why it is none now.
 #[unsafe(no_mangle)]
 pub extern "C" fn hibitset_atomic_add(alloc: Global, set: &mut AtomicSet, index: u32) -> u32
-    ensures range { (result ≡ OUT_OF_RANGE) ↔ (ATOMIC_MAX_EID ≤ index) }
+    ensures out_of_range { (result ≡ OUT_OF_RANGE) ↔ (ATOMIC_MAX_EID ≤ index) }
     ensures was_member { result ≡ PRESENT → has set.old index ≡ true }
     ensures was_clear { result ≡ OK → has set.old index ≡ false }
     ensures added { result ≤ PRESENT → (i : ℕ) → has set.new i ≡ (has set.old i || i == index) }
@@ -37,13 +37,14 @@ pub extern "C" fn hibitset_atomic_add(alloc: Global, set: &mut AtomicSet, index:
     ensures status { result ≤ OUT_OF_RANGE }
 
     // When a block has to be allocated, and which are made.
-    ensures near { SharesBlockWithMember set.old index → result ≢ NO_MEMORY }
-    ensures lacking { result ≡ NO_MEMORY → NeedsAllocation set.old index }
-    ensures room { AllBlocksReserved set.old → result ≢ NO_MEMORY × AllBlocksReserved set.new }
-    ensures keeps { (i : ℕ) → NeedsAllocation set.new i → NeedsAllocation set.old i }
-    ensures most { (i : ℕ) → i / 4096 ≢ index / 4096 → NeedsAllocation set.old i
+    ensures succeeds_near { SharesBlockWithMember set.old index → result ≢ NO_MEMORY }
+    ensures err_lacks_room { result ≡ NO_MEMORY → NeedsAllocation set.old index }
+    ensures succeeds { AllBlocksReserved set.old → result ≢ NO_MEMORY }
+    ensures all_reserved { AllBlocksReserved set.old → AllBlocksReserved set.new }
+    ensures frees_none { (i : ℕ) → NeedsAllocation set.new i → NeedsAllocation set.old i }
+    ensures makes_no_more { (i : ℕ) → i / 4096 ≢ index / 4096 → NeedsAllocation set.old i
         → NeedsAllocation set.new i }
-    ensures stays { PRESENT < result → (i : ℕ) → NeedsAllocation set.old i
+    ensures err_makes_none { PRESENT < result → (i : ℕ) → NeedsAllocation set.old i
         → NeedsAllocation set.new i }
 {
     if index as usize >= ATOMIC_MAX_EID {
@@ -67,7 +68,7 @@ pub extern "C" fn hibitset_atomic_remove(set: &mut AtomicSet, index: u32) -> boo
     ensures was_member { result ≡ has set.old index }
     ensures removed { (i : ℕ) → has set.new i ≡ (has set.old i && not (i == index)) }
     ensures blocks { (i : ℕ) → NeedsAllocation set.new i ↔ NeedsAllocation set.old i }
-    ensures room { AllBlocksReserved set.old → AllBlocksReserved set.new }
+    ensures all_reserved { AllBlocksReserved set.old → AllBlocksReserved set.new }
 {
     if !set.made {
         return false;
@@ -98,7 +99,7 @@ pub extern "C" fn hibitset_atomic_contains(set: &mut AtomicSet, index: u32) -> b
 pub extern "C" fn hibitset_atomic_clear(set: &mut AtomicSet)
     ensures empty { (i : ℕ) → has set.new i ≡ false }
     ensures blocks { (i : ℕ) → NeedsAllocation set.new i ↔ NeedsAllocation set.old i }
-    ensures room { AllBlocksReserved set.old → AllBlocksReserved set.new }
+    ensures all_reserved { AllBlocksReserved set.old → AllBlocksReserved set.new }
 {
     if set.made {
         let SetOrSeat::Alone(members) = set.handle.as_mut() else {
@@ -144,8 +145,8 @@ pub extern "C" fn hibitset_atomic_is_empty(set: &mut AtomicSet) -> bool
 #[unsafe(no_mangle)]
 pub extern "C" fn hibitset_atomic_first(set: &mut AtomicSet, index: &mut u32) -> bool
     ensures found { result ≡ true → IsFirst MAX_EID (has set.old) index.new }
-    ensures none { result ≡ false → HasNone MAX_EID (has set.old) }
-    ensures stays { result ≡ false → index.new ≡ index.old }
+    ensures absent { result ≡ false → HasNone MAX_EID (has set.old) }
+    ensures out_kept { result ≡ false → index.new ≡ index.old }
     ensures same { IsSame set.old set.new }
 {
     if !set.made {
@@ -167,8 +168,8 @@ pub extern "C" fn hibitset_atomic_first(set: &mut AtomicSet, index: &mut u32) ->
 #[unsafe(no_mangle)]
 pub extern "C" fn hibitset_atomic_last(set: &mut AtomicSet, index: &mut u32) -> bool
     ensures found { result ≡ true → IsLast MAX_EID (has set.old) index.new }
-    ensures none { result ≡ false → HasNone MAX_EID (has set.old) }
-    ensures stays { result ≡ false → index.new ≡ index.old }
+    ensures absent { result ≡ false → HasNone MAX_EID (has set.old) }
+    ensures out_kept { result ≡ false → index.new ≡ index.old }
     ensures same { IsSame set.old set.new }
 {
     if !set.made {
@@ -211,9 +212,9 @@ pub extern "C" fn hibitset_atomic_next_many(
 /// Returns the word of a layer at a position, and 0 past the layers. In layer 4 the position is not looked at.
 #[unsafe(no_mangle)]
 pub extern "C" fn hibitset_atomic_word(set: &mut AtomicSet, layer: usize, position: usize) -> usize
-    ensures below { layer + 1 < LAYERS → result ≡ word_of set.old layer position }
+    ensures below_top { layer + 1 < LAYERS → result ≡ word_of set.old layer position }
     ensures top { layer + 1 ≡ LAYERS → result ≡ word_of set.old layer 0 }
-    ensures past { LAYERS ≤ layer → result ≡ 0 }
+    ensures zero_past { LAYERS ≤ layer → result ≡ 0 }
     ensures same { IsSame set.old set.new }
 {
     if !set.made || layer >= LAYERS {

@@ -35,7 +35,7 @@ impl AtomicSet {
         requires { self.old.made ≡ false }
         ensures made { self.new.made ≡ result }
         ensures members { (i : ℕ) → has self.new i ≡ false }
-        ensures lacks { (i : ℕ) → NeedsAllocation self.new i }
+        ensures all_lack_room { (i : ℕ) → NeedsAllocation self.new i }
     {
         let Ok(set) = AtomicBitSet::new(alloc) else {
             return false;
@@ -56,7 +56,8 @@ impl AtomicSet {
         ensures made { self.new.made ≡ result }
         ensures members { (i : ℕ) → has self.new i ≡ has self.old i }
         ensures blocks { (i : ℕ) → NeedsAllocation self.new i ↔ NeedsAllocation self.old i }
-        ensures room { AllBlocksReserved self.old → (result ≡ true) × AllBlocksReserved self.new }
+        ensures succeeds { AllBlocksReserved self.old → result ≡ true }
+        ensures all_reserved { AllBlocksReserved self.old → AllBlocksReserved self.new }
         ensures err { result ≡ false → (i : ℕ) → NeedsAllocation self.old i }
         ensures empty { result ≡ false → (i : ℕ) → has self.old i ≡ false }
     {

@@ -21,7 +21,7 @@ const MAX_WORDS: usize = MAX_EID / 64;
 /// Makes it an empty set with capacity for each index below `max`.
 #[unsafe(no_mangle)]
 pub extern "C" fn hibitset_with_capacity(alloc: Global, set: &mut Set, max: u32) -> u32
-    ensures range { (result ≡ OUT_OF_RANGE) ↔ (MAX_EID < max) }
+    ensures out_of_range { (result ≡ OUT_OF_RANGE) ↔ (MAX_EID < max) }
     ensures empty { result ≡ OK → (i : ℕ) → has set.new i ≡ false }
     ensures err { result ≢ OK → (i : ℕ) → has set.new i ≡ has set.old i }
     ensures status { (result ≡ OK) ⊎ (NO_MEMORY ≤ result) × (result ≤ OUT_OF_RANGE) }
@@ -45,7 +45,7 @@ pub extern "C" fn hibitset_with_capacity(alloc: Global, set: &mut Set, max: u32)
 /// Makes it the set whose words of layer 0 are these: index `64 * p + b` is a member if bit `b` of word `p` is set.
 #[unsafe(no_mangle)]
 pub extern "C" fn hibitset_assign_words(alloc: Global, set: &mut Set, words: &[usize]) -> u32
-    ensures range { (result ≡ OUT_OF_RANGE) ↔ (64 ^ (LAYERS - 1) < length words.now) }
+    ensures out_of_range { (result ≡ OUT_OF_RANGE) ↔ (64 ^ (LAYERS - 1) < length words.now) }
     ensures members { result ≡ OK → (i : ℕ) → has set.new i ≡ stands_in words.now i }
     ensures err { result ≢ OK → (i : ℕ) → has set.new i ≡ has set.old i }
     ensures status { (result ≡ OK) ⊎ (NO_MEMORY ≤ result) × (result ≤ OUT_OF_RANGE) }
@@ -99,8 +99,8 @@ fn add_list(set: &mut BitSet, list: &[Index]) -> (usize, u32)
     ensures count { result.0 ≤ length list.now }
     ensures in_range { All (λ i. i < MAX_EID) (take result.0 list.now) }
     ensures all { result.1 ≡ OK → result.0 ≡ length list.now }
-    ensures range { result.1 ≡ OUT_OF_RANGE → StopsAt list.now result.0 (λ i. MAX_EID ≤ i) }
-    ensures memory { result.1 ≡ NO_MEMORY
+    ensures out_of_range { result.1 ≡ OUT_OF_RANGE → StopsAt list.now result.0 (λ i. MAX_EID ≤ i) }
+    ensures no_memory { result.1 ≡ NO_MEMORY
         → StopsAt list.now result.0 (λ i. (i < MAX_EID) × (slice_len set.new 0 ≤ i / 64)) }
     ensures status { (result.1 ≡ OK) ⊎ (NO_MEMORY ≤ result.1) × (result.1 ≤ OUT_OF_RANGE) }
     ensures len_min { slice_len set.old 0 ≤ slice_len set.new 0 }
@@ -133,8 +133,8 @@ pub extern "C" fn hibitset_add_many(
     ensures count { added.new ≤ length indices.now }
     ensures in_range { All (λ i. i < MAX_EID) (take added.new indices.now) }
     ensures all { result ≡ OK → added.new ≡ length indices.now }
-    ensures range { result ≡ OUT_OF_RANGE → StopsAt indices.now added.new (λ i. MAX_EID ≤ i) }
-    ensures memory { result ≡ NO_MEMORY
+    ensures out_of_range { result ≡ OUT_OF_RANGE → StopsAt indices.now added.new (λ i. MAX_EID ≤ i) }
+    ensures no_memory { result ≡ NO_MEMORY
         → StopsAt indices.now added.new (λ i. (i < MAX_EID) × (layer0_len set.new ≤ i / 64)) }
     ensures status { (result ≡ OK) ⊎ (NO_MEMORY ≤ result) × (result ≤ OUT_OF_RANGE) }
     ensures len_min { layer0_len set.old ≤ layer0_len set.new }

@@ -17,7 +17,7 @@ use std::alloc::Global;
 /// Makes capacity for each index below `max`, and keeps the members and the capacity that there is.
 #[unsafe(no_mangle)]
 pub extern "C" fn hibitset_reserve(alloc: Global, set: &mut Set, max: u32) -> u32
-    ensures range { (result ≡ OUT_OF_RANGE) ↔ (MAX_EID < max) }
+    ensures out_of_range { (result ≡ OUT_OF_RANGE) ↔ (MAX_EID < max) }
     ensures members { (i : ℕ) → has set.new i ≡ has set.old i }
     ensures status { (result ≡ OK) ⊎ (NO_MEMORY ≤ result) × (result ≤ OUT_OF_RANGE) }
     ensures succeeds { max ≤ 64 * layer0_len set.old → result ≢ NO_MEMORY }

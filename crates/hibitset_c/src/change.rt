@@ -19,7 +19,7 @@ use std::alloc::Global;
 // Adds an index whose word layer 0 lacks.
 #[inline(never)]
 fn add_beyond(alloc: Global, set: &mut Set, index: u32) -> u32
-    ensures range { (result ≡ OUT_OF_RANGE) ↔ (MAX_EID ≤ index) }
+    ensures out_of_range { (result ≡ OUT_OF_RANGE) ↔ (MAX_EID ≤ index) }
     ensures was_member { result ≡ PRESENT → has set.old index ≡ true }
     ensures was_clear { result ≡ OK → has set.old index ≡ false }
     ensures added { result ≤ PRESENT → (i : ℕ) → has set.new i ≡ (has set.old i || i == index) }
@@ -55,7 +55,7 @@ fn add_within(set: &mut Set, index: u32) -> u32
     ensures was_clear { result ≡ OK → has set.old index ≡ false }
     ensures added { (i : ℕ) → has set.new i ≡ (has set.old i || i == index) }
     ensures length { layer0_len set.new ≡ layer0_len set.old }
-    ensures range { index < MAX_EID }
+    ensures in_range { index < MAX_EID }
     ensures status { result ≤ PRESENT }
 {
     let bits = set.handle.as_mut();
@@ -67,7 +67,7 @@ fn add_within(set: &mut Set, index: u32) -> u32
 /// Adds an index. Returns whether it was a member, or why it is none now.
 #[unsafe(no_mangle)]
 pub extern "C" fn hibitset_add(alloc: Global, set: &mut Set, index: u32) -> u32
-    ensures range { (result ≡ OUT_OF_RANGE) ↔ (MAX_EID ≤ index) }
+    ensures out_of_range { (result ≡ OUT_OF_RANGE) ↔ (MAX_EID ≤ index) }
     ensures was_member { result ≡ PRESENT → has set.old index ≡ true }
     ensures was_clear { result ≡ OK → has set.old index ≡ false }
     ensures added { result ≤ PRESENT → (i : ℕ) → has set.new i ≡ (has set.old i || i == index) }
@@ -132,7 +132,7 @@ pub extern "C" fn hibitset_free(alloc: Global, set: &mut Set)
 /// Adds the indices from `start` on and below `end`.
 #[unsafe(no_mangle)]
 pub extern "C" fn hibitset_add_range(alloc: Global, set: &mut Set, start: u32, end: u32) -> u32
-    ensures range { (result ≡ OUT_OF_RANGE) ↔ (MAX_EID < end) }
+    ensures out_of_range { (result ≡ OUT_OF_RANGE) ↔ (MAX_EID < end) }
     ensures added { result ≡ OK → (i : ℕ)
         → has set.new i ≡ (has set.old i || in_range start end i) }
     ensures err { result ≢ OK → (i : ℕ) → has set.new i ≡ has set.old i }
@@ -140,7 +140,7 @@ pub extern "C" fn hibitset_add_range(alloc: Global, set: &mut Set, start: u32, e
 
     // How many words there are, and when none has to be allocated.
     ensures succeeds { end ≤ 64 * layer0_len set.old → result ≢ NO_MEMORY }
-    ensures none { end ≤ start → result ≢ NO_MEMORY }
+    ensures succeeds_empty { end ≤ start → result ≢ NO_MEMORY }
     ensures len_min { layer0_len set.old ≤ layer0_len set.new }
     ensures len_max { layer0_len set.new ≤ max (layer0_len set.old) ((end - 1) / 64 + 1) }
     ensures err_len { result ≢ OK → layer0_len set.new ≡ layer0_len set.old }

@@ -32,7 +32,7 @@ impl Handle {
     pub(crate) fn take(&mut self, alloc: Global) -> RawBox<BitSet, Global>
         requires { is_some self.old.set ≡ true }
         ensures taken { self.old.set ≡ Some result.value }
-        ensures none { self.new.set ≡ None }
+        ensures empty { self.new.set ≡ None }
     {
         let at = self.at as *mut BitSet;
         RawBox { at, alloc }

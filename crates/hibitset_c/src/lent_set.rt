@@ -8,6 +8,7 @@ ghost use Rattle.hibitset.specs.Layers.{piled, IsFitted};
 ghost use Rattle.hibitset.specs.Merge.{AreWords};
 
 use hibitset::{BitSetLike, Index};
+use hibitset_base::bits::word_or_zero;
 
 /// The words of a set, in the bytes of its `hibitset_t`.
 ///
@@ -35,18 +36,6 @@ pub(crate) fn are_words(words: &[usize])
     ensures { AreWords (λ p. get_or words.now p 0) }
 {}
 
-// The word at a position, 0 past the end.
-#[inline]
-fn word(words: &[usize], position: usize) -> usize
-    ensures { result ≡ get_or words.now position 0 }
-{
-    if position < words.len() {
-        words[position]
-    } else {
-        0
-    }
-}
-
 impl<'a> BitSetLike for LentSet<'a> {
     ghost use Rattle.hibitset_c.specs.LentSet.{has, word_of, has_is_lawful};
 
@@ -63,22 +52,22 @@ impl<'a> BitSetLike for LentSet<'a> {
 
     #[inline]
     fn layer3(&self, i: usize) -> usize {
-        word(self.layer3, i)
+        word_or_zero(self.layer3, i)
     }
 
     #[inline]
     fn layer2(&self, i: usize) -> usize {
-        word(self.layer2, i)
+        word_or_zero(self.layer2, i)
     }
 
     #[inline]
     fn layer1(&self, i: usize) -> usize {
-        word(self.layer1, i)
+        word_or_zero(self.layer1, i)
     }
 
     #[inline]
     fn layer0(&self, i: usize) -> usize {
-        word(self.layer0, i)
+        word_or_zero(self.layer0, i)
     }
 
     #[inline]

@@ -65,7 +65,7 @@ pub(crate) fn remove_list<T: DrainableBitSet>(set: &mut T, list: &[Index]) -> us
     ensures removed { RemovesAll list.now (T.holds set.old) (T.holds set.new) }
     ensures count { length (members_below MAX_EID (T.holds set.old))
         ≡ result + length (members_below MAX_EID (T.holds set.new)) }
-    ensures keeps { T.keeps_room set.old set.new }
+    ensures keeps_room { T.keeps_room set.old set.new }
 {
     let mut count = 0;
     for slot in 0..list.len() {

@@ -32,9 +32,9 @@ pub extern "C" fn hibitset_rank(set: &LentSet<'_>, end: u32) -> usize
 pub extern "C" fn hibitset_select(set: &LentSet<'_>, at: usize, index: &mut u32) -> bool
     ensures found { result ≡ true → slice_get (members_below MAX_EID (other_has set.now)) at
         ≡ Some index.new }
-    ensures none { result ≡ false → slice_get (members_below MAX_EID (other_has set.now)) at
+    ensures absent { result ≡ false → slice_get (members_below MAX_EID (other_has set.now)) at
         ≡ None }
-    ensures stays { result ≡ false → index.new ≡ index.old }
+    ensures out_kept { result ≡ false → index.new ≡ index.old }
 {
     match set.select(at) {
         Some(member) => {
@@ -57,8 +57,8 @@ pub extern "C" fn hibitset_len_range(set: &LentSet<'_>, start: u32, end: u32) ->
 #[unsafe(no_mangle)]
 pub extern "C" fn hibitset_last_before(set: &LentSet<'_>, end: u32, index: &mut u32) -> bool
     ensures found { result ≡ true → IsLast (min end MAX_EID) (other_has set.now) index.new }
-    ensures none { result ≡ false → HasNone (min end MAX_EID) (other_has set.now) }
-    ensures stays { result ≡ false → index.new ≡ index.old }
+    ensures absent { result ≡ false → HasNone (min end MAX_EID) (other_has set.now) }
+    ensures out_kept { result ≡ false → index.new ≡ index.old }
 {
     match set.last_before(end) {
         Some(last) => {
@@ -83,10 +83,10 @@ pub extern "C" fn hibitset_prev_many(set: &LentSet<'_>, end: u32, buffer: &mut [
 #[unsafe(no_mangle)]
 pub extern "C" fn hibitset_pop_first(set: &mut Set, index: &mut u32) -> bool
     ensures found { result ≡ true → IsFirst MAX_EID (has set.old) index.new }
-    ensures none { result ≡ false → HasNone MAX_EID (has set.old) }
+    ensures absent { result ≡ false → HasNone MAX_EID (has set.old) }
     ensures removed { result ≡ true → (i : ℕ)
         → has set.new i ≡ (has set.old i && not (i == index.new)) }
-    ensures stays { result ≡ false → (index.new ≡ index.old)
+    ensures unchanged { result ≡ false → (index.new ≡ index.old)
         × ((i : ℕ) → has set.new i ≡ has set.old i) }
     ensures length { layer0_len set.new ≡ layer0_len set.old }
 {
@@ -109,10 +109,10 @@ pub extern "C" fn hibitset_pop_first(set: &mut Set, index: &mut u32) -> bool
 #[unsafe(no_mangle)]
 pub extern "C" fn hibitset_pop_last(set: &mut Set, index: &mut u32) -> bool
     ensures found { result ≡ true → IsLast MAX_EID (has set.old) index.new }
-    ensures none { result ≡ false → HasNone MAX_EID (has set.old) }
+    ensures absent { result ≡ false → HasNone MAX_EID (has set.old) }
     ensures removed { result ≡ true → (i : ℕ)
         → has set.new i ≡ (has set.old i && not (i == index.new)) }
-    ensures stays { result ≡ false → (index.new ≡ index.old)
+    ensures unchanged { result ≡ false → (index.new ≡ index.old)
         × ((i : ℕ) → has set.new i ≡ has set.old i) }
     ensures length { layer0_len set.new ≡ layer0_len set.old }
 {
@@ -134,7 +134,7 @@ pub extern "C" fn hibitset_pop_last(set: &mut Set, index: &mut u32) -> bool
 /// Flips the indices from `start` on and below `end`: members are removed, the others are added.
 #[unsafe(no_mangle)]
 pub extern "C" fn hibitset_flip_range(alloc: Global, set: &mut Set, start: u32, end: u32) -> u32
-    ensures range { (result ≡ OUT_OF_RANGE) ↔ (MAX_EID < end) }
+    ensures out_of_range { (result ≡ OUT_OF_RANGE) ↔ (MAX_EID < end) }
     ensures flipped { result ≡ OK → (i : ℕ)
         → has set.new i ≡ differ (has set.old i) (in_range start end i) }
     ensures err { result ≢ OK → (i : ℕ) → has set.new i ≡ has set.old i }
@@ -142,7 +142,7 @@ pub extern "C" fn hibitset_flip_range(alloc: Global, set: &mut Set, start: u32, 
 
     // How many words there are, and when none has to be allocated.
     ensures succeeds { end ≤ 64 * layer0_len set.old → result ≢ NO_MEMORY }
-    ensures none { end ≤ start → result ≢ NO_MEMORY }
+    ensures succeeds_empty { end ≤ start → result ≢ NO_MEMORY }
     ensures len_min { layer0_len set.old ≤ layer0_len set.new }
     ensures len_max { layer0_len set.new ≤ max (layer0_len set.old) ((end - 1) / 64 + 1) }
     ensures err_len { result ≢ OK → layer0_len set.new ≡ layer0_len set.old }

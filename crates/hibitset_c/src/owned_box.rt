@@ -32,7 +32,7 @@ impl OwnedBox {
     pub(crate) fn take(&mut self, alloc: Global) -> RawBox<SetOrSeat, Global>
         requires { is_some self.old.content ≡ true }
         ensures taken { self.old.content ≡ Some result.value }
-        ensures none { self.new.content ≡ None }
+        ensures empty { self.new.content ≡ None }
     {
         let at = self.at as *mut SetOrSeat;
         RawBox { at, alloc }

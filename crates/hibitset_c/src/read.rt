@@ -40,8 +40,8 @@ pub extern "C" fn hibitset_is_empty(set: &LentSet<'_>) -> bool
 #[unsafe(no_mangle)]
 pub extern "C" fn hibitset_first(set: &LentSet<'_>, index: &mut u32) -> bool
     ensures found { result ≡ true → IsFirst MAX_EID (has set.now) index.new }
-    ensures none { result ≡ false → HasNone MAX_EID (has set.now) }
-    ensures stays { result ≡ false → index.new ≡ index.old }
+    ensures absent { result ≡ false → HasNone MAX_EID (has set.now) }
+    ensures out_kept { result ≡ false → index.new ≡ index.old }
 {
     match set.first() {
         Some(first) => {
@@ -56,8 +56,8 @@ pub extern "C" fn hibitset_first(set: &LentSet<'_>, index: &mut u32) -> bool
 #[unsafe(no_mangle)]
 pub extern "C" fn hibitset_last(set: &LentSet<'_>, index: &mut u32) -> bool
     ensures found { result ≡ true → IsLast MAX_EID (has set.now) index.new }
-    ensures none { result ≡ false → HasNone MAX_EID (has set.now) }
-    ensures stays { result ≡ false → index.new ≡ index.old }
+    ensures absent { result ≡ false → HasNone MAX_EID (has set.now) }
+    ensures out_kept { result ≡ false → index.new ≡ index.old }
 {
     match set.last() {
         Some(last) => {
@@ -72,8 +72,8 @@ pub extern "C" fn hibitset_last(set: &LentSet<'_>, index: &mut u32) -> bool
 #[unsafe(no_mangle)]
 pub extern "C" fn hibitset_first_gap(set: &LentSet<'_>, start: u32, index: &mut u32) -> bool
     ensures found { result ≡ true → IsFirst MAX_EID (is_gap_from start (has set.now)) index.new }
-    ensures none { result ≡ false → HasNone MAX_EID (is_gap_from start (has set.now)) }
-    ensures stays { result ≡ false → index.new ≡ index.old }
+    ensures absent { result ≡ false → HasNone MAX_EID (is_gap_from start (has set.now)) }
+    ensures out_kept { result ≡ false → index.new ≡ index.old }
 {
     match set.first_gap(start) {
         Some(gap) => {

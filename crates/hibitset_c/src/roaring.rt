@@ -36,14 +36,14 @@ pub extern "C" fn hibitset_roaring_write(
 ) -> u32
     ensures stream { result ≡ OK → IsCanonicalStream (other_has set.now)
         (take taken.new buffer.new) }
-    ensures below { result ≡ OK → HasKeysBelow (take taken.new buffer.new) KEYS }
-    ensures within { result ≡ OK → taken.new ≤ length buffer.old }
+    ensures keys_below { result ≡ OK → HasKeysBelow (take taken.new buffer.new) KEYS }
+    ensures in_buffer { result ≡ OK → taken.new ≤ length buffer.old }
     ensures rest { result ≡ OK → drop taken.new buffer.new ≡ drop taken.new buffer.old }
     ensures len { result ≢ NO_MEMORY → (bytes : List ℕ) → IsPlainStream (other_has set.now) bytes
         → length bytes ≡ taken.new }
-    ensures short { result ≡ SHORT_BUFFER → length buffer.old < taken.new }
+    ensures short_buffer { result ≡ SHORT_BUFFER → length buffer.old < taken.new }
     ensures err { result ≢ OK → buffer.new ≡ buffer.old }
-    ensures memory { result ≡ NO_MEMORY → taken.new ≡ taken.old }
+    ensures no_memory { result ≡ NO_MEMORY → taken.new ≡ taken.old }
     ensures status { (result ≡ OK) ⊎ (result ≡ NO_MEMORY) ⊎ (result ≡ SHORT_BUFFER) }
 {
     let room = buffer.len();
@@ -67,15 +67,15 @@ pub extern "C" fn hibitset_roaring_read_below(
     at: &mut usize,
 ) -> u32
     ensures stream { result ≡ OK → IsStream bytes.now }
-    ensures below { result ≡ OK → HasKeysBelow bytes.now (min end KEYS) }
+    ensures keys_below { result ≡ OK → HasKeysBelow bytes.now (min end KEYS) }
     ensures members { result ≡ OK → (i : ℕ) → has set.new i ≡ holds bytes.now i }
     ensures length { result ≡ OK → layer0_len set.new ≤ CONTAINER_WORDS * min end KEYS }
-    ensures least { result ≡ OK → (bound : ℕ) → HasKeysBelow bytes.now bound
+    ensures least_bound { result ≡ OK → (bound : ℕ) → HasKeysBelow bytes.now bound
         → layer0_len set.new ≤ CONTAINER_WORDS * bound }
     ensures accepts { IsStream bytes.now → HasKeysBelow bytes.now (min end KEYS)
         → result ≢ MALFORMED }
     ensures fault { result ≡ MALFORMED → HasFault bytes.now (min end KEYS) fault.new at.new }
-    ensures stays { result ≢ MALFORMED → (fault.new ≡ fault.old) × (at.new ≡ at.old) }
+    ensures out_kept { result ≢ MALFORMED → (fault.new ≡ fault.old) × (at.new ≡ at.old) }
     ensures err { result ≢ OK → (i : ℕ) → has set.new i ≡ has set.old i }
     ensures err_len { result ≢ OK → layer0_len set.new ≡ layer0_len set.old }
     ensures status { (result ≡ OK) ⊎ (result ≡ NO_MEMORY) ⊎ (result ≡ MALFORMED) }
@@ -107,13 +107,13 @@ pub extern "C" fn hibitset_roaring_read(
     at: &mut usize,
 ) -> u32
     ensures stream { result ≡ OK → IsStream bytes.now }
-    ensures below { result ≡ OK → HasKeysBelow bytes.now KEYS }
+    ensures keys_below { result ≡ OK → HasKeysBelow bytes.now KEYS }
     ensures members { result ≡ OK → (i : ℕ) → has set.new i ≡ holds bytes.now i }
-    ensures least { result ≡ OK → (bound : ℕ) → HasKeysBelow bytes.now bound
+    ensures least_bound { result ≡ OK → (bound : ℕ) → HasKeysBelow bytes.now bound
         → layer0_len set.new ≤ CONTAINER_WORDS * bound }
     ensures accepts { IsStream bytes.now → HasKeysBelow bytes.now KEYS → result ≢ MALFORMED }
     ensures fault { result ≡ MALFORMED → HasFault bytes.now KEYS fault.new at.new }
-    ensures stays { result ≢ MALFORMED → (fault.new ≡ fault.old) × (at.new ≡ at.old) }
+    ensures out_kept { result ≢ MALFORMED → (fault.new ≡ fault.old) × (at.new ≡ at.old) }
     ensures err { result ≢ OK → (i : ℕ) → has set.new i ≡ has set.old i }
     ensures err_len { result ≢ OK → layer0_len set.new ≡ layer0_len set.old }
     ensures status { (result ≡ OK) ⊎ (result ≡ NO_MEMORY) ⊎ (result ≡ MALFORMED) }

@@ -29,7 +29,7 @@ pub extern "C" fn hibitset_atomic_share(
     ensures opening { result ≡ OK → Holds seat.new (IsOpening (has set.old)) }
     ensures empty { result ≡ OK → OwnsNoMemory set.new }
     ensures err { result ≢ OK → (i : ℕ) → has set.new i ≡ has set.old i }
-    ensures stays { result ≢ OK → IsSame seat.old seat.new }
+    ensures seat_kept { result ≢ OK → IsSame seat.old seat.new }
     ensures status { (result ≡ OK) ⊎ (result ≡ NO_MEMORY) }
 {
     if !set.make(alloc) {
@@ -57,17 +57,17 @@ pub extern "C" fn hibitset_seat_free(alloc: Global, seat: &mut SeatSlot)
 #[unsafe(no_mangle)]
 pub extern "C" fn hibitset_seat_add(seat: &mut SeatSlot, index: u32) -> u32
     ensures no_seat { (result ≡ NO_SEAT) ↔ (has_seat seat.old ≡ false) }
-    ensures range { (result ≡ OUT_OF_RANGE)
+    ensures out_of_range { (result ≡ OUT_OF_RANGE)
         ↔ (has_seat seat.old ≡ true) × (ATOMIC_MAX_EID ≤ index) }
-    ensures keeps { Keeps seat.old seat.new }
+    ensures keeps_known { Keeps seat.old seat.new }
     ensures known { result ≤ PRESENT → IsKnown seat.new index }
-    ensures there { result ≢ OK → reports_of seat.new ≡ reports_of seat.old }
+    ensures no_report { result ≢ OK → reports_of seat.new ≡ reports_of seat.old }
     ensures new { result ≡ OK → (reports_of seat.new ≡ index ∷ reports_of seat.old)
         × ¬ IsOld seat.old index × ¬ IsKnown seat.old index }
-    ensures once { result ≡ OK → ¬ Contains (reports_of seat.old) index }
+    ensures not_reported { result ≡ OK → ¬ Contains (reports_of seat.old) index }
     ensures loads { loads_by seat.new ≤ loads_by seat.old + 7 }
     ensures exchanges { exchanges_by seat.new ≤ exchanges_by seat.old + 4 }
-    ensures still { IsOld seat.old index ⊎ IsKnown seat.old index
+    ensures known_cost { IsOld seat.old index ⊎ IsKnown seat.old index
         → (loads_by seat.new ≤ loads_by seat.old + 4)
         × (exchanges_by seat.new ≡ exchanges_by seat.old) }
     ensures status { (result ≤ PRESENT) ⊎ (result ≡ OUT_OF_RANGE) ⊎ (result ≡ NO_SEAT) }
@@ -87,9 +87,9 @@ pub extern "C" fn hibitset_seat_add(seat: &mut SeatSlot, index: u32) -> u32
 /// Returns whether an index is there, as far as the seat sees.
 #[unsafe(no_mangle)]
 pub extern "C" fn hibitset_seat_contains(seat: &mut SeatSlot, index: u32) -> bool
-    ensures yes { result ≡ true → (index < ATOMIC_MAX_EID) × IsKnown seat.new index }
-    ensures no { result ≡ false → ¬ IsOld seat.old index × ¬ IsKnown seat.new index }
-    ensures keeps { Keeps seat.old seat.new }
+    ensures if_true { result ≡ true → (index < ATOMIC_MAX_EID) × IsKnown seat.new index }
+    ensures if_false { result ≡ false → ¬ IsOld seat.old index × ¬ IsKnown seat.new index }
+    ensures keeps_known { Keeps seat.old seat.new }
     ensures reports { reports_of seat.new ≡ reports_of seat.old }
     ensures steps { (loads_by seat.new ≤ loads_by seat.old + 4)
         × (exchanges_by seat.new ≡ exchanges_by seat.old) }
@@ -127,10 +127,10 @@ pub extern "C" fn hibitset_seat_divide(
 ) -> u32
     ensures no_seat { (result ≡ NO_SEAT) ↔ (has_seat seat.old ≡ false) }
     ensures halves { result ≡ OK → AreHalves seat.old seat.new other.new }
-    ensures one { result ≡ ONE_SHARE → weight_of seat.old ≡ 1 }
+    ensures one_share { result ≡ ONE_SHARE → weight_of seat.old ≡ 1 }
     ensures err { result ≢ OK → Keeps seat.old seat.new
         × (reports_of seat.new ≡ reports_of seat.old) }
-    ensures stays { result ≢ OK → IsSame other.old other.new }
+    ensures other_kept { result ≢ OK → IsSame other.old other.new }
     ensures status { (result ≡ OK) ⊎ (result ≡ NO_MEMORY) ⊎ (result ≡ ONE_SHARE)
         ⊎ (result ≡ NO_SEAT) }
 {
@@ -155,8 +155,8 @@ pub extern "C" fn hibitset_seat_collect(alloc: Global, seat: &mut SeatSlot, set:
         → plain_has set.new i ≡ true }
     ensures found { (i : ℕ) → plain_has set.new i ≡ true
         → (plain_has set.old i ≡ true) ⊎ IsKnown seat.new i }
-    ensures stays { (i : ℕ) → plain_has set.old i ≡ true → plain_has set.new i ≡ true }
-    ensures keeps { Keeps seat.old seat.new }
+    ensures members_kept { (i : ℕ) → plain_has set.old i ≡ true → plain_has set.new i ≡ true }
+    ensures keeps_known { Keeps seat.old seat.new }
     ensures reports { reports_of seat.new ≡ reports_of seat.old }
     ensures status { (result ≡ OK) ⊎ (result ≡ NO_MEMORY) ⊎ (result ≡ NO_SEAT) }
 {
@@ -185,10 +185,10 @@ pub extern "C" fn hibitset_seat_settle(
 ) -> u32
     ensures no_seat { (result ≡ NO_SEAT) ↔ (has_seat seat.old ≡ false) }
     ensures settled { result ≡ OK → Holds seat.old (λ shared s. EndsAs shared s (has set.new)) }
-    ensures room { result ≡ OK → AllBlocksReserved set.new }
+    ensures all_reserved { result ≡ OK → AllBlocksReserved set.new }
     ensures given_up { result ≡ OK → has_seat seat.new ≡ false }
     ensures err { result ≢ OK → IsSameSet set.old set.new }
-    ensures stays { result ≢ OK → IsSame seat.old seat.new }
+    ensures seat_kept { result ≢ OK → IsSame seat.old seat.new }
     ensures status { (result ≡ OK) ⊎ (result ≡ NO_MEMORY) ⊎ (result ≡ SHARED) ⊎ (result ≡ NO_SEAT) }
 {
     if !seat.made {

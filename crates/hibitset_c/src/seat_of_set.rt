@@ -59,15 +59,15 @@ impl SeatOfSet {
     #[inline]
     pub(crate) fn add(&mut self, index: Index) -> bool
         requires { index < ATOMIC_MAX_EID }
-        ensures keeps { Keeps self.old self.new }
+        ensures keeps_known { Keeps self.old self.new }
         ensures known { IsKnown self.new.seat index }
-        ensures there { result ≡ true → reports_of self.new.seat ≡ reports_of self.old.seat }
+        ensures no_report { result ≡ true → reports_of self.new.seat ≡ reports_of self.old.seat }
         ensures new { result ≡ false → (reports_of self.new.seat ≡ index ∷ reports_of self.old.seat)
             × ¬ IsOld (set_of self.old.set) index × ¬ IsKnown self.old.seat index }
-        ensures once { result ≡ false → ¬ Contains (reports_of self.old.seat) index }
+        ensures not_reported { result ≡ false → ¬ Contains (reports_of self.old.seat) index }
         ensures loads { loads_by self.new.seat ≤ loads_by self.old.seat + 7 }
         ensures exchanges { exchanges_by self.new.seat ≤ exchanges_by self.old.seat + 4 }
-        ensures still { IsOld (set_of self.old.set) index ⊎ IsKnown self.old.seat index
+        ensures known_cost { IsOld (set_of self.old.set) index ⊎ IsKnown self.old.seat index
             → (loads_by self.new.seat ≤ loads_by self.old.seat + 4)
             × (exchanges_by self.new.seat ≡ exchanges_by self.old.seat) }
     {
@@ -78,10 +78,10 @@ impl SeatOfSet {
     #[tactic(auto, using(crate::proofs::BelongsToLemmas::came_at))]
     #[inline]
     pub(crate) fn contains(&mut self, index: Index) -> bool
-        ensures keeps { Keeps self.old self.new }
+        ensures keeps_known { Keeps self.old self.new }
         ensures reports { reports_of self.new.seat ≡ reports_of self.old.seat }
-        ensures yes { result ≡ true → (index < ATOMIC_MAX_EID) × IsKnown self.new.seat index }
-        ensures no { result ≡ false → ¬ IsOld (set_of self.old.set) index
+        ensures if_true { result ≡ true → (index < ATOMIC_MAX_EID) × IsKnown self.new.seat index }
+        ensures if_false { result ≡ false → ¬ IsOld (set_of self.old.set) index
             × ¬ IsKnown self.new.seat index }
         ensures steps { (loads_by self.new.seat ≤ loads_by self.old.seat + 4)
             × (exchanges_by self.new.seat ≡ exchanges_by self.old.seat) }
@@ -132,9 +132,9 @@ impl SeatOfSet {
     // Adds to a set what a walk gives. Returns false if an allocation failed.
     #[tactic(auto, using(crate::proofs::BelongsToLemmas::came_at))]
     pub(crate) fn collect(&mut self, bits: &mut BitSet) -> bool
-        ensures keeps { Keeps self.old self.new }
+        ensures keeps_known { Keeps self.old self.new }
         ensures reports { reports_of self.new.seat ≡ reports_of self.old.seat }
-        ensures stays { (i : ℕ) → bits_have bits.old i ≡ true → bits_have bits.new i ≡ true }
+        ensures members_kept { (i : ℕ) → bits_have bits.old i ≡ true → bits_have bits.new i ≡ true }
         ensures found { (i : ℕ) → bits_have bits.new i ≡ true
             → (bits_have bits.old i ≡ true) ⊎ IsKnown self.new.seat i }
         ensures all { result ≡ true → (i : ℕ)
@@ -146,8 +146,8 @@ impl SeatOfSet {
 
     // Returns whether the seat has all shares of its set.
     pub(crate) fn is_whole(&self) -> bool
-        ensures yes { result ≡ true → weight_of self.now.seat ≡ SHARES }
-        ensures no { result ≡ false → weight_of self.now.seat ≢ SHARES }
+        ensures if_true { result ≡ true → weight_of self.now.seat ≡ SHARES }
+        ensures if_false { result ≡ false → weight_of self.now.seat ≢ SHARES }
     {
         self.seat.is_whole()
     }

@@ -31,7 +31,7 @@ impl SeatSlot {
     pub(crate) fn take(&mut self, alloc: Global) -> Box<SetOrSeat, Global>
         requires { self.old.made ≡ true }
         ensures taken { self.old.handle.content ≡ Some result.value }
-        ensures none { self.new.handle.content ≡ None }
+        ensures empty { self.new.handle.content ≡ None }
     {
         self.made = false;
         self.handle.take(alloc).into_box()

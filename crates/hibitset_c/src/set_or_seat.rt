@@ -49,7 +49,7 @@ impl SetOrSeat {
         requires { is_seated self.old ≡ true }
         ensures halves { result ≡ OK → Halves self.old self.new other.new }
         ensures one { result ≡ ONE_SHARE → HasOneShare self.old }
-        ensures stays { result ≢ OK → KeepsAll self.old self.new }
+        ensures seat_kept { result ≢ OK → KeepsAll self.old self.new }
         ensures status { (result ≡ OK) ⊎ (result ≡ NO_MEMORY) ⊎ (result ≡ ONE_SHARE) }
     {
         let SetOrSeat::Seated(seated) = mem::replace(self, SetOrSeat::Nothing) else {
@@ -76,7 +76,7 @@ impl SetOrSeat {
     pub(crate) fn settle(&mut self) -> u32
         requires { is_seated self.old ≡ true }
         ensures settled { result ≡ OK → Settles self.old self.new }
-        ensures stays { result ≢ OK → IsSameSeat self.old self.new }
+        ensures seat_kept { result ≢ OK → IsSameSeat self.old self.new }
         ensures status { (result ≡ OK) ⊎ (result ≡ NO_MEMORY) ⊎ (result ≡ SHARED) }
     {
         let SetOrSeat::Seated(seated) = mem::replace(self, SetOrSeat::Nothing) else {

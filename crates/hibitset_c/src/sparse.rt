@@ -58,12 +58,12 @@ pub extern "C" fn hibitset_sparse_shrink_to_fit(set: &mut SparseSet)
 #[tactic(auto, using(crate::proofs::SparseLemmas::word_of_near))]
 #[unsafe(no_mangle)]
 pub extern "C" fn hibitset_sparse_add(alloc: Global, set: &mut SparseSet, index: u32) -> u32
-    ensures range { (result ≡ OUT_OF_RANGE) ↔ (MAX_EID ≤ index) }
+    ensures out_of_range { (result ≡ OUT_OF_RANGE) ↔ (MAX_EID ≤ index) }
     ensures was_member { result ≡ PRESENT → has set.old index ≡ true }
     ensures was_clear { result ≡ OK → has set.old index ≡ false }
     ensures added { result ≤ PRESENT → (i : ℕ) → has set.new i ≡ (has set.old i || i == index) }
     ensures err { PRESENT < result → (i : ℕ) → has set.new i ≡ has set.old i }
-    ensures near { SharesWordWithMember set.old index → result ≢ NO_MEMORY }
+    ensures succeeds_near { SharesWordWithMember set.old index → result ≢ NO_MEMORY }
     ensures status { result ≤ OUT_OF_RANGE }
 {
     if index as usize >= MAX_EID {
@@ -87,8 +87,8 @@ fn add_list(members: &mut SparseBitSet, list: &[Index]) -> (usize, u32)
     ensures count { result.0 ≤ length list.now }
     ensures in_range { All (λ i. i < MAX_EID) (take result.0 list.now) }
     ensures all { result.1 ≡ OK → result.0 ≡ length list.now }
-    ensures range { result.1 ≡ OUT_OF_RANGE → StopsAt list.now result.0 (λ i. MAX_EID ≤ i) }
-    ensures memory { result.1 ≡ NO_MEMORY → StopsAt list.now result.0
+    ensures out_of_range { result.1 ≡ OUT_OF_RANGE → StopsAt list.now result.0 (λ i. MAX_EID ≤ i) }
+    ensures no_memory { result.1 ≡ NO_MEMORY → StopsAt list.now result.0
         (λ i. (i < MAX_EID) × (sparse_word members.new 0 (i / 64) ≡ 0)) }
     ensures status { (result.1 ≡ OK) ⊎ (NO_MEMORY ≤ result.1) × (result.1 ≤ OUT_OF_RANGE) }
 {
@@ -112,8 +112,8 @@ pub extern "C" fn hibitset_sparse_add_many(
     ensures count { added.new ≤ length indices.now }
     ensures in_range { All (λ i. i < MAX_EID) (take added.new indices.now) }
     ensures all { result ≡ OK → added.new ≡ length indices.now }
-    ensures range { result ≡ OUT_OF_RANGE → StopsAt indices.now added.new (λ i. MAX_EID ≤ i) }
-    ensures memory { result ≡ NO_MEMORY → StopsAt indices.now added.new
+    ensures out_of_range { result ≡ OUT_OF_RANGE → StopsAt indices.now added.new (λ i. MAX_EID ≤ i) }
+    ensures no_memory { result ≡ NO_MEMORY → StopsAt indices.now added.new
         (λ i. (i < MAX_EID) × ¬ SharesWordWithMember set.new i) }
     ensures status { (result ≡ OK) ⊎ (NO_MEMORY ≤ result) × (result ≤ OUT_OF_RANGE) }
 {
@@ -174,11 +174,11 @@ pub extern "C" fn hibitset_sparse_add_range(
     start: u32,
     end: u32,
 ) -> u32
-    ensures range { (result ≡ OUT_OF_RANGE) ↔ (MAX_EID < end) }
+    ensures out_of_range { (result ≡ OUT_OF_RANGE) ↔ (MAX_EID < end) }
     ensures added { result ≡ OK → (i : ℕ)
         → has set.new i ≡ (has set.old i || in_range start end i) }
     ensures err { result ≢ OK → (i : ℕ) → has set.new i ≡ has set.old i }
-    ensures none { end ≤ start → result ≢ NO_MEMORY }
+    ensures succeeds_empty { end ≤ start → result ≢ NO_MEMORY }
     ensures status { (result ≡ OK) ⊎ (NO_MEMORY ≤ result) × (result ≤ OUT_OF_RANGE) }
 {
     if end as usize > MAX_EID {
@@ -220,11 +220,11 @@ pub extern "C" fn hibitset_sparse_flip_range(
     start: u32,
     end: u32,
 ) -> u32
-    ensures range { (result ≡ OUT_OF_RANGE) ↔ (MAX_EID < end) }
+    ensures out_of_range { (result ≡ OUT_OF_RANGE) ↔ (MAX_EID < end) }
     ensures flipped { result ≡ OK → (i : ℕ)
         → has set.new i ≡ differ (has set.old i) (in_range start end i) }
     ensures err { result ≢ OK → (i : ℕ) → has set.new i ≡ has set.old i }
-    ensures none { end ≤ start → result ≢ NO_MEMORY }
+    ensures succeeds_empty { end ≤ start → result ≢ NO_MEMORY }
     ensures status { (result ≡ OK) ⊎ (NO_MEMORY ≤ result) × (result ≤ OUT_OF_RANGE) }
 {
     if end as usize > MAX_EID {
@@ -249,10 +249,10 @@ pub extern "C" fn hibitset_sparse_flip_range(
 #[unsafe(no_mangle)]
 pub extern "C" fn hibitset_sparse_pop_first(set: &mut SparseSet, index: &mut u32) -> bool
     ensures found { result ≡ true → IsFirst MAX_EID (has set.old) index.new }
-    ensures none { result ≡ false → HasNone MAX_EID (has set.old) }
+    ensures absent { result ≡ false → HasNone MAX_EID (has set.old) }
     ensures removed { result ≡ true → (i : ℕ)
         → has set.new i ≡ (has set.old i && not (i == index.new)) }
-    ensures stays { result ≡ false → (index.new ≡ index.old)
+    ensures unchanged { result ≡ false → (index.new ≡ index.old)
         × ((i : ℕ) → has set.new i ≡ has set.old i) }
 {
     if !set.made {
@@ -274,10 +274,10 @@ pub extern "C" fn hibitset_sparse_pop_first(set: &mut SparseSet, index: &mut u32
 #[unsafe(no_mangle)]
 pub extern "C" fn hibitset_sparse_pop_last(set: &mut SparseSet, index: &mut u32) -> bool
     ensures found { result ≡ true → IsLast MAX_EID (has set.old) index.new }
-    ensures none { result ≡ false → HasNone MAX_EID (has set.old) }
+    ensures absent { result ≡ false → HasNone MAX_EID (has set.old) }
     ensures removed { result ≡ true → (i : ℕ)
         → has set.new i ≡ (has set.old i && not (i == index.new)) }
-    ensures stays { result ≡ false → (index.new ≡ index.old)
+    ensures unchanged { result ≡ false → (index.new ≡ index.old)
         × ((i : ℕ) → has set.new i ≡ has set.old i) }
 {
     if !set.made {

@@ -55,7 +55,7 @@ pub extern "C" fn hibitset_sparse_or_assign_dense(
     ensures members { result ≡ OK → IsUnion (sparse_has set.old) (is_member (dense_has other.now))
         (sparse_has set.new) }
     ensures err { result ≢ OK → (i : ℕ) → sparse_has set.new i ≡ sparse_has set.old i }
-    ensures none { members_below MAX_EID (dense_has other.now) ≡ [] → result ≡ OK }
+    ensures succeeds_empty { members_below MAX_EID (dense_has other.now) ≡ [] → result ≡ OK }
     ensures status { (result ≡ OK) ⊎ (result ≡ NO_MEMORY) }
 {
     if other.is_empty() {
@@ -84,7 +84,7 @@ pub extern "C" fn hibitset_sparse_xor_assign_dense(
     ensures members { result ≡ OK → IsSymmetricDifference (sparse_has set.old)
         (is_member (dense_has other.now)) (sparse_has set.new) }
     ensures err { result ≢ OK → (i : ℕ) → sparse_has set.new i ≡ sparse_has set.old i }
-    ensures none { members_below MAX_EID (dense_has other.now) ≡ [] → result ≡ OK }
+    ensures succeeds_empty { members_below MAX_EID (dense_has other.now) ≡ [] → result ≡ OK }
     ensures status { (result ≡ OK) ⊎ (result ≡ NO_MEMORY) }
 {
     if other.is_empty() {

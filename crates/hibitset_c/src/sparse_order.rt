@@ -51,8 +51,8 @@ pub extern "C" fn hibitset_sparse_is_empty(set: &mut SparseSet) -> bool
 #[unsafe(no_mangle)]
 pub extern "C" fn hibitset_sparse_first(set: &mut SparseSet, index: &mut u32) -> bool
     ensures found { result ≡ true → IsFirst MAX_EID (has set.old) index.new }
-    ensures none { result ≡ false → HasNone MAX_EID (has set.old) }
-    ensures stays { result ≡ false → index.new ≡ index.old }
+    ensures absent { result ≡ false → HasNone MAX_EID (has set.old) }
+    ensures out_kept { result ≡ false → index.new ≡ index.old }
     ensures same { IsSame set.old set.new }
 {
     if !set.made {
@@ -74,8 +74,8 @@ pub extern "C" fn hibitset_sparse_first(set: &mut SparseSet, index: &mut u32) ->
 #[unsafe(no_mangle)]
 pub extern "C" fn hibitset_sparse_last(set: &mut SparseSet, index: &mut u32) -> bool
     ensures found { result ≡ true → IsLast MAX_EID (has set.old) index.new }
-    ensures none { result ≡ false → HasNone MAX_EID (has set.old) }
-    ensures stays { result ≡ false → index.new ≡ index.old }
+    ensures absent { result ≡ false → HasNone MAX_EID (has set.old) }
+    ensures out_kept { result ≡ false → index.new ≡ index.old }
     ensures same { IsSame set.old set.new }
 {
     if !set.made {
@@ -101,8 +101,8 @@ pub extern "C" fn hibitset_sparse_last_before(
     index: &mut u32,
 ) -> bool
     ensures found { result ≡ true → IsLast (min end MAX_EID) (has set.old) index.new }
-    ensures none { result ≡ false → HasNone (min end MAX_EID) (has set.old) }
-    ensures stays { result ≡ false → index.new ≡ index.old }
+    ensures absent { result ≡ false → HasNone (min end MAX_EID) (has set.old) }
+    ensures out_kept { result ≡ false → index.new ≡ index.old }
     ensures same { IsSame set.old set.new }
 {
     if !set.made {
@@ -142,8 +142,8 @@ pub extern "C" fn hibitset_sparse_rank(set: &mut SparseSet, end: u32) -> usize
 pub extern "C" fn hibitset_sparse_select(set: &mut SparseSet, at: usize, index: &mut u32) -> bool
     ensures found { result ≡ true → slice_get (members_below MAX_EID (has set.old)) at
         ≡ Some index.new }
-    ensures none { result ≡ false → slice_get (members_below MAX_EID (has set.old)) at ≡ None }
-    ensures stays { result ≡ false → index.new ≡ index.old }
+    ensures absent { result ≡ false → slice_get (members_below MAX_EID (has set.old)) at ≡ None }
+    ensures out_kept { result ≡ false → index.new ≡ index.old }
     ensures same { IsSame set.old set.new }
 {
     if !set.made {

@@ -53,7 +53,7 @@ pub extern "C" fn hibitset_internal_sparse_or_assign(
 ) -> u32
     ensures members { result ≡ OK → IsUnion (has set.old) (has other.old) (has set.new) }
     ensures err { result ≢ OK → (i : ℕ) → has set.new i ≡ has set.old i }
-    ensures none { members_below MAX_EID (has other.old) ≡ [] → result ≡ OK }
+    ensures succeeds_empty { members_below MAX_EID (has other.old) ≡ [] → result ≡ OK }
     ensures same { IsSame other.old other.new }
     ensures status { (result ≡ OK) ⊎ (result ≡ NO_MEMORY) }
 {
@@ -89,7 +89,7 @@ pub extern "C" fn hibitset_internal_sparse_xor_assign(
     ensures members { result ≡ OK → IsSymmetricDifference (has set.old) (has other.old)
         (has set.new) }
     ensures err { result ≢ OK → (i : ℕ) → has set.new i ≡ has set.old i }
-    ensures none { members_below MAX_EID (has other.old) ≡ [] → result ≡ OK }
+    ensures succeeds_empty { members_below MAX_EID (has other.old) ≡ [] → result ≡ OK }
     ensures same { IsSame other.old other.new }
     ensures status { (result ≡ OK) ⊎ (result ≡ NO_MEMORY) }
 {

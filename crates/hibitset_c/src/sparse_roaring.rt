@@ -46,14 +46,14 @@ pub extern "C" fn hibitset_sparse_roaring_len(alloc: Global, set: &mut SparseSet
 fn write_stream(alloc: Global, members: &SparseBitSet, buffer: &mut [u8], taken: &mut usize) -> u32
     ensures stream { result ≡ OK → IsCanonicalStream (sparse_has members.now)
         (take taken.new buffer.new) }
-    ensures below { result ≡ OK → HasKeysBelow (take taken.new buffer.new) KEYS }
-    ensures within { result ≡ OK → taken.new ≤ length buffer.old }
+    ensures keys_below { result ≡ OK → HasKeysBelow (take taken.new buffer.new) KEYS }
+    ensures in_buffer { result ≡ OK → taken.new ≤ length buffer.old }
     ensures rest { result ≡ OK → drop taken.new buffer.new ≡ drop taken.new buffer.old }
     ensures len { result ≢ NO_MEMORY → (bytes : List ℕ)
         → IsPlainStream (sparse_has members.now) bytes → length bytes ≡ taken.new }
-    ensures short { result ≡ SHORT_BUFFER → length buffer.old < taken.new }
+    ensures short_buffer { result ≡ SHORT_BUFFER → length buffer.old < taken.new }
     ensures err { result ≢ OK → buffer.new ≡ buffer.old }
-    ensures memory { result ≡ NO_MEMORY → taken.new ≡ taken.old }
+    ensures no_memory { result ≡ NO_MEMORY → taken.new ≡ taken.old }
     ensures status { (result ≡ OK) ⊎ (result ≡ NO_MEMORY) ⊎ (result ≡ SHORT_BUFFER) }
 {
     let Ok(stream) = write_like(alloc, members) else {
@@ -78,14 +78,14 @@ pub extern "C" fn hibitset_sparse_roaring_write(
     taken: &mut usize,
 ) -> u32
     ensures stream { result ≡ OK → IsCanonicalStream (has set.old) (take taken.new buffer.new) }
-    ensures below { result ≡ OK → HasKeysBelow (take taken.new buffer.new) KEYS }
-    ensures within { result ≡ OK → taken.new ≤ length buffer.old }
+    ensures keys_below { result ≡ OK → HasKeysBelow (take taken.new buffer.new) KEYS }
+    ensures in_buffer { result ≡ OK → taken.new ≤ length buffer.old }
     ensures rest { result ≡ OK → drop taken.new buffer.new ≡ drop taken.new buffer.old }
     ensures len { result ≢ NO_MEMORY → (bytes : List ℕ) → IsPlainStream (has set.old) bytes
         → length bytes ≡ taken.new }
-    ensures short { result ≡ SHORT_BUFFER → length buffer.old < taken.new }
+    ensures short_buffer { result ≡ SHORT_BUFFER → length buffer.old < taken.new }
     ensures err { result ≢ OK → buffer.new ≡ buffer.old }
-    ensures memory { result ≡ NO_MEMORY → taken.new ≡ taken.old }
+    ensures no_memory { result ≡ NO_MEMORY → taken.new ≡ taken.old }
     ensures same { IsSame set.old set.new }
     ensures status { (result ≡ OK) ⊎ (result ≡ NO_MEMORY) ⊎ (result ≡ SHORT_BUFFER) }
 {
@@ -112,12 +112,12 @@ pub extern "C" fn hibitset_sparse_roaring_read_below(
     at: &mut usize,
 ) -> u32
     ensures stream { result ≡ OK → IsStream bytes.now }
-    ensures below { result ≡ OK → HasKeysBelow bytes.now (min end KEYS) }
+    ensures keys_below { result ≡ OK → HasKeysBelow bytes.now (min end KEYS) }
     ensures members { result ≡ OK → (i : ℕ) → has set.new i ≡ holds bytes.now i }
     ensures accepts { IsStream bytes.now → HasKeysBelow bytes.now (min end KEYS)
         → result ≢ MALFORMED }
     ensures fault { result ≡ MALFORMED → HasFault bytes.now (min end KEYS) fault.new at.new }
-    ensures stays { result ≢ MALFORMED → (fault.new ≡ fault.old) × (at.new ≡ at.old) }
+    ensures out_kept { result ≢ MALFORMED → (fault.new ≡ fault.old) × (at.new ≡ at.old) }
     ensures err { result ≢ OK → (i : ℕ) → has set.new i ≡ has set.old i }
     ensures status { (result ≡ OK) ⊎ (result ≡ NO_MEMORY) ⊎ (result ≡ MALFORMED) }
 {
@@ -148,11 +148,11 @@ pub extern "C" fn hibitset_sparse_roaring_read(
     at: &mut usize,
 ) -> u32
     ensures stream { result ≡ OK → IsStream bytes.now }
-    ensures below { result ≡ OK → HasKeysBelow bytes.now KEYS }
+    ensures keys_below { result ≡ OK → HasKeysBelow bytes.now KEYS }
     ensures members { result ≡ OK → (i : ℕ) → has set.new i ≡ holds bytes.now i }
     ensures accepts { IsStream bytes.now → HasKeysBelow bytes.now KEYS → result ≢ MALFORMED }
     ensures fault { result ≡ MALFORMED → HasFault bytes.now KEYS fault.new at.new }
-    ensures stays { result ≢ MALFORMED → (fault.new ≡ fault.old) × (at.new ≡ at.old) }
+    ensures out_kept { result ≢ MALFORMED → (fault.new ≡ fault.old) × (at.new ≡ at.old) }
     ensures err { result ≢ OK → (i : ℕ) → has set.new i ≡ has set.old i }
     ensures status { (result ≡ OK) ⊎ (result ≡ NO_MEMORY) ⊎ (result ≡ MALFORMED) }
 {

@@ -60,8 +60,8 @@ impl Words {
     // Returns whether layer 0 has the word of an index.
     #[inline]
     pub(crate) fn has_word_of(&self, index: Index) -> bool
-        ensures yes { result ≡ true → index / 64 < self.now.len0 }
-        ensures no { result ≡ false → self.now.len0 ≤ index / 64 }
+        ensures if_true { result ≡ true → index / 64 < self.now.len0 }
+        ensures if_false { result ≡ false → self.now.len0 ≤ index / 64 }
     {
         (index as usize / 64) < self.len0
     }

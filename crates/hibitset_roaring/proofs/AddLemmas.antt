@@ -3,6 +3,7 @@ use Rattle.std.proofs.Common.{◌≡◌, ◌≢◌, ◌⊎◌, ℕ, ◌+◌, ◌
 use Rattle.std.specs.Int.{bit_at}
 use Rattle.std.proofs.lemmas.Bool.{cases_eq, cases_lt}
 use Rattle.std.proofs.lemmas.List.{get_or-set_same, get_or-set_other}
+use Rattle.std.proofs.Math.Bool.{or-true, or-false, and-false}
 use Rattle.hibitset_base.specs.Sets.{bit_of}
 use Rattle.hibitset_base.specs.Decisions.{eq_same, eq_other}
 use Rattle.hibitset_base.proofs.MembershipLemmas.{bit_test}
@@ -11,7 +12,7 @@ use Rattle.hibitset.specs.WordBits.{stands_in}
 use Rattle.hibitset_roaring.specs.Words.{Adds}
 use Rattle.hibitset_roaring.specs.Format.{in_bits}
 use Rattle.hibitset_roaring.specs.Numbers.{u64_at}
-use Rattle.hibitset_roaring.proofs.TestLemmas.{or_true, or_false, or_under, and_false, number_test}
+use Rattle.hibitset_roaring.proofs.TestLemmas.{or_under, number_test}
 
 -- the bit of a number was set in its word
 pub set_one : (old : List ℕ) (number word : ℕ) → number / 64 < length old → ((b : ℕ) → b < 64 → b ≢ number % 64 → bit_at word b ≡ bit_at (get_or old (number / 64) 0) b) → bit_at word (number % 64) ≡ bit_of true → (i : ℕ) → stands_in (set old (number / 64) word) i ≡ (stands_in old i || (i == number))
@@ -22,19 +23,19 @@ set_one old number word within same here i =
           elim (cases_eq (i % 64) (number % 64)) [
             | inl b ↦
                 let e : i ≡ number = omega (arith, p, b) in
-                ap (λ x. bit_at x (i % 64) == 1) w ∙ (ap (λ r. bit_at word r == 1) b ∙ (ap (λ x. x == 1) here ∙ sym (ap (λ t. stands_in old i || t) (eq_same i number e) ∙ or_true (stands_in old i))))
+                ap (λ x. bit_at x (i % 64) == 1) w ∙ (ap (λ r. bit_at word r == 1) b ∙ (ap (λ x. x == 1) here ∙ sym (ap (λ t. stands_in old i || t) (eq_same i number e) ∙ or-true (stands_in old i))))
             | inr b ↦
                 let e : i ≢ number = λ h. b (ap (λ x. x % 64) h) in
                 let o : get_or old (number / 64) 0 ≡ get_or old (i / 64) 0 = ap (λ q. get_or old q 0) (sym p) in
-                ap (λ x. bit_at x (i % 64) == 1) w ∙ (ap (λ x. x == 1) (same (i % 64) (omega arith) b) ∙ (ap (λ x. bit_at x (i % 64) == 1) o ∙ sym (ap (λ t. stands_in old i || t) (eq_other i number e) ∙ or_false (stands_in old i))))
+                ap (λ x. bit_at x (i % 64) == 1) w ∙ (ap (λ x. x == 1) (same (i % 64) (omega arith) b) ∙ (ap (λ x. bit_at x (i % 64) == 1) o ∙ sym (ap (λ t. stands_in old i || t) (eq_other i number e) ∙ or-false (stands_in old i))))
           ]
       | inr p ↦
           let e : i ≢ number = λ h. p (ap (λ x. x / 64) h) in
-          ap (λ x. bit_at x (i % 64) == 1) (get_or-set_other old (number / 64) (i / 64) word 0 p) ∙ sym (ap (λ t. stands_in old i || t) (eq_other i number e) ∙ or_false (stands_in old i))
+          ap (λ x. bit_at x (i % 64) == 1) (get_or-set_other old (number / 64) (i / 64) word 0 p) ∙ sym (ap (λ t. stands_in old i || t) (eq_other i number e) ∙ or-false (stands_in old i))
     ]
 
 pub adds_none : (high : ℕ) (test : ℕ → Bool) (words : List ℕ) → ((v : ℕ) → test v ≡ false) → Adds high test words words
-adds_none high test words none = record { bits = λ i. sym (ap (λ t. stands_in words i || ((i / 65536 == high) && t)) (none (i % 65536)) ∙ (ap (λ t. stands_in words i || t) (and_false (i / 65536 == high)) ∙ or_false (stands_in words i))) }
+adds_none high test words none = record { bits = λ i. sym (ap (λ t. stands_in words i || ((i / 65536 == high) && t)) (none (i % 65536)) ∙ (ap (λ t. stands_in words i || t) (and-false (i / 65536 == high)) ∙ or-false (stands_in words i))) }
 
 -- the same test, said otherwise
 pub adds_same : (high : ℕ) (test other : ℕ → Bool) (old new : List ℕ) → ((v : ℕ) → test v ≡ other v) → Adds high test old new → Adds high other old new
@@ -69,6 +70,6 @@ module _ (high : ℕ) (bytes : List ℕ) (at : ℕ) (old new : List ℕ) where
           ∙ (ap (λ r. stands_in old i || (bit_at y r == 1)) (sym b) ∙ sym (ap (λ t. stands_in old i || (t && (bit_at y (i % 65536 % 64) == 1))) (eq_same (i / 65536) high h)))))
       | inr h ↦
           ap (λ x. bit_at x (i % 64) == 1) (outside (i / 64) (elim (cases_lt (i / 64) (1024 * high)) [ inl below ↦ inl below | inr above ↦ inr (omega (arith, above, h)) ]))
-          ∙ sym (ap (λ t. stands_in old i || (t && in_bits bytes at (i % 65536))) (eq_other (i / 65536) high h) ∙ or_false (stands_in old i))
+          ∙ sym (ap (λ t. stands_in old i || (t && in_bits bytes at (i % 65536))) (eq_other (i / 65536) high h) ∙ or-false (stands_in old i))
     ];
   }

@@ -1,16 +1,11 @@
 -- What a header says.
-use Rattle.std.proofs.Common.{◌≡◌, ◌≢◌, ℕ, ◌+◌, ◌*◌, ◌/◌, ◌≤◌, ◌||◌, Bool, true, false, cond, not, List, length, refl, ap, ◌∙◌, arith, inl, inr, Result, Ok, Err}
-use Rattle.std.specs.Prelude.{nat_le, OnErr}
+use Rattle.std.proofs.Common.{◌≡◌, ◌≢◌, ℕ, ◌+◌, ◌*◌, ◌/◌, ◌≤◌, ◌||◌, Bool, true, false, cond, not, List, length, refl, ap, ◌∙◌, arith, inl, inr}
+use Rattle.std.specs.Prelude.{nat_le}
 use Rattle.std.proofs.lemmas.Bool.{cond-true, cond-false, cond_both, cases_Bool}
 use Rattle.hibitset_base.specs.Decisions.{eq_same, eq_other}
 use Rattle.hibitset_roaring.specs.Numbers.{u16_at, u32_at, u64_at}
 use Rattle.hibitset_roaring.specs.Format.{has_runs, container_count, keys_at, has_offsets, offsets_at, first_at, IsStream}
 use Rattle.hibitset_roaring.proofs.LayoutLemmas.{first_within}
-
--- of an error that is handed on
-pub any_err : {T E : Type 0} (r : Result T E) (P : Type 0) → P → OnErr r P
-any_err (Ok x) P p = tt
-any_err (Err e) P p = p
 
 module _ (bytes : List ℕ) where
   pub u32_is : (at : ℕ) → u32_at bytes at ≡ u16_at bytes at + 65536 * u16_at bytes (at + 2)

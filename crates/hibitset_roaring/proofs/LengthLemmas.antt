@@ -1,6 +1,6 @@
 -- How long a stream can be whose keys lie below a bound, so why a reader's bytes are none.
-use Rattle.std.proofs.Common.{◌≡◌, ℕ, zero, suc, ◌+◌, ◌*◌, ◌<◌, ◌≤◌, List, length, refl, sym, subst, add-one, arith, inl, inr}
-use Rattle.std.specs.Prelude.{nat_le, None, Some, IfSome, IfErr, IsErrAnd, Result, Ok, Err}
+use Rattle.std.proofs.Common.{◌≡◌, ℕ, zero, suc, ◌+◌, ◌*◌, ◌<◌, ◌≤◌, List, length, refl, add-one, arith, inl, inr}
+use Rattle.std.specs.Prelude.{nat_le, None, Some, IfSome}
 use Rattle.std.specs.declared.option.Option.{Option}
 use Rattle.std.proofs.lemmas.Bool.{cases_Bool, cond_both, leb-true}
 use Rattle.hibitset_roaring.specs.Format.{container_count, keys_at, has_offsets, offsets_at, first_at, key_of, cardinality_of, is_run, has_runs, run_count, run_last, run_first, size, container_at, AreRuns, IsContainer, IsStream, HasKeysBelow}
@@ -99,8 +99,3 @@ outside (Some bytes) end (from.Io e) h = λ stream below. tt
 outside (Some bytes) end from.Memory h = λ stream below. tt
 outside (Some bytes) end from.TooLong h = λ stream below. absurd (let most = longest bytes end stream below in omega (arith, most, h))
 outside (Some bytes) end (from.Malformed m) h = absurd h
-
--- an error that is handed on
-pub handed_on : {T E : Type 0} (P : E → Type 0) (r : Result T E) (error : E) → IsErrAnd r (λ e. e ≡ error) → P error → IfErr r P
-handed_on P (Ok x) error h fact = tt
-handed_on P (Err e) error h fact = subst P (sym h) fact

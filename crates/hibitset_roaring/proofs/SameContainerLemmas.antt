@@ -101,30 +101,37 @@ same_tests n x y fits_x fits_y same = same_from_bits_below n x y fits_x fits_y (
 
 -- ---- runs by their members
 
-module _ (bytes : List ℕ) (at count : ℕ) (test : ℕ → Bool) (within : (r : ℕ) → r < count → run_last bytes at r < 65536) (apart : (r : ℕ) → r + 1 < count → run_last bytes at r + 1 < run_first bytes at (r + 1)) (same : (v : ℕ) → v < 65536 → any_below count (λ r. in_run bytes at r v) ≡ test v) where
+-- Runs of the numbers that pass a test.
+pub record RunsAt (bytes : List ℕ) (at n : ℕ) (test : ℕ → Bool) : Type 0 where
+  pub count : run_count bytes at ≡ n
+  pub within : (r : ℕ) → r < n → run_last bytes at r < 65536
+  pub apart : (r : ℕ) → r + 1 < n → run_last bytes at r + 1 < run_first bytes at (r + 1)
+  pub listed : (v : ℕ) → v < 65536 → any_below n (λ r. in_run bytes at r v) ≡ test v
+
+module _ (bytes : List ℕ) (at count : ℕ) (test : ℕ → Bool) (runs : RunsAt bytes at count test) where
   firsts_ascend : Ascends (run_first bytes at) count
-  firsts_ascend = record { step = λ r below. (let a = apart r below in let f = first_last bytes at r in omega (arith, a, f)) }
+  firsts_ascend = record { step = λ r below. (let a = runs.apart r below in let f = first_last bytes at r in omega (arith, a, f)) }
 
   -- a number of a run passes
   in_one : (r v : ℕ) → r < count → v < 65536 → run_first bytes at r ≤ v → v ≤ run_last bytes at r → test v ≡ true
-  in_one r v below small from upto = sym (same v small) ∙ any_true count (λ r. in_run bytes at r v) r below (and_from (nat_le (run_first bytes at r) v) (nat_le v (run_last bytes at r)) (le-leb (run_first bytes at r) v from) (le-leb v (run_last bytes at r) upto))
+  in_one r v below small from upto = sym (runs.listed v small) ∙ any_true count (λ r. in_run bytes at r v) r below (and_from (nat_le (run_first bytes at r) v) (nat_le v (run_last bytes at r)) (le-leb (run_first bytes at r) v from) (le-leb v (run_last bytes at r) upto))
 
   -- a number that passes lies in a run
   one_run : (v : ℕ) → v < 65536 → test v ≡ true → (r : ℕ) × (r < count) × (run_first bytes at r ≤ v) × (v ≤ run_last bytes at r)
   one_run v small on =
-      let h = any_some count (λ r. in_run bytes at r v) (same v small ∙ on) in
+      let h = any_some count (λ r. in_run bytes at r v) (runs.listed v small ∙ on) in
       let both = and_parts (nat_le (run_first bytes at h.0) v) (nat_le v (run_last bytes at h.0)) h.2 in
       (h.0, h.1, leb-true (run_first bytes at h.0) v both.0, leb-true v (run_last bytes at h.0) both.1)
 
   before_first : (r v : ℕ) → r < count → v + 1 ≡ run_first bytes at r → test v ≡ false
   before_first r v below is = false_from_ne_true (test v) (λ on.
       let fl = first_last bytes at r in
-      let w = within r below in
+      let w = runs.within r below in
       let h = one_run v (omega (arith, is, fl, w)) on in
       let from = h.2 in
       let upto = h.3 in
       elim (cases_lt h.0 r) [
-        | inl lower ↦ (let a = runs_ascend bytes at count apart r h.0 lower below in omega (arith, a, upto, is))
+        | inl lower ↦ (let a = runs_ascend bytes at count runs.apart r h.0 lower below in omega (arith, a, upto, is))
         | inr upper ↦ (let a = ascends_upto (run_first bytes at) count firsts_ascend r h.0 upper h.1 in omega (arith, a, from, is))
       ])
 
@@ -134,9 +141,9 @@ module _ (bytes : List ℕ) (at count : ℕ) (test : ℕ → Bool) (within : (r 
       let from = h.2 in
       let upto = h.3 in
       elim (cases_lt r h.0) [
-        | inl later ↦ (let a = runs_ascend bytes at count apart h.0 r later h.1 in omega (arith, a, from, is))
+        | inl later ↦ (let a = runs_ascend bytes at count runs.apart h.0 r later h.1 in omega (arith, a, from, is))
         | inr order ↦ elim (cases_lt h.0 r) [
-          | inl lower ↦ (let a = runs_ascend bytes at count apart r h.0 lower below in let fl = first_last bytes at r in omega (arith, a, fl, upto, is))
+          | inl lower ↦ (let a = runs_ascend bytes at count runs.apart r h.0 lower below in let fl = first_last bytes at r in omega (arith, a, fl, upto, is))
           | inr upper ↦ (let e : h.0 ≡ r = omega (arith, order, upper) in let l = ap (λ x. run_last bytes at x) e in omega (arith, l, upto, is))
         ]
       ])
@@ -163,19 +170,12 @@ module _ (bytes : List ℕ) (at count : ℕ) (test : ℕ → Bool) (within : (r 
   pub runs_counted : count ≡ count_of_runs test
   unfolding count_of_runs
   runs_counted =
-      sym (as_many (run_first bytes at) 65536 count firsts_ascend (λ j below. (let fl = first_last bytes at j in let w = within j below in omega (arith, fl, w))))
+      sym (as_many (run_first bytes at) 65536 count firsts_ascend (λ j below. (let fl = first_last bytes at j in let w = runs.within j below in omega (arith, fl, w))))
       ∙ ap length (members-same (λ v. any_below count (λ j. run_first bytes at j == v)) (begins_run test) 0 65536 (λ v from below. sym (firsts_begin v (omega (arith, below)))))
 
 -- ---- two containers at one position
 
--- Runs of the numbers that pass a test.
-pub record RunsAt (bytes : List ℕ) (at n : ℕ) (test : ℕ → Bool) : Type 0 where
-  pub count : run_count bytes at ≡ n
-  pub within : (r : ℕ) → r < n → run_last bytes at r < 65536
-  pub apart : (r : ℕ) → r + 1 < n → run_last bytes at r + 1 < run_first bytes at (r + 1)
-  pub listed : (v : ℕ) → v < 65536 → any_below n (λ r. in_run bytes at r v) ≡ test v
-
--- An array of them.
+-- An array of the numbers that pass a test.
 pub record ArrayAt (bytes : List ℕ) (at n : ℕ) (test : ℕ → Bool) : Type 0 where
   pub up : Ascends (λ j. u16_at bytes (at + 2 * j)) n
   pub listed : (v : ℕ) → v < 65536 → any_below n (λ j. u16_at bytes (at + 2 * j) == v) ≡ test v
@@ -189,13 +189,13 @@ module _ (at n : ℕ) (test : ℕ → Bool) where
         let w = xs.within r below in
         let small : v < 65536 = omega (arith, fl, w) in
         let on : any_below n (λ j. run_first x at j == v) ≡ true = any_true n (λ j. run_first x at j == v) r below (eq_same v v refl) in
-        let on' : any_below n (λ j. run_first y at j == v) ≡ true = sym (firsts_begin y at n test ys.within ys.apart ys.listed v small) ∙ (firsts_begin x at n test xs.within xs.apart xs.listed v small ∙ on) in
+        let on' : any_below n (λ j. run_first y at j == v) ≡ true = sym (firsts_begin y at n test ys v small) ∙ (firsts_begin x at n test xs v small ∙ on) in
         let h = any_some n (λ j. run_first y at j == v) on' in
         (h.0, h.1, eqb-true (run_first y at h.0) v h.2);
   }
 
   firsts_same : (x y : List ℕ) → RunsAt x at n test → RunsAt y at n test → (r : ℕ) → r < n → run_first x at r ≡ run_first y at r
-  firsts_same x y xs ys = same_numbers (run_first x at) (run_first y at) n n (firsts_ascend x at n test xs.within xs.apart xs.listed) (firsts_ascend y at n test ys.within ys.apart ys.listed) (firsts_among x y xs ys) (firsts_among y x ys xs)
+  firsts_same x y xs ys = same_numbers (run_first x at) (run_first y at) n n (firsts_ascend x at n test xs) (firsts_ascend y at n test ys) (firsts_among x y xs ys) (firsts_among y x ys xs)
 
   -- No run is longer than the other's.
   no_longer : (x y : List ℕ) → RunsAt x at n test → RunsAt y at n test → (r : ℕ) → r < n → run_last y at r ≤ run_last x at r
@@ -206,7 +206,7 @@ module _ (at n : ℕ) (test : ℕ → Bool) where
         let fl = first_last x at r in
         let w = ys.within r below in
         let small : v < 65536 = omega (arith, less, w) in
-        absurd (both_ways (test v) (after_last x at n test xs.within xs.apart xs.listed r v below refl small) (in_one y at n test ys.within ys.apart ys.listed r v below small (omega (arith, f, fl)) (omega (arith, less))))
+        absurd (both_ways (test v) (after_last x at n test xs r v below refl small) (in_one y at n test ys r v below small (omega (arith, f, fl)) (omega (arith, less))))
     | inr order ↦ order
   ]
 

@@ -1,12 +1,12 @@
 -- Ascending sequences of numbers, and how many numbers a test passes.
-use Rattle.std.proofs.Common.{◌≡◌, ◌≢◌, ℕ, zero, suc, ◌+◌, ◌<◌, ◌≤◌, ◌==◌, ◌||◌, Bool, true, false, length, ap, sym, ◌∙◌, arith, inl, inr}
-use Rattle.std.proofs.Math.Nat.{eq-or-lt_of_le}
+use Rattle.std.proofs.Common.{◌≡◌, ℕ, zero, suc, ◌+◌, ◌<◌, ◌≤◌, ◌==◌, ◌||◌, false, length, ap, ◌∙◌, arith, inl, inr}
+use Rattle.std.proofs.Math.Bool.{or_comm}
 use Rattle.std.proofs.lemmas.Bool.{cases_lt, eqb-true, false_from_ne_true}
 use Rattle.hibitset_base.specs.Members.{members}
-use Rattle.hibitset_base.specs.Decisions.{eq_same, eq_other}
-use Rattle.hibitset_base.proofs.MemberLemmas.{true_or_false, members-none, members-same}
+use Rattle.hibitset_base.proofs.MemberLemmas.{members-none}
+use Rattle.hibitset.proofs.MemberCountLemmas.{members-with}
 use Rattle.hibitset_roaring.specs.Numbers.{any_below}
-use Rattle.hibitset_roaring.proofs.TestLemmas.{any_none, any_true, any_some}
+use Rattle.hibitset_roaring.proofs.TestLemmas.{any_none, any_some, eq_comm}
 
 -- the first n numbers ascend
 pub record Ascends (f : ℕ → ℕ) (n : ℕ) : Type 0 where
@@ -82,25 +82,6 @@ module _ (f g : ℕ → ℕ) (n m : ℕ) (fu : Ascends f n) (gu : Ascends g m) (
     | inr order ↦ order
   ]
 
--- one more number passes the test
-pub one_more : (f g : ℕ → Bool) (x a n : ℕ) → a ≤ x → x < a + n → f x ≡ false → g x ≡ true → ((i : ℕ) → i ≢ x → g i ≡ f i) → length (members g a n) ≡ 1 + length (members f a n)
-unfolding members
-one_more f g x a zero from below off on same = absurd (omega (arith, from, below))
-one_more f g x a (suc n) from below off on same = elim (eq-or-lt_of_le from) [
-  | inl e ↦
-      let ga : g a ≡ true = ap g e ∙ on in
-      let fa : f a ≡ false = ap f e ∙ off in
-      let h = ap length (members-same g f (suc a) n (λ i after within. same i (λ is. omega (arith, e, is, after)))) in
-      rw (ga, fa) (omega (arith, h))
-  | inr later ↦
-      let h = one_more f g x (suc a) n (omega (arith, later)) (omega (arith, below)) off on same in
-      let e : g a ≡ f a = same a (λ is. omega (arith, is, later)) in
-      elim (true_or_false (f a)) [
-        | inl t ↦ (let ga : g a ≡ true = e ∙ t in rw (ga, t) (omega (arith, h)))
-        | inr t ↦ (let ga : g a ≡ false = e ∙ t in rw (ga, t) (omega (arith, h)))
-      ]
-]
-
 -- the numbers of an ascending sequence are as many as it is long
 pub as_many : (f : ℕ → ℕ) (bound n : ℕ) → Ascends f n → ((j : ℕ) → j < n → f j < bound) → length (members (λ v. any_below n (λ j. f j == v)) 0 bound) ≡ n
 unfolding any_below
@@ -113,8 +94,6 @@ as_many f bound (suc n) up small =
     let e = eqb-true (f s.0) (f n) s.2 in
     let less = ascends_far f (suc n) up s.0 n s.1 (omega arith) in
     omega (arith, e, less)) in
-    let on : any_below (suc n) (λ j. f j == f n) ≡ true = any_true (suc n) (λ j. f j == f n) n (omega arith) (eq_same (f n) (f n) (omega arith)) in
-    let most = small n (omega arith) in
-    let more = one_more (λ v. any_below n (λ j. f j == v)) (λ v. any_below (suc n) (λ j. f j == v)) (f n) 0 bound (omega arith) (omega (arith, most)) off on
-    (λ i other. ap (λ t. t || any_below n (λ j. f j == i)) (eq_other (f n) i (λ e. other (sym e)))) in
+    let more = members-with (λ v. any_below n (λ j. f j == v)) (λ v. any_below (suc n) (λ j. f j == v)) (f n)
+    (λ i. ap (λ t. t || any_below n (λ j. f j == i)) (eq_comm (f n) i) ∙ or_comm (i == f n) (any_below n (λ j. f j == i))) off bound (small n (omega arith)) in
     omega (arith, h, more)

@@ -1,49 +1,18 @@
 -- Words between two slots that are 0.
-use Rattle.std.proofs.Common.{◌≡◌, ◌≢◌, ℕ, Bool, zero, suc, ◌+◌, ◌-◌, ◌*◌, ◌/◌, ◌%◌, ◌^◌, ◌<◌, ◌≤◌, ◌==◌, ◌&&◌, List, get_or, sym, ap, ◌∙◌, arith, inl, inr, w64}
+use Rattle.std.proofs.Common.{◌≡◌, ◌≢◌, ℕ, Bool, zero, suc, ◌+◌, ◌*◌, ◌/◌, ◌%◌, ◌<◌, ◌≤◌, ◌==◌, ◌&&◌, List, get_or, sym, ap, ◌∙◌, arith, inl, inr}
 use Rattle.std.specs.Prelude.{nat_lt, not}
-use Rattle.std.specs.Int.{bit_at, trailing_zeros}
+use Rattle.std.specs.Int.{bit_at}
 use Rattle.std.specs.Int.RustNames.{count_ones}
-use Rattle.std.proofs.Math.Nat.{div-le_self}
 use Rattle.std.proofs.lemmas.Nat.{ones_le_self}
-use Rattle.std.proofs.lemmas.Nat.Bits.{bit_at-trailing_zeros, bit_at_above, bit_at-zero}
+use Rattle.std.proofs.lemmas.Nat.Bits.{bit_at-zero}
 use Rattle.std.proofs.lemmas.Bool.{cases_lt, lt-ltb, le-ltb}
 use Rattle.std.proofs.lemmas.Bool.Decides.{nat_tests}
 use Rattle.hibitset_base.specs.Decisions.{same_or_not}
 use Rattle.hibitset_base.specs.Sets.{bit_of}
 use Rattle.hibitset_base.proofs.MembershipLemmas.{bit_test}
-use Rattle.hibitset_base.proofs.MiddleBitLemmas.{bit_past}
 use Rattle.hibitset.specs.WordBits.{stands_in}
 use Rattle.hibitset_roaring.specs.Words.{ones_from, AreBlocks, AreSummaries}
 use Rattle.hibitset_roaring.proofs.WordLemmas.{ones_more}
-
-module _ (word from : ℕ) where
-  -- no bit is left from one on
-  pub none_left : word / 2 ^ from ≡ 0 → (b : ℕ) → from ≤ b → bit_at word b ≡ 0
-  none_left none b order =
-      let e : from + (b - from) ≡ b = omega (arith, order) in
-      ap (λ i. bit_at word i) (sym e) ∙ (sym (bit_past word from (b - from)) ∙ (ap (λ n. bit_at n (b - from)) none ∙ bit_at-zero (b - from)))
-
-  module _ (fits : word < 2 ^ 64) (some : 0 < word / 2 ^ from) where
-    less : word / 2 ^ from < 2 ^ 64
-    less = let d = div-le_self word (2 ^ from) in omega (arith, d, fits)
-
-    pub next_within : from + trailing_zeros w64 (word / 2 ^ from) < 64
-    next_within =
-        let t : ℕ = trailing_zeros w64 (word / 2 ^ from) in
-        let h = bit_at-trailing_zeros w64 (word / 2 ^ from) some less in
-        elim (cases_lt (from + t) 64) [
-          | inl below ↦ below
-          | inr past ↦ absurd (let one = sym (bit_past word from t) ∙ h.1 in let none = bit_at_above word 64 (from + t) fits past in omega (arith, one, none))
-        ]
-
-    pub next_found : bit_at word (from + trailing_zeros w64 (word / 2 ^ from)) ≡ 1
-    next_found = sym (bit_past word from (trailing_zeros w64 (word / 2 ^ from))) ∙ (bit_at-trailing_zeros w64 (word / 2 ^ from) some less).1
-
-    pub next_skips : (b : ℕ) → from ≤ b → b < from + trailing_zeros w64 (word / 2 ^ from) → bit_at word b ≡ 0
-    next_skips b order below =
-        let h = bit_at-trailing_zeros w64 (word / 2 ^ from) some less in
-        let e : from + (b - from) ≡ b = omega (arith, order) in
-        ap (λ i. bit_at word i) (sym e) ∙ (sym (bit_past word from (b - from)) ∙ h.2 (b - from) (omega (arith, order, below)))
 
 -- zero words have no ones
 pub ones_skip : (words : List ℕ) (base m n : ℕ) → m ≤ n → ((q : ℕ) → m ≤ q → q < n → get_or words (base + q) 0 ≡ 0) → ones_from words base n ≡ ones_from words base m

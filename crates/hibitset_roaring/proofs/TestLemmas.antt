@@ -6,18 +6,6 @@ use Rattle.std.proofs.lemmas.Bool.Decides.{nat_tests}
 use Rattle.hibitset.specs.WordBits.{in_range}
 use Rattle.hibitset_roaring.specs.Numbers.{any_below}
 
-pub or_true : (a : Bool) → (a || true) ≡ true
-or_true true = refl
-or_true false = refl
-
-pub or_false : (a : Bool) → (a || false) ≡ a
-or_false true = refl
-or_false false = refl
-
-pub or_assoc : (a b c : Bool) → ((a || b) || c) ≡ (a || (b || c))
-or_assoc true b c = refl
-or_assoc false b c = refl
-
 -- one more number with these high bits
 pub or_under : (a h x y : Bool) → ((a || (h && y)) || (h && x)) ≡ (a || (h && (x || y)))
 or_under true h x y = refl
@@ -26,10 +14,6 @@ or_under false true true true = refl
 or_under false true true false = refl
 or_under false true false true = refl
 or_under false true false false = refl
-
-pub and_false : (a : Bool) → (a && false) ≡ false
-and_false true = refl
-and_false false = refl
 
 -- some number below the next one
 pub any_next : (n : ℕ) (test : ℕ → Bool) → any_below (n + 1) test ≡ (test n || any_below n test)
@@ -47,12 +31,6 @@ number_test high low i small = grind (arith, nat_tests)
 -- a range by the high bits, which its numbers share, and the low bits
 pub range_test : (high first last i : ℕ) → last < 65536 → in_range (65536 * high + first) (65536 * high + last + 1) i ≡ ((i / 65536 == high) && (nat_le first (i % 65536) && nat_le (i % 65536) last))
 range_test high first last i small = grind (arith, nat_tests)
-
-pub or_comm : (a b : Bool) → (a || b) ≡ (b || a)
-or_comm true true = refl
-or_comm true false = refl
-or_comm false true = refl
-or_comm false false = refl
 
 pub eq_comm : (a b : ℕ) → (a == b) ≡ (b == a)
 eq_comm a b = grind (arith, nat_tests)

@@ -1,6 +1,5 @@
 -- A stream is fixed by its members and by which containers are runs.
-use Rattle.std.proofs.Common.{◌≡◌, ℕ, zero, suc, ◌+◌, ◌*◌, ◌/◌, ◌%◌, ◌<◌, ◌≤◌, ◌==◌, ◌&&◌, ◌||◌, Bool, true, false, cond, not, List, get_or, length, refl, sym, ap, ◌∙◌, arith, inl, inr}
-use Rattle.std.specs.Prelude.{nat_le}
+use Rattle.std.proofs.Common.{◌≡◌, ℕ, zero, suc, ◌+◌, ◌*◌, ◌/◌, ◌%◌, ◌<◌, ◌≤◌, ◌==◌, ◌&&◌, Bool, true, false, List, get_or, length, refl, sym, ap, ◌∙◌, arith, inl, inr}
 use Rattle.std.specs.Int.{bit_at}
 use Rattle.std.proofs.lemmas.Grind.{same_number_lists}
 use Rattle.std.proofs.lemmas.Bool.{cases_lt, cases_Bool, cond-true, cond-false, both_ways, and_parts, and_from, eqb-true, false_from_ne_true}
@@ -34,16 +33,15 @@ module _ (has : ℕ → Bool) (bytes : List ℕ) (are : AreBytes bytes) (stream 
       let i : ℕ = 65536 * key_of bytes k + v in
       let high : i / 65536 ≡ key_of bytes k = omega (arith, small) in
       let low : i % 65536 ≡ v = omega (arith, small) in
-      let test : ℕ → Bool = λ m. (key_of bytes m == i / 65536) && in_container bytes m (i % 65536) in
-      elim (cases_Bool (in_container bytes k v)) [
-        | inl on ↦ any_true (container_count bytes) test k below
-            (and_from (key_of bytes k == i / 65536) (in_container bytes k (i % 65536)) (eq_same (key_of bytes k) (i / 65536) (sym high)) (ap (λ x. in_container bytes k x) low ∙ on)) ∙ sym on
+      let test : ℕ → Bool = λ m. (key_of bytes m == key_of bytes k) && in_container bytes m v in
+      rw (high, low) (elim (cases_Bool (in_container bytes k v)) [
+        | inl on ↦ any_true (container_count bytes) test k below (and_from (key_of bytes k == key_of bytes k) (in_container bytes k v) (eq_same (key_of bytes k) (key_of bytes k) refl) on) ∙ sym on
         | inr off ↦ false_from_ne_true (any_below (container_count bytes) test) (λ yes.
             let h = any_some (container_count bytes) test yes in
-            let both = and_parts (key_of bytes h.0 == i / 65536) (in_container bytes h.0 (i % 65536)) h.2 in
-            let same : h.0 ≡ k = one_index (key_of bytes) (container_count bytes) keys_ascend h.0 k h.1 below (eqb-true (key_of bytes h.0) (i / 65536) both.0 ∙ high) in
-            both_ways (in_container bytes k v) off (ap (λ m. in_container bytes m v) (sym same) ∙ (ap (λ x. in_container bytes h.0 x) (sym low) ∙ both.1))) ∙ sym off
-      ]
+            let both = and_parts (key_of bytes h.0 == key_of bytes k) (in_container bytes h.0 v) h.2 in
+            let same : h.0 ≡ k = one_index (key_of bytes) (container_count bytes) keys_ascend h.0 k h.1 below (eqb-true (key_of bytes h.0) (key_of bytes k) both.0) in
+            both_ways (in_container bytes k v) off (rw (← same) both.1)) ∙ sym off
+      ])
 
   pub listed : (k v : ℕ) → k < container_count bytes → v < 65536 → in_container bytes k v ≡ members_under has (key_of bytes k) v
   listed k v below small = sym (holds_under k v below small) ∙ members_are (65536 * key_of bytes k + v)
@@ -90,7 +88,7 @@ module _ (has runs : ℕ → Bool) (bytes : List ℕ) (s : IsStreamOf has runs b
         let at : ℕ = container_at bytes k in
         let r = (s.stream.containers k below).runs run in
         let all : RunsAt bytes at (run_count bytes at) (test k) = record { count = refl; within = r.within; apart = r.apart; listed = λ v small. in_runs_is bytes k run v ∙ listed_in_it v small } in
-        rw (runs_counted bytes at (run_count bytes at) (test k) all.within all.apart all.listed) at all
+        rw (runs_counted bytes at (run_count bytes at) (test k) all) at all
 
     array_at : is_run bytes k ≡ false → cardinality_of bytes k ≤ 4096 → ArrayAt bytes (container_at bytes k) (cardinality_of bytes k) (test k)
     unfolding in_array
@@ -114,17 +112,10 @@ module _ (has runs : ℕ → Bool) (bytes : List ℕ) (s : IsStreamOf has runs b
 
 -- ---- two of them
 
--- If one has runs, the other has.
-runs_too : (has runs : ℕ → Bool) (a b : List ℕ) → IsStreamOf has runs a → IsStreamOf has runs b → has_runs a ≡ true → has_runs b ≡ true
+-- Bytes with a container that is runs say so.
+runs_of : (bytes : List ℕ) (k : ℕ) → is_run bytes k ≡ true → has_runs bytes ≡ true
 unfolding is_run
-runs_too has runs a b first second on =
-    let h = first.cookie on in
-    let k : ℕ = h.0 in
-    let below : k < container_count a = h.1 in
-    let many = as_many_keys has (key_of a) (key_of b) (container_count a) (container_count b) (keys_of_it has runs a first) (keys_of_it has runs b second) in
-    let key = same_keys has (key_of a) (key_of b) (container_count a) (container_count b) (keys_of_it has runs a first) (keys_of_it has runs b second) k below in
-    let run : is_run b k ≡ true = second.kinds k (omega (arith, below, many)) ∙ (ap runs (sym key) ∙ (sym (first.kinds k below) ∙ h.2)) in
-    (and_parts (has_runs b) (bit_at (get_or b (4 + k / 8) 0) (k % 8) == 1) run).0
+runs_of bytes k run = (and_parts (has_runs bytes) (bit_at (get_or bytes (4 + k / 8) 0) (k % 8) == 1) run).0
 
 module _ (has runs : ℕ → Bool) (a b : List ℕ) (first : IsStreamOf has runs a) (second : IsStreamOf has runs b) where
   count_same : container_count a ≡ container_count b
@@ -142,30 +133,33 @@ module _ (has runs : ℕ → Bool) (a b : List ℕ) (first : IsStreamOf has runs
   kind_same : (k : ℕ) → k < container_count a → is_run a k ≡ is_run b k
   kind_same k below = first.kinds k below ∙ (ap runs (key_same k below) ∙ sym (second.kinds k (counted k below)))
 
+  -- If some container of one is runs, so is that of the other.
   cookie_same : has_runs a ≡ has_runs b
   cookie_same = elim (cases_Bool (has_runs a)) [
-    | inl on ↦ on ∙ sym (runs_too has runs a b first second on)
-    | inr off ↦ off ∙ sym (false_from_ne_true (has_runs b) (λ on. both_ways (has_runs a) off (runs_too has runs b a second first on)))
+    | inl on ↦ (let h = first.cookie on in on ∙ sym (runs_of b h.0 (sym (kind_same h.0 h.1) ∙ h.2)))
+    | inr off ↦ off ∙ sym (false_from_ne_true (has_runs b) (λ on.
+        let h = second.cookie on in
+        let below : h.0 < container_count a = (let c = count_same in let l = h.1 in omega (arith, l, c)) in
+        both_ways (has_runs a) off (runs_of a h.0 (kind_same h.0 below ∙ h.2))))
   ]
 
   -- ---- the parts lie alike
 
   keys_at_same : keys_at a ≡ keys_at b
   unfolding keys_at
-  keys_at_same = ap (λ r. cond r (4 + (container_count a + 7) / 8) 8) cookie_same ∙ ap (λ n. cond (has_runs b) (4 + (n + 7) / 8) 8) count_same
+  keys_at_same = rw (cookie_same, count_same) refl
 
   has_offsets_same : has_offsets a ≡ has_offsets b
   unfolding has_offsets
-  has_offsets_same = ap (λ r. not r || nat_le 4 (container_count a)) cookie_same ∙ ap (λ n. not (has_runs b) || nat_le 4 n) count_same
+  has_offsets_same = rw (cookie_same, count_same) refl
 
   offsets_at_same : offsets_at a ≡ offsets_at b
   unfolding offsets_at
-  offsets_at_same = ap (λ p. p + 4 * container_count a) keys_at_same ∙ ap (λ n. keys_at b + 4 * n) count_same
+  offsets_at_same = rw (keys_at_same, count_same) refl
 
   first_at_same : first_at a ≡ first_at b
   unfolding first_at
-  first_at_same = ap (λ o. cond o (offsets_at a + 4 * container_count a) (offsets_at a)) has_offsets_same
-      ∙ (ap (λ p. cond (has_offsets b) (p + 4 * container_count a) p) offsets_at_same ∙ ap (λ n. cond (has_offsets b) (offsets_at b + 4 * n) (offsets_at b)) count_same)
+  first_at_same = rw (has_offsets_same, offsets_at_same, count_same) refl
 
   at_same : (k : ℕ) → k ≤ container_count a → container_at a k ≡ container_at b k
   at_same zero order = at_first a ∙ (first_at_same ∙ sym (at_first b))
@@ -189,8 +183,7 @@ module _ (has runs : ℕ → Bool) (a b : List ℕ) (first : IsStreamOf has runs
   flag bytes on j i small =
       let q : (8 * j + i) / 8 ≡ j = omega (arith, small) in
       let r : (8 * j + i) % 8 ≡ i = omega (arith, small) in
-      sym (ap (λ r. r && (bit_at (get_or bytes (4 + (8 * j + i) / 8) 0) ((8 * j + i) % 8) == 1)) on
-      ∙ (ap (λ x. bit_at (get_or bytes (4 + x) 0) ((8 * j + i) % 8) == 1) q ∙ ap (λ x. bit_at (get_or bytes (4 + j) 0) x == 1) r))
+      rw (on, q, r) refl
 
   flag_same : (k : ℕ) → k / 8 < (container_count a + 7) / 8 → is_run b k ≡ is_run a k
   flag_same k within = elim (cases_lt k (container_count a)) [

@@ -1,38 +1,17 @@
 -- Bits of words written as numbers.
-use Rattle.std.proofs.Common.{◌≡◌, ℕ, zero, suc, ◌+◌, ◌-◌, ◌*◌, ◌/◌, ◌%◌, ◌^◌, ◌<◌, ◌≤◌, ◌==◌, ◌||◌, ◌&&◌, true, false, List, get_or, length, bit_and, refl, sym, ap, ◌∙◌, add-one, arith, inl, inr, w64}
+use Rattle.std.proofs.Common.{◌≡◌, ◌≢◌, ℕ, zero, suc, ◌+◌, ◌-◌, ◌*◌, ◌/◌, ◌%◌, ◌<◌, ◌≤◌, ◌==◌, ◌||◌, ◌&&◌, true, false, List, get_or, refl, sym, ap, ◌∙◌, add-one, arith, inl, inr}
 use Rattle.std.specs.Prelude.{nat_le, nat_lt}
-use Rattle.std.specs.Int.{bit_at, trailing_zeros}
+use Rattle.std.specs.Int.{bit_at}
 use Rattle.std.specs.Int.RustNames.{count_ones}
 use Rattle.std.proofs.lemmas.Bool.{cases_lt, cases_eq, le-leb, lt-leb, lt-ltb, le-ltb}
+use Rattle.std.proofs.Math.Bool.{and-false, or-false}
 use Rattle.hibitset_base.specs.Decisions.{eq_same, eq_other}
-use Rattle.hibitset_base.proofs.MaskLemmas.{takes_first}
-use Rattle.hibitset_base.proofs.OneCountLemmas.{bits-count}
-use Rattle.hibitset_base.proofs.PlaceLemmas.{bits-first}
 use Rattle.hibitset.specs.WordBits.{stands_in}
-use Rattle.hibitset_roaring.specs.Words.{TakesLowest, in_word, ones_from}
-use Rattle.hibitset_roaring.proofs.TestLemmas.{and_false, or_false}
-
-pub takes_lowest : (m : ℕ) → 0 < m → m < 2 ^ 64 → TakesLowest m (trailing_zeros w64 m) (bit_and m (m - 1))
-takes_lowest m some fits =
-    let h = takes_first m some fits in
-    let r : ℕ = bit_and m (m - 1) in
-    let first = bits-first 0 m (trailing_zeros w64 m) r h in
-    let before = bits-count 0 m fits in
-    let after = bits-count 0 r (let l = h.less in omega (arith, l, fits)) in
-    let lengths = ap length first in
-    record {
-      small = h.small;
-      stood = h.stood;
-      lowest = h.first;
-      gone = h.gone;
-      others = λ b small other. h.same b small (elim (cases_lt b (trailing_zeros w64 m)) [ inl lower ↦ inl lower | inr upper ↦ inr (omega (arith, upper, other)) ]);
-      fewer = omega (arith, lengths, before, after);
-      less = h.less;
-    }
+use Rattle.hibitset_roaring.specs.Words.{in_word, ones_from}
 
 -- a word's numbers are the one that was taken and the rest
-pub taken_word : (first bit old new v : ℕ) → TakesLowest old bit new → in_word first old v ≡ ((first + bit == v) || in_word first new v)
-taken_word first bit old new v taken = elim (cases_lt v first) [
+pub taken_word : (first bit old new v : ℕ) → bit < 64 → bit_at old bit ≡ 1 → ((b : ℕ) → b < 64 → b ≢ bit → bit_at new b ≡ bit_at old b) → in_word first old v ≡ ((first + bit == v) || in_word first new v)
+taken_word first bit old new v small stood others = elim (cases_lt v first) [
   | inl below ↦
       let a : nat_le first v ≡ false = lt-leb first v below in
       let t : (first + bit == v) ≡ false = eq_other (first + bit) v (λ e. absurd (omega (arith, e, below))) in
@@ -42,18 +21,18 @@ taken_word first bit old new v taken = elim (cases_lt v first) [
       | inl e ↦
           let a : nat_le first v ≡ true = le-leb first v above in
           let b : nat_lt v (first + 64) ≡ true = lt-ltb v (first + 64) within in
-          let s : (bit_at old (v - first) == 1) ≡ true = ap (λ x. bit_at old x == 1) e ∙ eq_same (bit_at old bit) 1 taken.stood in
+          let s : (bit_at old (v - first) == 1) ≡ true = ap (λ x. bit_at old x == 1) e ∙ eq_same (bit_at old bit) 1 stood in
           let t : (first + bit == v) ≡ true = eq_same (first + bit) v (omega (arith, e, above)) in
           ap (λ x. x && (nat_lt v (first + 64) && (bit_at old (v - first) == 1))) a ∙ (ap (λ x. x && (bit_at old (v - first) == 1)) b ∙ (s ∙ sym (ap (λ x. x || in_word first new v) t)))
       | inr other ↦
           let t : (first + bit == v) ≡ false = eq_other (first + bit) v (λ e. other (omega (arith, e))) in
-          let s : bit_at new (v - first) ≡ bit_at old (v - first) = taken.others (v - first) (omega (arith, within, above)) other in
+          let s : bit_at new (v - first) ≡ bit_at old (v - first) = others (v - first) (omega (arith, within, above)) other in
           ap (λ x. nat_le first v && (nat_lt v (first + 64) && (x == 1))) (sym s) ∙ sym (ap (λ x. x || in_word first new v) t)
     ]
     | inr past ↦
         let b : nat_lt v (first + 64) ≡ false = le-ltb v (first + 64) past in
-        let t : (first + bit == v) ≡ false = eq_other (first + bit) v (λ e. let s = taken.small in absurd (omega (arith, e, past, s))) in
-        ap (λ x. nat_le first v && (x && (bit_at old (v - first) == 1))) b ∙ (and_false (nat_le first v) ∙ sym (ap (λ x. x || in_word first new v) t ∙ (ap (λ x. nat_le first v && (x && (bit_at new (v - first) == 1))) b ∙ and_false (nat_le first v))))
+        let t : (first + bit == v) ≡ false = eq_other (first + bit) v (λ e. absurd (omega (arith, e, past, small))) in
+        ap (λ x. nat_le first v && (x && (bit_at old (v - first) == 1))) b ∙ (and-false (nat_le first v) ∙ sym (ap (λ x. x || in_word first new v) t ∙ (ap (λ x. nat_le first v && (x && (bit_at new (v - first) == 1))) b ∙ and-false (nat_le first v))))
   ]
 ]
 
@@ -81,7 +60,7 @@ word_more words key j v small = elim (cases_lt v (64 * j)) [
       let b : nat_lt v (64 * (j + 1)) ≡ true = lt-ltb v (64 * (j + 1)) (omega (arith, below)) in
       let d : nat_le (64 * j) v ≡ false = lt-leb (64 * j) v below in
       ap (λ x. (x && stands_in words (65536 * key + v)) || in_word (64 * j) (get_or words (1024 * key + j) 0) v) a
-      ∙ (ap (λ x. stands_in words (65536 * key + v) || (x && (nat_lt v (64 * j + 64) && (bit_at (get_or words (1024 * key + j) 0) (v - 64 * j) == 1)))) d ∙ (or_false (stands_in words (65536 * key + v)) ∙ sym (ap (λ x. x && stands_in words (65536 * key + v)) b)))
+      ∙ (ap (λ x. stands_in words (65536 * key + v) || (x && (nat_lt v (64 * j + 64) && (bit_at (get_or words (1024 * key + j) 0) (v - 64 * j) == 1)))) d ∙ (or-false (stands_in words (65536 * key + v)) ∙ sym (ap (λ x. x && stands_in words (65536 * key + v)) b)))
   | inr above ↦
       let a : nat_lt v (64 * j) ≡ false = le-ltb v (64 * j) above in
       let d : nat_le (64 * j) v ≡ true = le-leb (64 * j) v above in

@@ -1,5 +1,5 @@
 -- The words of layer 0, into which members are read and of which they are written, and those of layer 1 over them.
-use Rattle.std.specs.Prelude.{◌≡◌, ◌≢◌, ℕ, zero, suc, ◌+◌, ◌-◌, ◌*◌, ◌/◌, ◌%◌, ◌<◌, ◌≤◌, Bool, ◌==◌, ◌&&◌, ◌||◌, nat_le, nat_lt, List, get_or}
+use Rattle.std.specs.Prelude.{◌≡◌, ℕ, zero, suc, ◌+◌, ◌-◌, ◌*◌, ◌/◌, ◌%◌, ◌<◌, ◌≤◌, Bool, ◌==◌, ◌&&◌, ◌||◌, nat_le, nat_lt, List, get_or}
 use Rattle.std.specs.Int.{bit_at}
 use Rattle.std.specs.Int.RustNames.{count_ones}
 use Rattle.hibitset.specs.WordBits.{stands_in}
@@ -8,16 +8,6 @@ use Rattle.hibitset.specs.WordBits.{stands_in}
 -- test.
 pub record Adds (high : ℕ) (low : ℕ → Bool) (old new : List ℕ) : Type 0 where
   pub bits : (i : ℕ) → stands_in new i ≡ (stands_in old i || ((i / 65536 == high) && low (i % 65536)))
-
--- The lowest bit that is set was taken out of a word.
-pub record TakesLowest (old bit new : ℕ) : Type 0 where
-  pub small : bit < 64
-  pub stood : bit_at old bit ≡ 1
-  pub lowest : (b : ℕ) → b < bit → bit_at old b ≡ 0
-  pub gone : bit_at new bit ≡ 0
-  pub others : (b : ℕ) → b < 64 → b ≢ bit → bit_at new b ≡ bit_at old b
-  pub fewer : count_ones old ≡ count_ones new + 1
-  pub less : new < old
 
 -- the number is that of a bit of the word whose first bit has the number `first`
 abbrev pub in_word : ℕ → ℕ → ℕ → Bool

@@ -9,14 +9,15 @@ ghost use Rattle.hibitset_roaring.specs.Streams.{SameBefore};
 ghost use Rattle.hibitset_roaring.specs.Words.{in_word, ones_from, ones_under, AreSummaries};
 
 use crate::layout::CONTAINER_WORDS;
-use crate::nonzero_words::{blocks_over, slot_after, slot_from, take_lowest, word_of};
+use crate::nonzero_words::{blocks_over, slot_after, slot_from};
 use crate::number::put_u16;
+use hibitset_base::bits::{take_bit, word_or_zero};
 
 // Writes the bits of a word, whose first bit has the number `first`, behind the `len` numbers of an array, and returns
 // how many it has then.
 #[inline]
 fn write_word(out: &mut [u8], at: usize, len: usize, first: usize, word: usize) -> usize
-    requires room { at + 2 * (len + count_ones word) ≤ length out.old }
+    requires long_enough { at + 2 * (len + count_ones word) ≤ length out.old }
     requires first { first + 64 ≤ 65536 }
     ensures len { result ≡ len + count_ones word }
     ensures before { SameBefore (at + 2 * len) out.old out.new }
@@ -30,7 +31,7 @@ fn write_word(out: &mut [u8], at: usize, len: usize, first: usize, word: usize) 
     let mut end = len;
     let mut rest = word;
     'bits: while rest != 0 {
-        let bit = take_lowest(&mut rest);
+        let bit = take_bit(&mut rest);
         put_u16(out, at + 2 * end, first + bit);
         end += 1;
     }
@@ -39,9 +40,9 @@ fn write_word(out: &mut [u8], at: usize, len: usize, first: usize, word: usize) 
 
 // Writes the members with these high bits as an array.
 pub(crate) fn write_array(out: &mut [u8], at: usize, words: &[usize], above: &[usize], key: usize)
-    requires room { at + 2 * ones_under words.now key ≤ length out.old }
+    requires long_enough { at + 2 * ones_under words.now key ≤ length out.old }
     requires key { key < 65536 }
-    requires above { AreSummaries words.now above.now }
+    requires summaries { AreSummaries words.now above.now }
     ensures before { SameBefore at out.old out.new }
     ensures array { IsArray out.new at (ones_under words.now key) }
     ensures members { (v : ℕ) → v < 65536
@@ -53,7 +54,7 @@ pub(crate) fn write_array(out: &mut [u8], at: usize, words: &[usize], above: &[u
     let mut rest = 0;
     let mut slot = slot_from(above, key, blocks, 0, &mut rest);
     'slots: while slot < CONTAINER_WORDS {
-        len = write_word(out, at, len, 64 * slot, word_of(words, base + slot));
+        len = write_word(out, at, len, 64 * slot, word_or_zero(words, base + slot));
         slot = slot_after(above, key, blocks, slot, &mut rest);
     }
 }

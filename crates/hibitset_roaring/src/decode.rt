@@ -30,11 +30,11 @@ pub(crate) fn read_containers<S: ContainerSink>(
         → key_of bytes.now k < key_of bytes.now (k + 1) }
     requires keys { (k : ℕ) → k < container_count bytes.now → key_of bytes.now k < KEYS }
     requires empty { (i : ℕ) → S.holds sink.old i ≡ false }
-    requires none { S.words_len sink.old ≡ 0 }
+    requires no_words { S.words_len sink.old ≡ 0 }
     ensures containers { OnOk result ((k : ℕ) → k < container_count bytes.now
         → IsContainer bytes.now k) }
     ensures members { OnOk result ((i : ℕ) → S.holds sink.new i ≡ holds bytes.now i) }
-    ensures least { OnOk result ((bound : ℕ) → HasKeysBelow bytes.now bound
+    ensures least_bound { OnOk result ((bound : ℕ) → HasKeysBelow bytes.now bound
         → S.words_len sink.new ≤ 1024 * bound) }
     ensures reason { IfErr result (λ error. (end : ℕ) → IsReason bytes.now end error) }
 {
@@ -52,9 +52,9 @@ pub(crate) fn check_stream(bytes: &[u8], end: usize) -> Result<(Header, usize), 
     ensures header { IfOk result (λ found. IsHeader bytes.now found.0) }
     ensures ascending { OnOk result ((k : ℕ) → k + 1 < container_count bytes.now
         → key_of bytes.now k < key_of bytes.now (k + 1)) }
-    ensures below { IfOk result (λ found. HasKeysBelow bytes.now found.1) }
-    ensures few { IfOk result (λ found. found.1 ≤ end) }
-    ensures least { IfOk result (λ found. (bound : ℕ) → HasKeysBelow bytes.now bound
+    ensures keys_below { IfOk result (λ found. HasKeysBelow bytes.now found.1) }
+    ensures in_range { IfOk result (λ found. found.1 ≤ end) }
+    ensures least_bound { IfOk result (λ found. (bound : ℕ) → HasKeysBelow bytes.now bound
         → found.1 ≤ bound) }
     ensures offsets { OnOk result (has_offsets bytes.now ≡ true → (k : ℕ)
         → k < container_count bytes.now
@@ -89,10 +89,10 @@ pub(crate) fn check_stream(bytes: &[u8], end: usize) -> Result<(Header, usize), 
 pub fn read_below(alloc: Global, bytes: &[u8], end: usize) -> Result<BitSet, ReadError>
     requires { end ≤ KEYS }
     ensures stream { OnOk result (IsStream bytes.now) }
-    ensures below { OnOk result (HasKeysBelow bytes.now end) }
+    ensures keys_below { OnOk result (HasKeysBelow bytes.now end) }
     ensures members { IfOk result (λ set. (i : ℕ) → has set i ≡ holds bytes.now i) }
     ensures length { IfOk result (λ set. slice_len set 0 ≤ CONTAINER_WORDS * end) }
-    ensures least { IfOk result (λ set. (bound : ℕ) → HasKeysBelow bytes.now bound
+    ensures least_bound { IfOk result (λ set. (bound : ℕ) → HasKeysBelow bytes.now bound
         → slice_len set 0 ≤ CONTAINER_WORDS * bound) }
     ensures reason { IfErr result (λ error. IsReason bytes.now end error) }
     ensures accepts { IsStream bytes.now → HasKeysBelow bytes.now end
@@ -108,9 +108,9 @@ pub fn read_below(alloc: Global, bytes: &[u8], end: usize) -> Result<BitSet, Rea
 /// better read with a bound.
 pub fn read(alloc: Global, bytes: &[u8]) -> Result<BitSet, ReadError>
     ensures stream { OnOk result (IsStream bytes.now) }
-    ensures below { OnOk result (HasKeysBelow bytes.now KEYS) }
+    ensures keys_below { OnOk result (HasKeysBelow bytes.now KEYS) }
     ensures members { IfOk result (λ set. (i : ℕ) → has set i ≡ holds bytes.now i) }
-    ensures least { IfOk result (λ set. (bound : ℕ) → HasKeysBelow bytes.now bound
+    ensures least_bound { IfOk result (λ set. (bound : ℕ) → HasKeysBelow bytes.now bound
         → slice_len set 0 ≤ CONTAINER_WORDS * bound) }
     ensures reason { IfErr result (λ error. IsReason bytes.now KEYS error) }
     ensures accepts { IsStream bytes.now → HasKeysBelow bytes.now KEYS

@@ -29,7 +29,7 @@ fn read_array(
 ) -> Result<(), Malformed>
     requires within { at + 2 * len ≤ length bytes.now }
     requires key { key < 65536 }
-    requires room { 1024 * (key + 1) ≤ length words.old }
+    requires long_enough { 1024 * (key + 1) ≤ length words.old }
     ensures array { OnOk result (IsArray bytes.now at len) }
     ensures members { OnOk result (Adds key (in_array bytes.now at len) words.old words.new) }
     ensures fault { IfErr result (λ m. (m.fault ≡ faults.NotAscending)
@@ -60,7 +60,7 @@ fn append_block(bytes: &[u8], at: usize, words: &mut Vec<usize>) -> Result<usize
         → get_or words.new.items (length words.old.items + q) 0 ≡ u64_at bytes.now (at + 8 * q)) }
     ensures count { IfOk result (λ ones. (from n : ℕ) → from + 8 * n ≡ at
         → ones_in bytes.now from (n + 64) ≡ ones_in bytes.now from n + ones) }
-    ensures few { IfOk result (λ ones. ones ≤ 4096) }
+    ensures max { IfOk result (λ ones. ones ≤ 4096) }
 {
     let mut block = [0; BLOCK_WORDS];
     let mut ones = 0;
@@ -93,7 +93,7 @@ fn append_bits(bytes: &[u8], at: usize, words: &mut Vec<usize>) -> Result<usize,
 fn read_runs(bytes: &[u8], at: usize, words: &mut [usize], key: usize) -> Result<usize, Malformed>
     requires within { at + (2 + 4 * run_count bytes.now at) ≤ length bytes.now }
     requires key { key < 65536 }
-    requires room { 1024 * (key + 1) ≤ length words.old }
+    requires long_enough { 1024 * (key + 1) ≤ length words.old }
     ensures total { IfOk result (λ total. total ≡ run_total bytes.now at (run_count bytes.now at)) }
     ensures apart { OnOk result ((r : ℕ) → r + 1 < run_count bytes.now at
         → run_last bytes.now at r + 1 < run_first bytes.now at (r + 1)) }
@@ -160,7 +160,7 @@ fn read_runs_of(
 ) -> Result<(), Malformed>
     requires within { at + (2 + 4 * run_count bytes.now at) ≤ length bytes.now }
     requires key { key < 65536 }
-    requires room { 1024 * (key + 1) ≤ length words.old }
+    requires long_enough { 1024 * (key + 1) ≤ length words.old }
     ensures runs { OnOk result (AreRuns bytes.now at cardinality) }
     ensures members { OnOk result (Adds key (in_runs bytes.now at) words.old words.new) }
     ensures fault { IfErr result (λ m.
@@ -188,7 +188,7 @@ fn read_numbers(
     requires within { container_at bytes.now (k + 1) ≤ length bytes.now }
     requires numbers { is_run bytes.now k ≡ false → cardinality_of bytes.now k ≤ 4096 }
     requires key { key < 65536 }
-    requires room { 1024 * (key + 1) ≤ length words.old }
+    requires long_enough { 1024 * (key + 1) ≤ length words.old }
     ensures container { OnOk result (IsContainer bytes.now k) }
     ensures members { OnOk result (Adds key (in_container bytes.now k) words.old words.new) }
     ensures fault { IfErr result (λ m. (end : ℕ) → IsFault bytes.now end m.fault m.at) }

@@ -16,12 +16,11 @@ ghost use Rattle.hibitset_roaring.specs.Kinds.{chosen_are_runs, IsStreamOf};
 use crate::encode_container::container_size;
 use crate::header::{KEYS, NO_RUNS, RUNS, first_after, keys_after, offsets_are};
 use crate::key_counts::Heads;
-use crate::nonzero_words::word_of;
 use crate::number::{put_u8, put_u16, put_u32};
 use crate::runs::are_shorter;
 use crate::source::{ContainerSource, WordSource};
 use hibitset::BitSet;
-use hibitset_base::bits::with_bit;
+use hibitset_base::bits::{with_bit, word_or_zero};
 use std::alloc::{AllocError, Global};
 
 // The number of runs that a container is written as; or as many as its members, if it is not to be runs.
@@ -110,19 +109,19 @@ fn some_runs(counts: &[usize], runs: &[usize]) -> bool
 fn first_of(some: bool, count: usize) -> usize
     requires { count ≤ 16384 }
     ensures first { result ≡ first_after some count }
-    ensures few { result ≤ 262144 }
+    ensures max { result ≤ 262144 }
 {
     first_after(offsets_are(some, count), keys_after(some, count), count)
 }
 
 // How many bytes a stream takes whose containers have these counts of members and of runs.
 fn len_of(some: bool, counts: &[usize], runs: &[usize]) -> usize
-    requires few { length counts.now ≤ 16384 }
+    requires len_max { length counts.now ≤ 16384 }
     requires same { length runs.now ≡ length counts.now }
     requires counts { (k : ℕ) → k < length counts.now → get_or counts.now k 0 ≤ 65536 }
     ensures len { result ≡ start_from (first_after some (length counts.now)) counts.now runs.now
         (length counts.now) }
-    ensures most { result ≤ 2 ^ 28 }
+    ensures max { result ≤ 2 ^ 28 }
 {
     let mut at = first_of(some, counts.len());
     'counts: for k in 0..counts.len() {
@@ -134,13 +133,16 @@ fn len_of(some: bool, counts: &[usize], runs: &[usize]) -> usize
 // The flags of eight containers, from one on, as the bits of a byte.
 fn flags_from(counts: &[usize], runs: &[usize], first: usize) -> usize
     requires { first < 2 ^ 32 }
-    ensures small { result < 256 }
+    ensures in_range { result < 256 }
     ensures flags { (b : ℕ) → b < 8 → (bit_at result b == 1)
         ≡ are_runs_shorter (get_or runs.now (first + b) 0) (get_or counts.now (first + b) 0) }
 {
     let mut byte = 0;
     'flags: for b in 0..8 {
-        let flag = are_shorter(word_of(runs, first + b), word_of(counts, first + b));
+        let flag = are_shorter(
+            word_or_zero(runs, first + b),
+            word_or_zero(counts, first + b),
+        );
         byte = with_bit(byte, b, flag);
     }
     byte % 256
@@ -148,8 +150,8 @@ fn flags_from(counts: &[usize], runs: &[usize], first: usize) -> usize
 
 // Writes the flags. Those past the last container's are clear.
 fn write_flags(out: &mut [u8], counts: &[usize], runs: &[usize])
-    requires room { 4 + (length counts.now + 7) / 8 ≤ length out.old }
-    requires few { length counts.now ≤ 16384 }
+    requires long_enough { 4 + (length counts.now + 7) / 8 ≤ length out.old }
+    requires len_max { length counts.now ≤ 16384 }
     ensures before { SameBefore 4 out.old out.new }
     ensures flags { (k : ℕ) → k / 8 < (length counts.now + 7) / 8
         → (bit_at (get_or out.new (4 + k / 8) 0) (k % 8) == 1)
@@ -162,8 +164,8 @@ fn write_flags(out: &mut [u8], counts: &[usize], runs: &[usize])
 
 // Writes the cookie and the number of containers, and behind them the flags if some container is runs.
 fn write_front(out: &mut [u8], some: bool, counts: &[usize], runs: &[usize])
-    requires room { fields_after some (length counts.now) ≤ length out.old }
-    requires few { length counts.now ≤ 16384 }
+    requires long_enough { fields_after some (length counts.now) ≤ length out.old }
+    requires len_max { length counts.now ≤ 16384 }
     requires any { some ≡ true → 0 < length counts.now }
     ensures { IsFront some out.new counts.now runs.now }
 {
@@ -179,11 +181,11 @@ fn write_front(out: &mut [u8], some: bool, counts: &[usize], runs: &[usize])
 
 // Writes of each container its key and how many members it has.
 fn write_fields(out: &mut [u8], at: usize, keys: &[usize], counts: &[usize])
-    requires room { at + 4 * length keys.now ≤ length out.old }
+    requires long_enough { at + 4 * length keys.now ≤ length out.old }
     requires same { length counts.now ≡ length keys.now }
     requires keys { (k : ℕ) → k < length keys.now → get_or keys.now k 0 < 16384 }
     requires counts { (k : ℕ) → k < length keys.now → get_or counts.now k 0 ≤ 65536 }
-    requires some { (k : ℕ) → k < length keys.now → 0 < get_or counts.now k 0 }
+    requires nonempty { (k : ℕ) → k < length keys.now → 0 < get_or counts.now k 0 }
     ensures before { SameBefore at out.old out.new }
     ensures keys { (k : ℕ) → k < length keys.now
         → u16_at out.new (at + 4 * k) ≡ get_or keys.now k 0 }
@@ -198,13 +200,13 @@ fn write_fields(out: &mut [u8], at: usize, keys: &[usize], counts: &[usize])
 
 // Writes the header, up to the offsets.
 fn write_header(out: &mut [u8], some: bool, keys: &[usize], counts: &[usize], runs: &[usize])
-    requires room { fields_after some (length counts.now) + 4 * length keys.now ≤ length out.old }
-    requires few { length keys.now ≤ 16384 }
+    requires long_enough { fields_after some (length counts.now) + 4 * length keys.now ≤ length out.old }
+    requires len_max { length keys.now ≤ 16384 }
     requires any { some ≡ true → 0 < length counts.now }
     requires same { length counts.now ≡ length keys.now }
     requires keys { (k : ℕ) → k < length keys.now → get_or keys.now k 0 < 16384 }
     requires counts { (k : ℕ) → k < length keys.now → get_or counts.now k 0 ≤ 65536 }
-    requires some { (k : ℕ) → k < length keys.now → 0 < get_or counts.now k 0 }
+    requires nonempty { (k : ℕ) → k < length keys.now → 0 < get_or counts.now k 0 }
     ensures { IsHeaded some out.new keys.now counts.now runs.now }
 {
     write_front(out, some, counts, runs);
@@ -220,9 +222,9 @@ fn write_offsets(
     counts: &[usize],
     runs: &[usize],
 )
-    requires room { offsets_after some (length counts.now) ≡ true
+    requires long_enough { offsets_after some (length counts.now) ≡ true
         → at + 4 * length counts.now ≤ length out.old }
-    requires few { length counts.now ≤ 16384 }
+    requires len_max { length counts.now ≤ 16384 }
     requires same { length runs.now ≡ length counts.now }
     requires counts { (k : ℕ) → k < length counts.now → get_or counts.now k 0 ≤ 65536 }
     requires first { first ≤ 262144 }
@@ -251,13 +253,13 @@ fn write_containers<S: ContainerSource>(
     source: &S,
 )
     requires same { length counts.now ≡ length keys.now }
-    requires few { length keys.now ≤ 16384 }
+    requires len_max { length keys.now ≤ 16384 }
     requires first { first ≤ 262144 }
-    requires room { start_from first counts.now runs.now (length keys.now) ≤ length out.old }
+    requires long_enough { start_from first counts.now runs.now (length keys.now) ≤ length out.old }
     requires keys { (k : ℕ) → k < length keys.now → get_or keys.now k 0 < 16384 }
     requires counts { (k : ℕ) → k < length keys.now
         → get_or counts.now k 0 ≡ ones_under (S.words source.now) (get_or keys.now k 0) }
-    requires small { (k : ℕ) → k < length keys.now → get_or counts.now k 0 ≤ 65536 }
+    requires counts_max { (k : ℕ) → k < length keys.now → get_or counts.now k 0 ≤ 65536 }
     requires runs { AreKinds (S.words source.now) keys.now counts.now runs.now }
     ensures before { SameBefore first out.old out.new }
     ensures written { (k : ℕ) → k < length keys.now → IsKindWritten (S.words source.now)
@@ -283,11 +285,11 @@ fn write_stream<S: ContainerSource>(
     requires heads { AreHeads (S.words source.now) keys.now counts.now KEYS }
     requires runs { AreKinds (S.words source.now) keys.now counts.now runs.now }
     requires says { SaysRuns some counts.now runs.now }
-    requires room { length out.old ≡ start_from (first_after some (length counts.now))
+    requires exact_length { length out.old ≡ start_from (first_after some (length counts.now))
         counts.now runs.now (length counts.now) }
     ensures stream { (kinds : ℕ → Bool) → HaveKeys kinds keys.now counts.now runs.now
         → IsStreamOf (stands_in (S.words source.now)) kinds out.new }
-    ensures below { HasKeysBelow out.new KEYS }
+    ensures keys_below { HasKeysBelow out.new KEYS }
 {
     let first = first_of(some, counts.len());
     let offsets = keys_after(some, counts.len()) + 4 * counts.len();
@@ -310,14 +312,14 @@ fn write_behind<S: ContainerSource>(
     requires runs { AreKinds (S.words source.now) heads.now.keys.items heads.now.counts.items
         runs.now }
     requires says { SaysRuns some heads.now.counts.items runs.now }
-    requires room { length out.old ≡ from
+    requires exact_length { length out.old ≡ from
         + start_from (first_after some (length heads.now.counts.items))
         heads.now.counts.items runs.now (length heads.now.counts.items) }
     ensures before { SameBefore from out.old out.new }
     ensures stream { (kinds : ℕ → Bool)
         → HaveKeys kinds heads.now.keys.items heads.now.counts.items runs.now
         → IsStreamOf (stands_in (S.words source.now)) kinds (drop from out.new) }
-    ensures below { HasKeysBelow (drop from out.new) KEYS }
+    ensures keys_below { HasKeysBelow (drop from out.new) KEYS }
 {
     write_stream(
         &mut out[from..],
@@ -333,11 +335,11 @@ fn write_behind<S: ContainerSource>(
 fn write_first<S: ContainerSource>(out: &mut [u8], len: usize, heads: &Heads, source: &S)
     requires heads { AreHeads (S.words source.now) heads.now.keys.items heads.now.counts.items
         KEYS }
-    requires room { len ≤ length out.old }
+    requires long_enough { len ≤ length out.old }
     requires len { len ≡ start_from (first_after false (length heads.now.counts.items))
         heads.now.counts.items heads.now.counts.items (length heads.now.counts.items) }
     ensures stream { IsCanonicalStream (stands_in (S.words source.now)) (take len out.new) }
-    ensures below { HasKeysBelow (take len out.new) KEYS }
+    ensures keys_below { HasKeysBelow (take len out.new) KEYS }
     ensures rest { drop len out.new ≡ drop len out.old }
 {
     write_stream(
@@ -367,7 +369,7 @@ fn append_stream<S: ContainerSource>(
         → HaveKeys kinds heads.now.keys.items heads.now.counts.items runs.now
         → Appends (IsStreamOf (stands_in (S.words source.now)) kinds) out.old.items
         out.new.items) }
-    ensures below { OnOk result (HasKeysBelow (drop (vec_len out.old) out.new.items) KEYS) }
+    ensures keys_below { OnOk result (HasKeysBelow (drop (vec_len out.old) out.new.items) KEYS) }
     ensures err { OnErr result (out.new.items ≡ out.old.items) }
 {
     let from = out.len();
@@ -384,7 +386,7 @@ fn write_source_to<S: ContainerSource>(
 ) -> Result<(), AllocError>
     ensures stream { OnOk result (Appends (IsCanonicalStream (stands_in (S.words source.now)))
         out.old.items out.new.items) }
-    ensures below { OnOk result (HasKeysBelow (drop (vec_len out.old) out.new.items) KEYS) }
+    ensures keys_below { OnOk result (HasKeysBelow (drop (vec_len out.old) out.new.items) KEYS) }
     ensures err { OnErr result (out.new.items ≡ out.old.items) }
 {
     let heads = Heads::of(alloc, source)?;
@@ -398,7 +400,7 @@ pub(crate) fn write_source<S: ContainerSource>(
 ) -> Result<Vec<u8>, AllocError>
     ensures stream { IfOk result (λ out. IsCanonicalStream (stands_in (S.words source.now))
         out.items) }
-    ensures below { IfOk result (λ out. HasKeysBelow out.items KEYS) }
+    ensures keys_below { IfOk result (λ out. HasKeysBelow out.items KEYS) }
 {
     let mut out = Vec::new(alloc);
     write_source_to(alloc, source, &mut out)?;
@@ -426,8 +428,8 @@ pub(crate) fn len_of_source<S: ContainerSource>(source: &S, optimized: bool) -> 
 
 /// How many bytes `write` makes of a set with these words of layer 0, over which those of layer 1 lie.
 pub fn len_of_words(words: &[usize], above: &[usize]) -> usize
-    requires short { length words.now ≤ 16777216 }
-    requires above { AreSummaries words.now above.now }
+    requires len_max { length words.now ≤ 16777216 }
+    requires summaries { AreSummaries words.now above.now }
     ensures { (bytes : List ℕ) → IsPlainStream (stands_in words.now) bytes → length bytes ≡ result }
 {
     len_of_source(&WordSource::new(words, above), false)
@@ -449,16 +451,16 @@ pub fn write_words(
     above: &[usize],
     out: &mut [u8],
 ) -> Result<usize, AllocError>
-    requires short { length words.now ≤ 16777216 }
-    requires above { AreSummaries words.now above.now }
+    requires len_max { length words.now ≤ 16777216 }
+    requires summaries { AreSummaries words.now above.now }
     ensures len { IfOk result (λ len. (bytes : List ℕ) → IsPlainStream (stands_in words.now) bytes
         → length bytes ≡ len) }
     ensures stream { IfOk result (λ len. len ≤ length out.old
         → IsCanonicalStream (stands_in words.now) (take len out.new)) }
-    ensures below { IfOk result (λ len. len ≤ length out.old
+    ensures keys_below { IfOk result (λ len. len ≤ length out.old
         → HasKeysBelow (take len out.new) KEYS) }
     ensures rest { IfOk result (λ len. drop len out.new ≡ drop len out.old) }
-    ensures few { IfOk result (λ len. length out.old < len → out.new ≡ out.old) }
+    ensures too_short { IfOk result (λ len. length out.old < len → out.new ≡ out.old) }
     ensures err { OnErr result (out.new ≡ out.old) }
 {
     let source = WordSource::new(words, above);
@@ -490,7 +492,7 @@ pub fn serialized_len(set: &BitSet) -> usize
 pub fn write_to(alloc: Global, set: &BitSet, out: &mut Vec<u8>) -> Result<(), AllocError>
     ensures stream { OnOk result (Appends (IsCanonicalStream (has set.now)) out.old.items
         out.new.items) }
-    ensures below { OnOk result (HasKeysBelow (drop (vec_len out.old) out.new.items) KEYS) }
+    ensures keys_below { OnOk result (HasKeysBelow (drop (vec_len out.old) out.new.items) KEYS) }
     ensures err { OnErr result (out.new.items ≡ out.old.items) }
 {
     write_source_to(alloc, &WordSource::of(set), out)
@@ -499,7 +501,7 @@ pub fn write_to(alloc: Global, set: &BitSet, out: &mut Vec<u8>) -> Result<(), Al
 /// A set in the portable Roaring format, as `write_to` writes it. It fails only if an allocation fails.
 pub fn write(alloc: Global, set: &BitSet) -> Result<Vec<u8>, AllocError>
     ensures stream { IfOk result (λ out. IsCanonicalStream (has set.now) out.items) }
-    ensures below { IfOk result (λ out. HasKeysBelow out.items KEYS) }
+    ensures keys_below { IfOk result (λ out. HasKeysBelow out.items KEYS) }
 {
     let mut out = Vec::new(alloc);
     write_to(alloc, set, &mut out)?;
@@ -531,7 +533,7 @@ pub fn write_run_optimized_to(
 ) -> Result<(), AllocError>
     ensures stream { OnOk result
         (Appends (IsCanonicalRunStream (has set.now)) out.old.items out.new.items) }
-    ensures below { OnOk result (HasKeysBelow (drop (vec_len out.old) out.new.items) KEYS) }
+    ensures keys_below { OnOk result (HasKeysBelow (drop (vec_len out.old) out.new.items) KEYS) }
     ensures err { OnErr result (out.new.items ≡ out.old.items) }
 {
     let source = WordSource::of(set);
@@ -545,7 +547,7 @@ pub fn write_run_optimized_to(
 /// fails only if an allocation fails.
 pub fn write_run_optimized(alloc: Global, set: &BitSet) -> Result<Vec<u8>, AllocError>
     ensures stream { IfOk result (λ out. IsCanonicalRunStream (has set.now) out.items) }
-    ensures below { IfOk result (λ out. HasKeysBelow out.items KEYS) }
+    ensures keys_below { IfOk result (λ out. HasKeysBelow out.items KEYS) }
 {
     let mut out = Vec::new(alloc);
     write_run_optimized_to(alloc, set, &mut out)?;

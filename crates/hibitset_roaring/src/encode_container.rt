@@ -18,7 +18,7 @@ use crate::runs::{are_shorter, write_runs};
 pub(crate) fn container_size(count: usize, runs: usize) -> usize
     requires { count ≤ 65536 }
     ensures size { result ≡ container_bytes count runs }
-    ensures few { result ≤ 8192 }
+    ensures max { result ≤ 8192 }
 {
     if are_shorter(runs, count) {
         2 + 4 * runs
@@ -29,7 +29,7 @@ pub(crate) fn container_size(count: usize, runs: usize) -> usize
 
 // Writes words from one on, as many as `count`.
 fn write_words_of(out: &mut [u8], at: usize, words: &[usize], base: usize, count: usize)
-    requires room { at + 8 * count ≤ length out.old }
+    requires long_enough { at + 8 * count ≤ length out.old }
     requires within { 0 < count → base + count ≤ length words.now }
     ensures before { SameBefore at out.old out.new }
     ensures here { (q : ℕ) → q < count
@@ -53,7 +53,7 @@ fn write_zeros(out: &mut [u8], at: usize, count: usize)
 
 // Writes the members with these high bits as bits. Words past the end are 0.
 fn write_bits(out: &mut [u8], at: usize, words: &[usize], key: usize)
-    requires room { at + 8192 ≤ length out.old }
+    requires long_enough { at + 8192 ≤ length out.old }
     requires key { key < 65536 }
     ensures before { SameBefore at out.old out.new }
     ensures ones { ones_in out.new at 1024 ≡ ones_under words.now key }
@@ -68,10 +68,10 @@ fn write_bits(out: &mut [u8], at: usize, words: &[usize], key: usize)
 
 // Writes a container that is no runs.
 fn write_flat(out: &mut [u8], at: usize, words: &[usize], above: &[usize], key: usize, count: usize)
-    requires room { at + flat_bytes count ≤ length out.old }
+    requires long_enough { at + flat_bytes count ≤ length out.old }
     requires key { key < 65536 }
     requires count { count ≡ ones_under words.now key }
-    requires above { AreSummaries words.now above.now }
+    requires summaries { AreSummaries words.now above.now }
     ensures before { SameBefore at out.old out.new }
     ensures written { IsWritten words.now out.new at key count }
 {
@@ -92,10 +92,10 @@ pub(crate) fn write_kind(
     count: usize,
     runs: usize,
 )
-    requires room { at + container_bytes count runs ≤ length out.old }
+    requires long_enough { at + container_bytes count runs ≤ length out.old }
     requires key { key < 65536 }
     requires count { count ≡ ones_under words.now key }
-    requires above { AreSummaries words.now above.now }
+    requires summaries { AreSummaries words.now above.now }
     requires runs { are_runs_shorter runs count ≡ true
         → runs ≡ count_of_runs (members_under (stands_in words.now) key) }
     ensures before { SameBefore at out.old out.new }

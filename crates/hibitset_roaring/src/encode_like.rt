@@ -12,10 +12,11 @@ use crate::encode_container::write_kind;
 use crate::header::KEYS;
 use crate::key_counts::count_members;
 use crate::layout::CONTAINER_WORDS;
-use crate::nonzero_words::{CONTAINER_BLOCKS, next_bit, take_lowest};
+use crate::nonzero_words::CONTAINER_BLOCKS;
 use crate::runs::count_runs;
 use crate::source::ContainerSource;
 use hibitset::BitSetLike;
+use hibitset_base::bits::{next_bit, take_bit};
 use std::alloc::{AllocError, Global};
 
 // How many words layer 2 has, each over four containers.
@@ -65,7 +66,7 @@ fn next_key_of<T: BitSetLike>(set: &T, from: usize) -> usize
 // Puts the words of a set under a word of its layer 1 into 64 zero words, from one on.
 fn gather_block<T: BitSetLike>(set: &T, position: usize, words: &mut [usize], base: usize)
     requires position { position < 262144 }
-    requires room { base + 64 ≤ length words.old }
+    requires long_enough { base + 64 ≤ length words.old }
     requires zero { (b : ℕ) → b < 64 → get_or words.old (base + b) 0 ≡ 0 }
     ensures here { (b : ℕ) → b < 64
         → get_or words.new (base + b) 0 ≡ word_at (T.word set.now) (64 * position + b) }
@@ -74,7 +75,7 @@ fn gather_block<T: BitSetLike>(set: &T, position: usize, words: &mut [usize], ba
 {
     let mut places = set.layer1(position);
     'places: while places != 0 {
-        let bit = take_lowest(&mut places);
+        let bit = take_bit(&mut places);
         words[base + bit] = set.layer0(64 * position + bit);
     }
 }
@@ -148,7 +149,7 @@ impl<T: BitSetLike> ContainerSource for LikeSource<'_, T> {
 pub fn write_like<T: BitSetLike>(alloc: Global, set: &T) -> Result<Vec<u8>, AllocError>
     ensures stream { IfOk result (λ out. IsCanonicalStream (is_member (T.holds set.now))
         out.items) }
-    ensures below { IfOk result (λ out. HasKeysBelow out.items KEYS) }
+    ensures keys_below { IfOk result (λ out. HasKeysBelow out.items KEYS) }
 {
     write_source(alloc, &LikeSource(set))
 }

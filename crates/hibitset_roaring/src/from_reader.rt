@@ -49,7 +49,7 @@ pub fn read_from<R: Read>(
 ) -> Result<BitSet, ReadFromError>
     requires { end ≤ KEYS }
     ensures stream { OnOk result (IfSome (R.remaining reader.old) IsStream) }
-    ensures below { OnOk result (IfSome (R.remaining reader.old)
+    ensures keys_below { OnOk result (IfSome (R.remaining reader.old)
         (λ bytes. HasKeysBelow bytes end)) }
     ensures members { IfOk result (λ set. IfSome (R.remaining reader.old)
         (λ bytes. (i : ℕ) → has set i ≡ holds bytes i)) }
@@ -59,7 +59,7 @@ pub fn read_from<R: Read>(
         (λ bytes. IsFromReason bytes end error)) }
     ensures accepts { IfErr result (λ error. IfSome (R.remaining reader.old)
         (λ bytes. IsStream bytes → HasKeysBelow bytes end → IsOutside error)) }
-    ensures front { GivesFront (longest_below end + CHUNK) (R.remaining reader.old)
+    ensures reads_front { GivesFront (longest_below end + CHUNK) (R.remaining reader.old)
         (R.remaining reader.new) }
     ensures not_interrupted { IfErr result IsNoInterruption }
 {
@@ -78,7 +78,7 @@ pub(crate) fn read_within<R: Read>(
         (λ bytes. input.items ≡ bytes)) }
     ensures end { OnOk result (IsAtEnd (R.remaining reader.new)) }
     ensures reason { IfErr result (IsInputReason (R.remaining reader.old) (longest_below end)) }
-    ensures front { GivesFront (longest_below end + CHUNK) (R.remaining reader.old)
+    ensures reads_front { GivesFront (longest_below end + CHUNK) (R.remaining reader.old)
         (R.remaining reader.new) }
     ensures not_interrupted { IfErr result IsNoInterruption }
 {
@@ -91,7 +91,7 @@ fn read_all<R: Read>(alloc: Global, reader: &mut R, most: usize) -> Result<Vec<u
         (λ bytes. input.items ≡ bytes)) }
     ensures end { OnOk result (IsAtEnd (R.remaining reader.new)) }
     ensures reason { IfErr result (IsInputReason (R.remaining reader.old) most) }
-    ensures front { GivesFront (most + CHUNK) (R.remaining reader.old) (R.remaining reader.new) }
+    ensures reads_front { GivesFront (most + CHUNK) (R.remaining reader.old) (R.remaining reader.new) }
     ensures not_interrupted { IfErr result IsNoInterruption }
 {
     let mut input = Vec::new(alloc);
@@ -113,7 +113,7 @@ fn read_some<R: Read>(reader: &mut R, input: &mut Vec<u8>) -> Result<bool, ReadF
         × Consumes (R.remaining reader.old) (R.remaining reader.new) bytes) }
     ensures end { IfOk result (λ ended. IsTrue ended → IsAtEnd (R.remaining reader.new)) }
     ensures reason { IfErr result IsOutside }
-    ensures front { GivesFront CHUNK (R.remaining reader.old) (R.remaining reader.new) }
+    ensures reads_front { GivesFront CHUNK (R.remaining reader.old) (R.remaining reader.new) }
     ensures not_interrupted { IfErr result IsNoInterruption }
 {
     let mut chunk = [0; CHUNK];

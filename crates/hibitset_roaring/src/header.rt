@@ -39,7 +39,7 @@ fn read_count(bytes: &[u8]) -> Result<(bool, usize), Malformed>
     ensures cookie { OnOk result ((u32_at bytes.now 0 ≡ 12346) ⊎ (u16_at bytes.now 0 ≡ 12347)) }
     ensures runs { IfOk result (λ found. found.0 ≡ has_runs bytes.now) }
     ensures count { IfOk result (λ found. found.1 ≡ container_count bytes.now) }
-    ensures few { IfOk result (λ found. found.1 ≤ 65536) }
+    ensures max { IfOk result (λ found. found.1 ≤ 65536) }
     ensures fault { IfErr result (λ m. (end : ℕ) → IsFault bytes.now end m.fault m.at) }
 {
     if bytes.len() < 8 {
@@ -129,7 +129,7 @@ impl Header {
         requires header { IsHeader bytes.now self.now }
         requires within { k < self.now.count }
         ensures key { result ≡ key_of bytes.now k }
-        ensures small { result < 65536 }
+        ensures in_range { result < 65536 }
     {
         read_u16(bytes, self.keys + 4 * k)
     }
@@ -141,8 +141,8 @@ impl Header {
         requires header { IsHeader bytes.now self.now }
         requires within { k < self.now.count }
         ensures cardinality { result ≡ cardinality_of bytes.now k }
-        ensures some { 0 < result }
-        ensures small { result ≤ 65536 }
+        ensures nonzero { 0 < result }
+        ensures max { result ≤ 65536 }
     {
         read_u16(bytes, self.keys + 4 * k + 2) + 1
     }
@@ -188,9 +188,9 @@ impl Header {
         requires header { IsHeader bytes.now self.now }
         ensures ascending { OnOk result ((k : ℕ) → k + 1 < container_count bytes.now
             → key_of bytes.now k < key_of bytes.now (k + 1)) }
-        ensures below { IfOk result (λ next. HasKeysBelow bytes.now next) }
-        ensures few { IfOk result (λ next. next ≤ end) }
-        ensures least { IfOk result (λ next. (bound : ℕ) → HasKeysBelow bytes.now bound
+        ensures keys_below { IfOk result (λ next. HasKeysBelow bytes.now next) }
+        ensures in_range { IfOk result (λ next. next ≤ end) }
+        ensures least_bound { IfOk result (λ next. (bound : ℕ) → HasKeysBelow bytes.now bound
             → next ≤ bound) }
         ensures fault { IfErr result (λ m. IsFault bytes.now end m.fault m.at) }
     {

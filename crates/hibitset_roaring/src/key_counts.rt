@@ -7,8 +7,9 @@ ghost use Rattle.hibitset_roaring.specs.Words.{ones_from, ones_under, AreBlocks,
 
 use crate::header::KEYS;
 use crate::layout::CONTAINER_WORDS;
-use crate::nonzero_words::{CONTAINER_BLOCKS, blocks_over, slot_after, slot_from, word_of};
+use crate::nonzero_words::{CONTAINER_BLOCKS, blocks_over, slot_after, slot_from};
 use crate::source::ContainerSource;
+use hibitset_base::bits::word_or_zero;
 use std::alloc::{AllocError, Global};
 
 // From this many nonzero words on, all words of a container are counted.
@@ -30,7 +31,7 @@ fn count_slots(above: &[usize], key: usize) -> usize
 {
     let mut slots = 0;
     'summaries: for block in 0..CONTAINER_BLOCKS {
-        slots += word_of(above, CONTAINER_BLOCKS * key + block).count_ones() as usize;
+        slots += word_or_zero(above, CONTAINER_BLOCKS * key + block).count_ones() as usize;
     }
     slots
 }
@@ -39,7 +40,7 @@ fn count_slots(above: &[usize], key: usize) -> usize
 fn count_whole(words: &[usize], base: usize) -> usize
     requires { base + 1024 ≤ length words.now }
     ensures count { result ≡ ones_from words.now base 1024 }
-    ensures few { result ≤ 65536 }
+    ensures max { result ≤ 65536 }
 {
     let mut ones = 0;
     'words: for j in 0..CONTAINER_WORDS {
@@ -51,17 +52,17 @@ fn count_whole(words: &[usize], base: usize) -> usize
 // How many bits are set in the words of a container, of which those that are 0 are skipped.
 fn count_some(words: &[usize], above: &[usize], key: usize, blocks: usize) -> usize
     requires key { key < 65536 }
-    requires above { AreSummaries words.now above.now }
+    requires summaries { AreSummaries words.now above.now }
     requires blocks { AreBlocks above.now key blocks }
     ensures count { result ≡ ones_under words.now key }
-    ensures few { result ≤ 65536 }
+    ensures max { result ≤ 65536 }
 {
     let base = CONTAINER_WORDS * key;
     let mut ones = 0;
     let mut rest = 0;
     let mut slot = slot_from(above, key, blocks, 0, &mut rest);
     'slots: while slot < CONTAINER_WORDS {
-        ones += word_of(words, base + slot).count_ones() as usize;
+        ones += word_or_zero(words, base + slot).count_ones() as usize;
         slot = slot_after(above, key, blocks, slot, &mut rest);
     }
     ones
@@ -80,9 +81,9 @@ fn has_many(words: &[usize], above: &[usize], key: usize, blocks: usize) -> bool
 // How many members have these high bits.
 pub(crate) fn count_members(words: &[usize], above: &[usize], key: usize) -> usize
     requires key { key < 65536 }
-    requires above { AreSummaries words.now above.now }
+    requires summaries { AreSummaries words.now above.now }
     ensures count { result ≡ ones_under words.now key }
-    ensures few { result ≤ 65536 }
+    ensures max { result ≤ 65536 }
 {
     let blocks = blocks_over(above, key);
     if has_many(words, above, key, blocks) {

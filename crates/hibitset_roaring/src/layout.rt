@@ -20,7 +20,7 @@ pub const CONTAINER_WORDS: usize = 1024;
 #[inline]
 pub(crate) fn flat_size(cardinality: usize) -> usize
     requires { cardinality ≤ 65536 }
-    ensures small { cardinality ≤ 4096 → result ≡ 2 * cardinality }
+    ensures array_size { cardinality ≤ 4096 → result ≡ 2 * cardinality }
     ensures large { 4096 < cardinality → result ≡ 8192 }
 {
     if cardinality <= MAX_ARRAY_LEN {

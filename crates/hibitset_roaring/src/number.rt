@@ -10,7 +10,7 @@ ghost use Rattle.hibitset_roaring.specs.Streams.{SameBefore};
 pub(crate) fn read_u16(bytes: &[u8], at: usize) -> usize
     requires { at + 2 ≤ length bytes.now }
     ensures number { result ≡ u16_at bytes.now at }
-    ensures small { result < 65536 }
+    ensures in_range { result < 65536 }
 {
     u16::from_le_bytes([bytes[at], bytes[at + 1]]) as usize
 }
@@ -21,7 +21,7 @@ pub(crate) fn read_u16(bytes: &[u8], at: usize) -> usize
 pub(crate) fn read_u32(bytes: &[u8], at: usize) -> usize
     requires { at + 4 ≤ length bytes.now }
     ensures number { result ≡ u32_at bytes.now at }
-    ensures small { result < 2 ^ 32 }
+    ensures in_range { result < 2 ^ 32 }
 {
     u32::from_le_bytes([bytes[at], bytes[at + 1], bytes[at + 2], bytes[at + 3]]) as usize
 }
@@ -43,8 +43,8 @@ pub(crate) fn read_u64(bytes: &[u8], at: usize) -> usize
 // Writes a number in a byte.
 #[inline]
 pub(crate) fn put_u8(out: &mut [u8], at: usize, number: usize)
-    requires room { at < length out.old }
-    requires small { number < 256 }
+    requires long_enough { at < length out.old }
+    requires in_range { number < 256 }
     ensures here { get_or out.new at 0 ≡ number }
     ensures before { SameBefore at out.old out.new }
 {
@@ -55,8 +55,8 @@ pub(crate) fn put_u8(out: &mut [u8], at: usize, number: usize)
 #[inline]
 #[tactic(auto, unfolding(crate::specs::Numbers::u16_at))]
 pub(crate) fn put_u16(out: &mut [u8], at: usize, number: usize)
-    requires room { at + 2 ≤ length out.old }
-    requires small { number < 65536 }
+    requires long_enough { at + 2 ≤ length out.old }
+    requires in_range { number < 65536 }
     ensures here { u16_at out.new at ≡ number }
     ensures before { SameBefore at out.old out.new }
 {
@@ -67,8 +67,8 @@ pub(crate) fn put_u16(out: &mut [u8], at: usize, number: usize)
 // Writes a number in four bytes.
 #[inline]
 pub(crate) fn put_u32(out: &mut [u8], at: usize, number: usize)
-    requires room { at + 4 ≤ length out.old }
-    requires small { number < 2 ^ 32 }
+    requires long_enough { at + 4 ≤ length out.old }
+    requires in_range { number < 2 ^ 32 }
     ensures here { u32_at out.new at ≡ number }
     ensures before { SameBefore at out.old out.new }
 {
@@ -79,7 +79,7 @@ pub(crate) fn put_u32(out: &mut [u8], at: usize, number: usize)
 // Writes a number in eight bytes.
 #[inline]
 pub(crate) fn put_u64(out: &mut [u8], at: usize, number: usize)
-    requires room { at + 8 ≤ length out.old }
+    requires long_enough { at + 8 ≤ length out.old }
     ensures here { u64_at out.new at ≡ number }
     ensures before { SameBefore at out.old out.new }
 {

@@ -9,8 +9,9 @@ ghost use Rattle.hibitset_roaring.specs.Runs.{members_under, count_of_runs, are_
 
 use crate::header::CONTAINER_NUMBERS;
 use crate::layout::{CONTAINER_WORDS, MAX_ARRAY_LEN};
-use crate::nonzero_words::{next_bit, next_slot, word_of};
+use crate::nonzero_words::next_slot;
 use crate::number::put_u16;
+use hibitset_base::bits::{next_bit, word_or_zero};
 
 // From this many runs on, bits take no more bytes.
 const RUNS_OF_BITS: usize = 2048;
@@ -19,7 +20,7 @@ const RUNS_OF_BITS: usize = 2048;
 #[inline]
 pub(crate) fn are_shorter(runs: usize, count: usize) -> bool
     ensures shorter { result ≡ are_runs_shorter runs count }
-    ensures few { result ≡ true → runs < 2048 }
+    ensures runs_max { result ≡ true → runs < 2048 }
 {
     if count <= MAX_ARRAY_LEN {
         runs < (count + 1) / 2
@@ -31,18 +32,21 @@ pub(crate) fn are_shorter(runs: usize, count: usize) -> bool
 // The next number of a container, from one on, that is a member; or 65,536.
 fn next_member(words: &[usize], above: &[usize], key: usize, from: usize) -> usize
     requires key { key < 65536 }
-    requires above { AreSummaries words.now above.now }
+    requires summaries { AreSummaries words.now above.now }
     requires from { from ≤ 65536 }
     ensures order { from ≤ result }
     ensures within { result ≤ 65536 }
-    ensures none { (v : ℕ) → from ≤ v → v < result
+    ensures none_before { (v : ℕ) → from ≤ v → v < result
         → stands_in words.now (65536 * key + v) ≡ false }
     ensures found { result < 65536 → stands_in words.now (65536 * key + result) ≡ true }
 {
     let mut number = from;
     'numbers: while number < CONTAINER_NUMBERS {
         let slot = number / 64;
-        let bit = next_bit(word_of(words, CONTAINER_WORDS * key + slot), number % 64);
+        let bit = next_bit(
+            word_or_zero(words, CONTAINER_WORDS * key + slot),
+            number % 64,
+        );
         if bit < 64 {
             return 64 * slot + bit;
         }
@@ -64,7 +68,10 @@ fn next_gap(words: &[usize], key: usize, from: usize) -> usize
     let mut number = from;
     'numbers: while number < CONTAINER_NUMBERS {
         let slot = number / 64;
-        let bit = next_bit(!word_of(words, CONTAINER_WORDS * key + slot), number % 64);
+        let bit = next_bit(
+            !word_or_zero(words, CONTAINER_WORDS * key + slot),
+            number % 64,
+        );
         if bit < 64 {
             return 64 * slot + bit;
         }
@@ -76,7 +83,7 @@ fn next_gap(words: &[usize], key: usize, from: usize) -> usize
 // How many runs the members with these high bits form, `count` of them. The count ends where runs are no shorter.
 pub(crate) fn count_runs(words: &[usize], above: &[usize], key: usize, count: usize) -> usize
     requires key { key < 65536 }
-    requires above { AreSummaries words.now above.now }
+    requires summaries { AreSummaries words.now above.now }
     ensures { IsRunCount words.now key count result }
 {
     let mut runs = 0;
@@ -95,12 +102,12 @@ pub(crate) fn count_runs(words: &[usize], above: &[usize], key: usize, count: us
 
 // Writes the run of the numbers from one on before another.
 fn put_run(out: &mut [u8], at: usize, start: usize, end: usize)
-    requires room { at + 4 ≤ length out.old }
+    requires long_enough { at + 4 ≤ length out.old }
     requires order { start < end }
     requires within { end ≤ 65536 }
     ensures before { SameBefore at out.old out.new }
     ensures first { u16_at out.new at ≡ start }
-    ensures last { start + u16_at out.new (at + 2) + 1 ≡ end }
+    ensures ends_at { start + u16_at out.new (at + 2) + 1 ≡ end }
 {
     put_u16(out, at, start);
     put_u16(out, at + 2, end - start - 1);
@@ -115,11 +122,11 @@ pub(crate) fn write_runs(
     key: usize,
     runs: usize,
 )
-    requires room { at + (2 + 4 * runs) ≤ length out.old }
+    requires long_enough { at + (2 + 4 * runs) ≤ length out.old }
     requires key { key < 65536 }
-    requires above { AreSummaries words.now above.now }
+    requires summaries { AreSummaries words.now above.now }
     requires runs { runs ≡ count_of_runs (members_under (stands_in words.now) key) }
-    requires small { runs < 65536 }
+    requires in_range { runs < 65536 }
     ensures before { SameBefore at out.old out.new }
     ensures written { AreRunsOf words.now out.new at key runs }
 {

@@ -31,7 +31,7 @@ pub(crate) trait ContainerSource {
     fn count_under(&self, key: usize) -> usize
         requires { key < KEYS }
         ensures count { result ≡ ones_under (words self.now) key }
-        ensures few { result ≤ 65536 };
+        ensures max { result ≤ 65536 };
 
     /// How many runs the `count` members with these high bits form; or at least as many, if runs are no shorter.
     fn count_runs(&self, key: usize, count: usize) -> usize
@@ -40,7 +40,7 @@ pub(crate) trait ContainerSource {
 
     /// Writes a container of `count` members in `runs` runs, as runs if these are shorter.
     fn write_container(&self, out: &mut [u8], at: usize, key: usize, count: usize, runs: usize)
-        requires room { at + container_bytes count runs ≤ length out.old }
+        requires long_enough { at + container_bytes count runs ≤ length out.old }
         requires key { key < KEYS }
         requires count { count ≡ ones_under (words self.now) key }
         requires runs { are_runs_shorter runs count ≡ true
@@ -70,8 +70,8 @@ impl<'a> WordSource<'a> {
     /// These words.
     #[inline]
     pub(crate) fn new(words: &'a [usize], above: &'a [usize]) -> WordSource<'a>
-        requires short { length words.now ≤ 16777216 }
-        requires above { AreSummaries words.now above.now }
+        requires len_max { length words.now ≤ 16777216 }
+        requires summaries { AreSummaries words.now above.now }
         ensures { result.words.now ≡ words.now }
     {
         WordSource { words, above }

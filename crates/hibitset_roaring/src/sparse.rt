@@ -34,7 +34,7 @@ use std::io::Read;
 pub fn read_sparse_below(alloc: Global, bytes: &[u8], end: usize) -> Result<SparseBitSet, ReadError>
     requires { end ≤ KEYS }
     ensures stream { OnOk result (IsStream bytes.now) }
-    ensures below { OnOk result (HasKeysBelow bytes.now end) }
+    ensures keys_below { OnOk result (HasKeysBelow bytes.now end) }
     ensures members { IfOk result (λ set. (i : ℕ) → has set i ≡ holds bytes.now i) }
     ensures reason { IfErr result (λ error. IsReason bytes.now end error) }
     ensures accepts { IsStream bytes.now → HasKeysBelow bytes.now end
@@ -49,7 +49,7 @@ pub fn read_sparse_below(alloc: Global, bytes: &[u8], end: usize) -> Result<Spar
 /// The sparse set whose members a stream has, as `read_sparse_below` reads it, if they are below `MAX_EID`.
 pub fn read_sparse(alloc: Global, bytes: &[u8]) -> Result<SparseBitSet, ReadError>
     ensures stream { OnOk result (IsStream bytes.now) }
-    ensures below { OnOk result (HasKeysBelow bytes.now KEYS) }
+    ensures keys_below { OnOk result (HasKeysBelow bytes.now KEYS) }
     ensures members { IfOk result (λ set. (i : ℕ) → has set i ≡ holds bytes.now i) }
     ensures reason { IfErr result (λ error. IsReason bytes.now KEYS error) }
     ensures accepts { IsStream bytes.now → HasKeysBelow bytes.now KEYS
@@ -67,7 +67,7 @@ pub fn read_sparse_from<R: Read>(
 ) -> Result<SparseBitSet, ReadFromError>
     requires { end ≤ KEYS }
     ensures stream { OnOk result (IfSome (R.remaining reader.old) IsStream) }
-    ensures below { OnOk result (IfSome (R.remaining reader.old)
+    ensures keys_below { OnOk result (IfSome (R.remaining reader.old)
         (λ bytes. HasKeysBelow bytes end)) }
     ensures members { IfOk result (λ set. IfSome (R.remaining reader.old)
         (λ bytes. (i : ℕ) → has set i ≡ holds bytes i)) }
@@ -76,7 +76,7 @@ pub fn read_sparse_from<R: Read>(
         (λ bytes. IsFromReason bytes end error)) }
     ensures accepts { IfErr result (λ error. IfSome (R.remaining reader.old)
         (λ bytes. IsStream bytes → HasKeysBelow bytes end → IsOutside error)) }
-    ensures front { GivesFront (longest_below end + CHUNK) (R.remaining reader.old)
+    ensures reads_front { GivesFront (longest_below end + CHUNK) (R.remaining reader.old)
         (R.remaining reader.new) }
     ensures not_interrupted { IfErr result IsNoInterruption }
 {

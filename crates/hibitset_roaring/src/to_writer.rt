@@ -24,7 +24,7 @@ use std::io::{self, ErrorKind, Write};
 pub fn write_into<W: Write>(alloc: Global, set: &BitSet, writer: &mut W) -> io::Result<()>
     ensures stream { OnOk result
         (Writes (IsCanonicalStream (has set.now)) (W.contents writer.old) (W.contents writer.new)) }
-    ensures below { OnOk result
+    ensures keys_below { OnOk result
         (Writes (λ bytes. HasKeysBelow bytes KEYS) (W.contents writer.old)
         (W.contents writer.new)) }
     ensures err { OnErr result ((bytes : List ℕ) → IsPlainStream (has set.now) bytes

@@ -15,8 +15,8 @@ use Rattle.hibitset_run.specs.declared.store.StoreCommand.{StoreCommand}
 use Rattle.hibitset_run.specs.declared.store.StoreReply.{StoreReply}
 use Rattle.hibitset_run.specs.Script as script
 use Rattle.hibitset_run.specs.Store as store
-use Rattle.hibitset_run.specs.Text.{IsLine, IsFirstBad, Say, printed, lines_of, reply_text}
-use Rattle.hibitset_run.specs.ScriptParser.{IsReadFault, IsLineFault, IsPrintFault, WritesFront}
+use Rattle.hibitset_run.specs.Text.{IsLine, Say, printed, lines_of, reply_text}
+use Rattle.hibitset_run.specs.ScriptParser.{IsReadFault, IsPrintFault, WritesFront}
 use Rattle.hibitset_run.specs.Program.{Ends, StoreEnds, EndsScript, EndsText, ReadsAll, IsOutput, IsStoreOutput, WritesPart, is_store}
 use Rattle.hibitset_run.specs.StoreText as store_text
 use Rattle.hibitset_run.specs.ScriptParser.{IsCut}
@@ -64,26 +64,12 @@ store_output_of lines commands replies before after said none run = record {
   text = printed_map store_text.reply_text store.answer_of replies;
 }
 
-pub line_ends : (lines : List (List ℕ)) (e : Ended) (o : Option (List ℕ)) → IsLineFault IsLine lines 0 e → Ends lines e o o
-line_ends lines Done o h = absurd h
-line_ends lines (BadLine n) o h = let e : h.0 ≡ n = omega (arith, h.2) in (subst (IsFirstBad IsLine lines) e h.1, keeps_same o)
-line_ends lines NoMemory o h = inl (keeps_same o)
-line_ends lines InputFailed o h = absurd h
-line_ends lines OutputFailed o h = absurd h
-
 pub print_ends : (lines : List (List ℕ)) (e : Ended) (output : List ℕ) (old new : Option (List ℕ)) → IsOutput lines output → IsPrintFault e → WritesFront old new output → Ends lines e old new
 print_ends lines Done output old new is h front = absurd h
 print_ends lines (BadLine n) output old new is h front = absurd h
 print_ends lines NoMemory output old new is h front = inr (part_of (IsOutput lines) output old new is front)
 print_ends lines InputFailed output old new is h front = absurd h
 print_ends lines OutputFailed output old new is h front = part_of (IsOutput lines) output old new is front
-
-pub store_line_ends : (lines : List (List ℕ)) (e : Ended) (o : Option (List ℕ)) → IsLineFault store_text.IsLine lines 1 e → StoreEnds lines e o o
-store_line_ends lines Done o h = absurd h
-store_line_ends lines (BadLine n) o h = (h.0, h.1, h.2, keeps_same o)
-store_line_ends lines NoMemory o h = inl (keeps_same o)
-store_line_ends lines InputFailed o h = absurd h
-store_line_ends lines OutputFailed o h = absurd h
 
 pub store_print_ends : (lines : List (List ℕ)) (e : Ended) (output : List ℕ) (old new : Option (List ℕ)) → IsStoreOutput lines output → IsPrintFault e → WritesFront old new output → StoreEnds lines e old new
 store_print_ends lines Done output old new is h front = absurd h

@@ -35,7 +35,7 @@ module _ (looks : Layers) (set : BitSet) (part : BitProducer BitSet) (layers : p
   pub begun : PartHasOneMask LAYERS part → PartBitsAreFromSet word_of part → MaySplit part
   begun one_mask drawn =
       let below : All (λ i. i < MAX_EID) (members_of (has set)) = all_found (λ i. i < MAX_EID) (has set) 0 MAX_EID (λ i from below stands. omega arith) in
-      record { layers = rw layers (layers_number-lt looks); one_mask = one_mask; drawn = drawn; below = rw items below }
+      record { layers = rw layers (layers_number-lt looks); one_mask = one_mask; from_set = drawn; below = rw items below }
 
   pub parts_of-whole : parts_of part ≡ parts_in (unsplit_size looks) (members_of (has set))
   parts_of-whole = ap (λ size. parts_in size (part_items has part)) (range_size-is looks part.1 layers) ∙ ap (parts_in (unsplit_size looks)) items
@@ -60,8 +60,8 @@ module _ (part : BitProducer BitSet) (may : MaySplit part) where
       let of_lower : parts_of lower ≡ parts_in size (part_items has lower) = ap (λ n. parts_in (range_size LAYERS n) (part_items has lower)) same.1 in
       let of_higher : parts_of higher ≡ parts_in size (part_items has higher) = ap (λ n. parts_in (range_size LAYERS n) (part_items has higher)) same_too.1 in
       record {
-        lower_may = record { layers = rw same.1 may.layers; one_mask = one_mask.0; drawn = drawn.0; below = lower_below };
-        higher_may = record { layers = rw same_too.1 may.layers; one_mask = one_mask.1; drawn = drawn.1; below = higher_below };
+        lower_may = record { layers = rw same.1 may.layers; one_mask = one_mask.0; from_set = drawn.0; below = lower_below };
+        higher_may = record { layers = rw same_too.1 may.layers; one_mask = one_mask.1; from_set = drawn.1; below = higher_below };
         count = ap (parts_in size) items
             ∙ parts_in-append size (part_items has lower) (part_items has higher) lower_below higher_below some some_more apart
             ∙ sym (ap (λ n. n + parts_of higher) of_lower ∙ ap (λ n. parts_in size (part_items has lower) + n) of_higher);

@@ -1,12 +1,12 @@
 -- Known bytes, lines and what the lines say.
 use Rattle.std.proofs.Common.{◌≡◌, ℕ, ◌<◌, ◌+◌, length-append, Bool, true, false, not, ◌==◌, List, [], ◌∷◌, ◌++◌, length, refl, ap, sym, subst, ◌∙◌, arith, append_assoc, append-nil, cond, take, drop, Bor, is_ok}
-use Rattle.std.specs.Prelude.{Some, None, IfErr, IfSome, OnOk, Ok, Err}
+use Rattle.std.specs.Prelude.{Some, None, IfErr, OnOk, Ok, Err}
 use Rattle.std.specs.Result.{IsErrAnd}
 use Rattle.std.specs.declared.option.Option.{Option}
 use Rattle.std.specs.declared.result.Result.{Result}
 use Rattle.std.specs.Option.{option_map, unwrap_or}
 use Rattle.std.specs.List.{join_by, flat_map, onto_first}
-use Rattle.std.specs.Io.KnownBytes.{Appends, Consumes, Keeps, IsAtEnd}
+use Rattle.std.specs.Io.KnownBytes.{Appends, Consumes, Keeps}
 use Rattle.std.proofs.lemmas.Bool.Decides.{nat_tests}
 use Rattle.std.proofs.lemmas.List.{take-append-drop}
 use Rattle.std.proofs.lemmas.List.Concat.{flat_map-append}
@@ -40,24 +40,11 @@ consumes_more (Some a) None c x y h k = absurd h
 consumes_more (Some a) (Some b) None x y h k = absurd k
 consumes_more (Some a) (Some b) (Some c) x y h k = h ∙ ap (λ z. x ++ z) k ∙ sym (append_assoc x y c)
 
-pub kept_consumes : (a b : Option (List ℕ)) → Keeps a b → Consumes a b []
-kept_consumes None b h = tt
-kept_consumes (Some a) None h = absurd h
-kept_consumes (Some a) (Some b) h = sym h
-
-pub consumes_all : (a b : Option (List ℕ)) (x : List ℕ) → Consumes a b x → IsAtEnd b → IfSome a (λ bytes. x ≡ bytes)
-consumes_all None b x h end = tt
-consumes_all (Some a) None x h end = absurd h
-consumes_all (Some a) (Some b) x h end = sym (h ∙ ap (λ z. x ++ z) end ∙ append-nil x)
-
 -- the printed replies so far: part of them went to the writer, and the rest is ready
 pub record IsPrinted (old new : Option (List ℕ)) (text all : List ℕ) : Type 0 where
   pub part : List ℕ
   pub went : Appends old new part
   pub whole : all ≡ part ++ text
-
-pub printed_start : (o : Option (List ℕ)) (text : List ℕ) → text ≡ [] → IsPrinted o o text []
-printed_start o text e = record { part = []; went = appends_none o; whole = sym e }
 
 pub printed_more : (a b c : Option (List ℕ)) (text ready left all line : List ℕ) → IsPrinted a b text all → ready ≡ text ++ line → Moves b c ready left → IsPrinted a c left (all ++ line)
 printed_more a b c text ready left all line h more m = record {
@@ -65,9 +52,6 @@ printed_more a b c text ready left all line h more m = record {
   went = appends_more a b c h.part m.0 h.went m.1;
   whole = ap (λ z. z ++ line) h.whole ∙ append_assoc h.part text line ∙ ap (λ z. h.part ++ z) (sym more ∙ m.2) ∙ sym (append_assoc h.part m.0 left);
 }
-
-pub printed_end : (a b c : Option (List ℕ)) (text all : List ℕ) → IsPrinted a b text all → Appends b c text → Appends a c all
-printed_end a b c text all h k = subst (Appends a c) (sym h.whole) (appends_more a b c h.part text h.went k)
 
 -- a front of what comes behind what is printed
 pub printed_front : (a b c : Option (List ℕ)) (text ready line more : List ℕ) (all whole : List ℕ) → IsPrinted a b text all → ready ≡ text ++ line → WritesFront b c ready → whole ≡ (all ++ line) ++ more → WritesFront a c whole
@@ -158,18 +142,12 @@ say_length Says (d ∷ cs) (m ∷ ls) h = let e = say_length Says cs ls h.1 in g
 say_length Says [] (m ∷ ls) h = absurd h
 say_length Says (d ∷ cs) [] h = absurd h
 
-pub said_start : {C : Type 0} (Says : C → List ℕ → Type 0) (cs : List C) (all : List (List ℕ)) → cs ≡ [] → IsSaid Says cs all all
-said_start Says cs all e = record { front = []; said = subst (λ cs. Say Says cs []) (sym e) tt; whole = refl }
-
 pub said_push : {C : Type 0} (Says : C → List ℕ → Type 0) (cs : List C) (all left rest : List (List ℕ)) (c : C) (l : List ℕ) → IsSaid Says cs all left → left ≡ l ∷ rest → Says c l → IsSaid Says (cs ++ c ∷ []) all rest
 said_push Says cs all left rest c l h next says = record {
   front = h.front ++ l ∷ [];
   said = say_push Says cs h.front c l h.said says;
   whole = h.whole ∙ ap (λ z. h.front ++ z) next ∙ sym (append_assoc h.front (l ∷ []) rest);
 }
-
-pub said_end : {C : Type 0} (Says : C → List ℕ → Type 0) (cs : List C) (all left : List (List ℕ)) → IsSaid Says cs all left → left ≡ [] → Say Says cs all
-said_end Says cs all left h end = subst (Say Says cs) (sym (h.whole ∙ ap (λ z. h.front ++ z) end ∙ append-nil h.front)) h.said
 
 pub said_bad : {C : Type 0} (Says : C → List ℕ → Type 0) (cs : List C) (all left rest : List (List ℕ)) (l : List ℕ) (n : ℕ) → IsSaid Says cs all left → left ≡ l ∷ rest → ((c : C) → Says c l → ⊥) → n ≡ length cs + 1 → IsFirstBad Says all n
 said_bad Says cs all left rest l n h next none number = let same = say_length Says cs h.front h.said in record {

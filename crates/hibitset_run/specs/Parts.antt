@@ -11,7 +11,7 @@ use Rattle.hibitset_run.specs.Script.{parts_in}
 pub record MaySplit (part : BitProducer BitSet) : Type 0 where
   pub layers : part.1 < LAYERS
   pub one_mask : PartHasOneMask LAYERS part
-  pub drawn : PartBitsAreFromSet word_of part
+  pub from_set : PartBitsAreFromSet word_of part
   pub below : All (λ i. i < MAX_EID) (part_items has part)
 
 -- into how many parts it is split

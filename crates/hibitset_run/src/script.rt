@@ -120,7 +120,7 @@ pub fn run(
     ensures run { IfOk result (λ replies.
         IsRun commands.now (sets_of sets.old) (map answer_of replies.items) (sets_of sets.new)) }
     ensures err { OnErr result (sets.new ≡ sets.old) }
-    ensures none { commands.now ≡ [] → IsOk result }
+    ensures succeeds_empty { commands.now ≡ [] → IsOk result }
 {
     let mut replies = Vec::with_capacity(alloc, commands.len())?;
     for command in commands {

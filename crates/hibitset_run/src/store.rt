@@ -71,7 +71,7 @@ pub fn run(
         IsRun commands.now (columns_of columns.old) (map answer_of replies.items)
         (columns_of columns.new)) }
     ensures err { OnErr result (columns.new ≡ columns.old) }
-    ensures none { commands.now ≡ [] → IsOk result }
+    ensures succeeds_empty { commands.now ≡ [] → IsOk result }
 {
     let mut replies = Vec::with_capacity(alloc, commands.len())?;
     for command in commands {

@@ -45,10 +45,6 @@ module _ (old new : ℕ → Option ℕ) (i v w : ℕ) where
 pub bits-written : (o : Option ℕ) (word w : ℕ) → o ≡ Some word → (b : ℕ) → bit_is_set (bit_or word w) b ≡ (bit_is_set (or_zero o) b || bit_is_set w b)
 bits-written o word w is b = or_bits word w b ∙ ap (λ x. bit_is_set (or_zero x) b || bit_is_set w b) (sym is)
 
--- the bits of a word that was not
-pub bits-inserted : (o : Option ℕ) (w : ℕ) → o ≡ None → (b : ℕ) → bit_is_set w b ≡ (bit_is_set (or_zero o) b || bit_is_set w b)
-bits-inserted o w none b = sym (ap (λ x. bit_is_set (or_zero x) b || bit_is_set w b) none ∙ ap (λ t. t || bit_is_set w b) (none-set b))
-
 -- ---- a set
 
 module _ (old new : ℕ → Option Chunk) (id w : ℕ) (chunk : Chunk) (put : (c : ℕ) → c < 4096 → new c ≡ (if c == id / 262144 then Some chunk else old c)) (old_past : (c : ℕ) → 4096 ≤ c → old c ≡ None) (new_past : (c : ℕ) → 4096 ≤ c → new c ≡ None) where

@@ -1,12 +1,11 @@
 -- Places in lists that are read side by side, bit by bit from the lowest up.
-use Rattle.std.proofs.Common.{◌≡◌, ℕ, zero, suc, ◌+◌, ◌-◌, ◌^◌, ◌<◌, ◌≤◌, ◌∙◌, arith, inl, inr}
+use Rattle.std.proofs.Common.{◌≡◌, ℕ, zero, suc, ◌+◌, ◌-◌, ◌<◌, ◌≤◌, ◌∙◌, arith, inl, inr}
 use Rattle.std.specs.Prelude.{bit_or}
 use Rattle.std.specs.Int.{bit_at}
-use Rattle.std.specs.Int.RustNames.{count_ones}
 use Rattle.std.proofs.lemmas.Nat.Bits.{bit_at-lt, bit_at_or}
 use Rattle.hibitset_sparse.specs.Rank.{rank_in}
 use Rattle.hibitset_sparse.proofs.AppendLemmas.{TakesLowest, left-above}
-use Rattle.hibitset_sparse.proofs.RankLemmas.{rank-all, rank-more, rank-none}
+use Rattle.hibitset_sparse.proofs.RankLemmas.{rank-more, rank-none}
 use Rattle.hibitset_sparse.proofs.WordLemmas.{bit_cases}
 
 -- the rank stays over bits that are clear
@@ -91,12 +90,3 @@ rank-or v w (suc k) =
     let second = rank-more w k in
     let bit = bit_at_or v w k in
     rw e (omega (arith, lower, both, first, second, bit))
-
--- two words together have no more ones than the two
-pub ones-or : (v w : ℕ) → v < 2 ^ 64 → w < 2 ^ 64 → bit_or v w < 2 ^ 64 → count_ones (bit_or v w) ≤ count_ones v + count_ones w
-ones-or v w fits_v fits_w fits =
-    let all = rank-or v w 64 in
-    let both = rank-all (bit_or v w) fits in
-    let first = rank-all v fits_v in
-    let second = rank-all w fits_w in
-    omega (arith, all, both, first, second)

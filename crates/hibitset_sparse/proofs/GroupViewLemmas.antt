@@ -1,11 +1,9 @@
 -- The words of one group, as those of a set of its own.
-use Rattle.hibitset_sparse.proofs.AppendLemmas.{no-item}
-use Rattle.std.proofs.Common.{◌≡◌, ℕ, suc, ◌+◌, ◌*◌, ◌/◌, ◌%◌, ◌<◌, ◌≤◌, true, false, nat_lt, List, length, Option, Some, None, refl, sym, ◌∙◌, ap, arith, inl, inr}
+use Rattle.std.proofs.Common.{◌≡◌, ℕ, suc, ◌+◌, ◌*◌, ◌/◌, ◌%◌, ◌<◌, ◌≤◌, true, false, nat_lt, List, length, Option, Some, refl, sym, ◌∙◌, ap, arith, inl, inr}
 use Rattle.std.specs.Int.{bit_at}
 use Rattle.std.specs.Prelude.{if◌then◌else◌, option_and_then}
 use Rattle.std.specs.Int.RustNames.{count_ones}
 use Rattle.std.specs.List.{slice_get}
-use Rattle.std.proofs.lemmas.Nat.{ones_le_self}
 use Rattle.hibitset_sparse.specs.Decisions.{lt_no, lt_yes}
 use Rattle.hibitset_sparse.specs.Chunk.{or_zero}
 use Rattle.hibitset_sparse.specs.Layout.{word_or_none, AreLaidOut, value_by_group, value_of_place}
@@ -29,9 +27,6 @@ group-ends group n q g laid small is =
     let all = laid.all in
     omega (arith, starts, step, ones, rest, all)
 
-pub none-ends : (n : ℕ) → 0 + count_ones 0 ≤ n
-none-ends n = let few = ones_le_self 0 in omega (arith, few)
-
 module _ (group : ℕ → Option Group) (xs ys : List ℕ) (q i : ℕ) (low : i < 4096) (same : ys ≡ xs) where
   of-group : (o : Option Group) → group q ≡ o → value_of_place group xs ((4096 * q + i) / 64) ≡ option_and_then (value_by_group xs (i / 64)) o
   of-group o is =
@@ -42,23 +37,6 @@ module _ (group : ℕ → Option Group) (xs ys : List ℕ) (q i : ℕ) (low : i 
 
   last-bit : (4096 * q + i) % 64 ≡ i % 64
   last-bit = omega (arith, low)
-
-  -- the members of a group that has values
-  pub view-some : (g : Group) → group q ≡ Some g
-      → bit_is_set (if nat_lt (i / 64) 64 then or_zero (item_from ys g.start g.word (i / 64)) else 0) (i % 64) ≡ bit_is_set
-      (or_zero (value_of_place group xs ((4096 * q + i) / 64))) ((4096 * q + i) % 64)
-  view-some g is =
-      let yes : nat_lt (i / 64) 64 ≡ true = lt_yes (i / 64) 64 (omega (arith, low)) in
-      rw (yes, last-bit) (ap (λ zs. bit_is_set (or_zero (item_from zs g.start g.word (i / 64))) (i % 64)) same
-      ∙ sym (ap (λ o. bit_is_set (or_zero o) (i % 64)) (of-group (Some g) is)))
-
-  -- and of one that has none
-  pub view-none : group q ≡ None
-      → bit_is_set (if nat_lt (i / 64) 64 then or_zero (item_from ys 0 0 (i / 64)) else 0) (i % 64) ≡ bit_is_set
-      (or_zero (value_of_place group xs ((4096 * q + i) / 64))) ((4096 * q + i) % 64)
-  view-none is =
-      let yes : nat_lt (i / 64) 64 ≡ true = lt_yes (i / 64) 64 (omega (arith, low)) in
-      rw (yes, last-bit) (ap (λ o. bit_is_set (or_zero o) (i % 64)) (no-item ys 0 (i / 64)) ∙ sym (ap (λ o. bit_is_set (or_zero o) (i % 64)) (of-group None is)))
 
 -- What reading a word by its bit gives.
 module _ (items : List ℕ) (start word i : ℕ) where

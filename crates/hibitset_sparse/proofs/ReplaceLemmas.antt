@@ -72,15 +72,6 @@ pub record AreBeingPut (chunks left own : Table Chunk) (before now : ℕ → Boo
   pub unput : (i : ℕ) (chunk : Chunk) → i < 2 ^ 30 → value_at left (i / 262144) ≡ Some chunk → now i ≡ before i
   pub fits : CanTakePlace own left
 
--- none has, at first
-pub none-put : (chunks own : Table Chunk) (before : ℕ → Bool) → CanTakePlace own chunks → AreBeingPut chunks chunks own before before
-none-put chunks own before fits = record {
-  some = λ c low. inr refl;
-  put = λ i low none. sym (ap (λ o. has_in_or o i (before i)) none);
-  unput = λ i chunk low is. refl;
-  fits = fits;
-}
-
 module _ (chunks left next own after : Table Chunk) (before now new : ℕ → Bool) (c : ℕ) (chunk : Chunk)
     (is : AreBeingPut chunks left own before now) (low : c < 4096) (was : value_at left c ≡ Some chunk) (taken : IsPut left next c None) where
   -- the next one can be put in

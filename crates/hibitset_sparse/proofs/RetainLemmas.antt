@@ -409,14 +409,6 @@ module _ {T : Type 0} (leaves : ℕ → T → Option T → Type 0) (root0 : ℕ)
     cut-laid = subst (AreLaidOut (value_from (slice_get (take at list)) root)) (sym (length-take-le to items was.few))
         (laid-same (item_from list 0 root) (value_from (slice_get (take at list)) root) to cut-group was.laid_out)
 
-    pub cut-counted : count_ones root0 ≡ length list0 → length (take at list) ≡ count_ones root
-    cut-counted all =
-        let counted = was.groups.counted in
-        let fewer = was.groups.fewer in
-        let long = was.groups.long in
-        let cut = length-take-le at list (omega (arith, counted, fewer, long, all)) in
-        omega (arith, cut, counted)
-
     pub cut-values : (p : ℕ) → p < 4096 → LeavesOf (leaves p) (value_of_place group0 items0 p) (value_of_place (value_from (slice_get (take at list)) root) (take to items) p)
     cut-values p low =
         let off : bit_at left (p / 64) ≡ 0 = ap (λ w. bit_at w (p / 64)) none ∙ bit_at-zero (p / 64) in

@@ -104,11 +104,6 @@ module _ (old new : ℕ → Option Chunk) (id : ℕ) (chunk : Chunk) (put : (c :
         full c x low (sym here ∙ (sym (put c low) ∙ is))
   ]
 
--- what follows of a result
-pub root-some : {A E : Type 0} (r : Result A E) (new old : ℕ) → OnOk r (0 < new) → OnErr r (new ≡ old) → 0 < old → 0 < new
-root-some (Ok x) new old some same was = some
-root-some (Err e) new old some same was = omega (arith, same, was)
-
 pub root-kept : {A E : Type 0} (r : Result A E) (old new : Chunk) → OnOk r (0 < chunk_word new 2 0) → OnErr r ((l p : ℕ) → l < 3 → chunk_word new l p ≡ chunk_word old l p) → 0 < old.words.groups.word → 0 < new.words.groups.word
 root-kept (Ok x) old new some same was = some
 root-kept (Err e) old new some same was = let is = same 2 0 (omega arith) in omega (arith, is, was)

@@ -18,15 +18,20 @@ impl SparseBitSet {
     ///
     /// # Errors
     ///
-    /// An allocation fails.
+    /// An allocation fails. It can't fail if the other has no member.
     ///
     /// # Cost
     ///
     /// It goes through the words of the other once, and allocates for the chunks of 262,144 indices in which the other
     /// has members.
     pub fn from_set<B: BitSetLike>(alloc: Global, other: &B) -> Result<SparseBitSet, AllocError>
-        ensures { IfOk result (λ set. (i : ℕ) → has set i ≡ is_member (B.holds other.now) i) }
+        ensures members { IfOk result (λ set. (i : ℕ)
+            → has set i ≡ is_member (B.holds other.now) i) }
+        ensures succeeds_empty { members_below MAX_EID (B.holds other.now) ≡ [] → IsOk result }
     {
+        if other.is_empty() {
+            return Ok(SparseBitSet::new(alloc));
+        }
         let chunks = chunks_of(alloc, other)?;
         Ok(SparseBitSet::of_chunks(chunks))
     }
@@ -46,7 +51,7 @@ impl SparseBitSet {
         ensures members { OnOk result (IsUnion (has self.old) (is_member (B.holds other.now))
             (has self.new)) }
         ensures err { OnErr result ((i : ℕ) → has self.new i ≡ has self.old i) }
-        ensures none { members_below MAX_EID (B.holds other.now) ≡ [] → IsOk result }
+        ensures succeeds_empty { members_below MAX_EID (B.holds other.now) ≡ [] → IsOk result }
     {
         if other.is_empty() {
             return Ok(());
@@ -74,7 +79,7 @@ impl SparseBitSet {
         ensures members { OnOk result (IsSymmetricDifference (has self.old)
             (is_member (B.holds other.now)) (has self.new)) }
         ensures err { OnErr result ((i : ℕ) → has self.new i ≡ has self.old i) }
-        ensures none { members_below MAX_EID (B.holds other.now) ≡ [] → IsOk result }
+        ensures succeeds_empty { members_below MAX_EID (B.holds other.now) ≡ [] → IsOk result }
     {
         if other.is_empty() {
             return Ok(());

@@ -15,8 +15,8 @@ ghost use Rattle.hibitset_sparse.specs.declared.chunk.TheConstants.{INDICES_PER_
 use crate::chunk::{Chunk, INDICES_PER_CHUNK};
 use crate::rank::rank;
 use crate::table::{PLACES_PER_TABLE, Table};
-use crate::table_iter::take_first_bit;
 use crate::walk::WordIter;
+use hibitset_base::bits::take_bit;
 use hibitset_base::util::{Index, MAX_EID};
 use std::alloc::{AllocError, Global};
 
@@ -25,7 +25,7 @@ pub(crate) fn count_words(words: &[usize]) -> usize
     requires { length words.now ≤ PLACES_PER_TABLE }
     ensures counted { (base : ℕ) (places : List ℕ) → length places ≡ length words.now
         → result ≡ length (in_words base (zip places words.now)) }
-    ensures few { result ≤ INDICES_PER_CHUNK }
+    ensures max { result ≤ INDICES_PER_CHUNK }
 {
     let mut count = 0;
     'words: for word in words {
@@ -39,7 +39,7 @@ fn count_chunks(chunks: &[Chunk]) -> usize
     requires { length chunks.now ≤ PLACES_PER_TABLE }
     ensures counted { (places : List ℕ) → length places ≡ length chunks.now
         → result ≡ length (in_chunks (zip places chunks.now)) }
-    ensures few { result ≤ INDICES_PER_CHUNK * length chunks.now }
+    ensures max { result ≤ INDICES_PER_CHUNK * length chunks.now }
 {
     let mut count = 0;
     'chunks: for chunk in chunks {
@@ -59,7 +59,7 @@ pub(crate) fn count_members(chunks: &Table<Chunk>) -> usize
 fn count_words_before(words: &Table<usize>, end: usize) -> usize
     requires { end < INDICES_PER_CHUNK }
     ensures rank { result ≡ length (members (has_in_words words.now) 0 end) }
-    ensures few { result ≤ end }
+    ensures max { result ≤ end }
 {
     let place = end / 64;
     let count = count_words(&words.items[..words.rank(place)]);
@@ -86,7 +86,7 @@ pub(crate) fn count_before(chunks: &Table<Chunk>, end: usize) -> usize
 #[inline]
 fn push_all(list: &mut Vec<Index>, first: Index)
     requires within { first + 64 ≤ MAX_EID }
-    requires room { length list.old.items + 64 ≤ vec_capacity list.old }
+    requires capacity { length list.old.items + 64 ≤ vec_capacity list.old }
     ensures pushed { list.new.items ≡ list.old.items ++ bits_from first (2 ^ 64 - 1) }
     ensures capacity { vec_capacity list.new ≡ vec_capacity list.old }
 {
@@ -99,7 +99,7 @@ fn push_all(list: &mut Vec<Index>, first: Index)
 #[inline]
 fn push_bits(list: &mut Vec<Index>, first: usize, word: usize)
     requires within { first + 64 ≤ MAX_EID }
-    requires room { length list.old.items + count_ones word ≤ vec_capacity list.old }
+    requires capacity { length list.old.items + count_ones word ≤ vec_capacity list.old }
     ensures pushed { list.new.items ≡ list.old.items ++ bits_from first word }
     ensures capacity { vec_capacity list.new ≡ vec_capacity list.old }
 {
@@ -108,7 +108,7 @@ fn push_bits(list: &mut Vec<Index>, first: usize, word: usize)
     }
     let mut rest = word;
     'bits: while rest != 0 {
-        list.push_reserved((first + take_first_bit(&mut rest)) as Index);
+        list.push_reserved((first + take_bit(&mut rest)) as Index);
     }
 }
 

@@ -62,10 +62,10 @@ impl Chunk {
     /// if one of the 64 indices that share its word is there.
     pub(crate) fn add(&mut self, i: usize) -> Result<bool, AllocError>
         requires { i < INDICES_PER_CHUNK }
-        ensures was { IfOk result (λ was. was ≡ has_in self.old i) }
+        ensures was_member { IfOk result (λ was. was ≡ has_in self.old i) }
         ensures added { OnOk result ((j : ℕ) → j < INDICES_PER_CHUNK
             → has_in self.new j ≡ (has_in self.old j || j == i)) }
-        ensures some { OnOk result (0 < chunk_word self.new 2 0) }
+        ensures nonempty { OnOk result (0 < chunk_word self.new 2 0) }
         ensures err { OnErr result ((l p : ℕ) → l < 3
             → chunk_word self.new l p ≡ chunk_word self.old l p) }
         ensures succeeds { 0 < chunk_word self.old 0 (i / 64) → IsOk result }
@@ -82,7 +82,7 @@ impl Chunk {
     /// Takes an index out, and returns whether it was there.
     pub(crate) fn remove(&mut self, i: usize) -> bool
         requires { i < INDICES_PER_CHUNK }
-        ensures was { result ≡ has_in self.old i }
+        ensures was_member { result ≡ has_in self.old i }
         ensures removed { (j : ℕ) → j < INDICES_PER_CHUNK
             → has_in self.new j ≡ (has_in self.old j && not (j == i)) }
     {

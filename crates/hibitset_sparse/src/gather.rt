@@ -12,7 +12,6 @@ ghost use Rattle.hibitset_sparse.specs.declared.chunk.Chunk.{Chunk};
 use crate::chunk::Chunk;
 use crate::group::Group;
 use crate::packed_array::PackedArray;
-use crate::rank::take_lowest;
 use crate::table::{GROUPS_PER_TABLE, PLACES_PER_TABLE, Table};
 use hibitset_base::bits::{take_bit, with_bit};
 use hibitset_base::like::BitSetLike;
@@ -33,7 +32,7 @@ fn push_words<S: BitSetLike>(
     let mut places = set.layer1(position);
     let mut bits = 0;
     'places: while places != 0 {
-        let bit = take_lowest(&mut places);
+        let bit = take_bit(&mut places);
         let word = set.layer0(64 * position + bit);
         if word != 0 {
             items.push(word)?;
@@ -95,7 +94,7 @@ pub(crate) fn chunk_of<S: BitSetLike>(alloc: Global, set: &S, c: usize) -> Resul
     groups.reserve(left.count_ones() as usize)?;
     items.reserve(count_places(set, c))?;
     'groups: while left != 0 {
-        let q = take_lowest(&mut left);
+        let q = take_bit(&mut left);
         push_group(&mut groups, &mut items, set, GROUPS_PER_TABLE * c + q, q)?;
     }
     Ok(Chunk {
@@ -137,7 +136,7 @@ fn push_chunks<S: ChunkSource, T: BitSetLike>(
     q: usize,
 ) -> Result<(), AllocError>
     requires group { q < GROUPS_PER_TABLE }
-    requires none { (c : ℕ) → c < PLACES_PER_TABLE → c / 64 ≡ q → value_at chunks.old c ≡ None }
+    requires absent { (c : ℕ) → c < PLACES_PER_TABLE → c / 64 ≡ q → value_at chunks.old c ≡ None }
     ensures is { OnOk result ((c : ℕ) (chunk : Chunk) → c < PLACES_PER_TABLE → c / 64 ≡ q
         → value_at chunks.new c ≡ Some chunk → IsChunkOf (S.holds source.now) c chunk) }
     ensures all { OnOk result ((c : ℕ) → c < PLACES_PER_TABLE → c / 64 ≡ q

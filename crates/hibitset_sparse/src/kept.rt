@@ -160,8 +160,8 @@ fn retain_words<G: GroupChange<usize>>(chunk: &mut Chunk, by: &G) -> bool
         → 0 < w → w < 2 ^ 64 → (v : ℕ) → left ≡ Some v → (0 < v) × (v < 2 ^ 64) }
     ensures words { (p : ℕ) → p < PLACES_PER_TABLE → LeavesOf (G.leaves by.now p)
         (value_at chunk.old.words p) (value_at chunk.new.words p) }
-    ensures some { result ≡ true → 0 < chunk_word chunk.new 2 0 }
-    ensures none { result ≡ false → chunk_word chunk.new 2 0 ≡ 0 }
+    ensures nonempty { result ≡ true → 0 < chunk_word chunk.new 2 0 }
+    ensures empty { result ≡ false → chunk_word chunk.new 2 0 ≡ 0 }
 {
     let alloc = *chunk.words.items.allocator();
     let words = mem::replace(&mut chunk.words, Table::new(alloc));

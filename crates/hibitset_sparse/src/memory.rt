@@ -27,7 +27,7 @@ const MOST_BYTES: usize = 33_792;
 // How many bytes the words of a chunk and their groups take.
 fn chunk_bytes(chunk: &Chunk) -> usize
     ensures bytes { result ≡ bytes_in_chunk chunk.now }
-    ensures few { result ≤ MOST_BYTES }
+    ensures max { result ≤ MOST_BYTES }
 {
     let words = &chunk.words;
     WORD_BYTES * words.items.len() + GROUP_BYTES * words.groups.items.len()
@@ -37,7 +37,7 @@ fn chunk_bytes(chunk: &Chunk) -> usize
 fn all_chunk_bytes(chunks: &[Chunk]) -> usize
     requires { length chunks.now ≤ PLACES_PER_TABLE }
     ensures bytes { result ≡ sum_by bytes_in_chunk chunks.now }
-    ensures few { result ≤ MOST_BYTES * length chunks.now }
+    ensures max { result ≤ MOST_BYTES * length chunks.now }
 {
     let mut bytes = 0;
     'chunks: for chunk in chunks {

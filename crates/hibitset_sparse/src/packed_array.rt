@@ -24,7 +24,7 @@ impl<T: Drop> PackedArray<T> {
     #[inline]
     pub(crate) fn new(alloc: Global) -> PackedArray<T>
         ensures word { result.word ≡ 0 }
-        ensures none { (bit : ℕ) → value_in result bit ≡ None }
+        ensures empty { (bit : ℕ) → value_in result bit ≡ None }
     {
         PackedArray {
             word: 0,
@@ -75,7 +75,7 @@ impl<T: Drop> PackedArray<T> {
     #[inline]
     pub(crate) fn push(&mut self, bit: usize, value: T) -> Result<(), AllocError>
         requires bit { bit < 64 }
-        requires last { (b : ℕ) → bit ≤ b → b < 64 → bit_at self.old.word b ≡ 0 }
+        requires none_above { (b : ℕ) → bit ≤ b → b < 64 → bit_at self.old.word b ≡ 0 }
         ensures put { OnOk result ((b : ℕ) → b < 64
             → value_in self.new b ≡ (if b == bit then Some value else value_in self.old b)) }
     {
@@ -88,7 +88,7 @@ impl<T: Drop> PackedArray<T> {
     pub(crate) fn remove(&mut self, bit: usize) -> T
         requires bit { bit < 64 }
         requires taken { bit_is_set self.old.word bit ≡ true }
-        ensures was { value_in self.old bit ≡ Some result }
+        ensures old_value { value_in self.old bit ≡ Some result }
         ensures put { (b : ℕ) → b < 64
             → value_in self.new b ≡ (if b == bit then None else value_in self.old b) }
         ensures word { (b : ℕ) → b < 64

@@ -22,7 +22,7 @@ impl SparseBitSet {
         ensures added { OnOk result ((i : ℕ)
             → has self.new i ≡ (has self.old i || in_range start end i)) }
         ensures err { OnErr result ((i : ℕ) → has self.new i ≡ has self.old i) }
-        ensures none { end ≤ start → IsOk result }
+        ensures succeeds_empty { end ≤ start → IsOk result }
     {
         if start >= end {
             return Ok(());
@@ -48,7 +48,7 @@ impl SparseBitSet {
         ensures flipped { OnOk result ((i : ℕ)
             → has self.new i ≡ differ (has self.old i) (in_range start end i)) }
         ensures err { OnErr result ((i : ℕ) → has self.new i ≡ has self.old i) }
-        ensures none { end ≤ start → IsOk result }
+        ensures succeeds_empty { end ≤ start → IsOk result }
     {
         if start >= end {
             return Ok(());

@@ -11,16 +11,16 @@ ghost use Rattle.hibitset_sparse.specs.Table.{HasCapacityFor, HasValue, group_wo
 ghost use Rattle.hibitset_sparse.specs.declared.chunk.TheConstants.{INDICES_PER_CHUNK};
 
 use crate::chunk::Chunk;
-use crate::rank::take_lowest;
 use crate::set::SparseBitSet;
 use crate::table::{GROUPS_PER_TABLE, PLACES_PER_TABLE, Table};
+use hibitset_base::bits::take_bit;
 use std::alloc::AllocError;
 use std::mem;
 
 // Takes the chunk of a place out, and leaves an empty one there.
 fn take_chunk(chunks: &mut Table<Chunk>, c: usize) -> Option<Chunk>
     requires { c < PLACES_PER_TABLE }
-    ensures was { result ≡ value_at chunks.old c }
+    ensures old_value { result ≡ value_at chunks.old c }
     ensures others { (d : ℕ) → d < PLACES_PER_TABLE → d ≢ c
         → value_at chunks.new d ≡ value_at chunks.old d }
     ensures words { HaveSameWords chunks.old chunks.new }
@@ -52,8 +52,8 @@ fn join_group(
     q: usize,
 )
     requires group { q < GROUPS_PER_TABLE }
-    requires none { (c : ℕ) → c < PLACES_PER_TABLE → c / 64 ≡ q → value_at table.old c ≡ None }
-    requires room { HasCapacityFor (count_ones (group_word first.old q)
+    requires absent { (c : ℕ) → c < PLACES_PER_TABLE → c / 64 ≡ q → value_at table.old c ≡ None }
+    requires capacity { HasCapacityFor (count_ones (group_word first.old q)
         + count_ones (group_word second.old q)) table.old }
     ensures joined { (c : ℕ) → c < PLACES_PER_TABLE → c / 64 ≡ q → value_at table.new c
         ≡ later (value_at first.old c) (value_at second.old c) }
@@ -67,7 +67,7 @@ fn join_group(
 {
     let mut places = first.word(q) | second.word(q);
     'places: while places != 0 {
-        let c = 64 * q + take_lowest(&mut places);
+        let c = 64 * q + take_bit(&mut places);
         let before = take_chunk(first, c);
         let after = take_chunk(second, c);
         if let Some(chunk) = later_chunk(before, after) {
@@ -79,8 +79,8 @@ fn join_group(
 // The chunks of two tables, put into a table that has none, in one ascending pass. Where both have one it is that of
 // the second, and an empty one of the second is left out.
 fn join_tables(empty: Table<Chunk>, first: Table<Chunk>, second: Table<Chunk>) -> Table<Chunk>
-    requires none { (c : ℕ) → value_at empty c ≡ None }
-    requires room { HasCapacityFor (length first.items.items + length second.items.items) empty }
+    requires empty { (c : ℕ) → value_at empty c ≡ None }
+    requires capacity { HasCapacityFor (length first.items.items + length second.items.items) empty }
     ensures { (c : ℕ) → c < PLACES_PER_TABLE
         → value_at result c ≡ later (value_at first c) (value_at second c) }
 {
@@ -96,8 +96,8 @@ fn join_tables(empty: Table<Chunk>, first: Table<Chunk>, second: Table<Chunk>) -
 impl SparseBitSet {
     // Puts a chunk in the place of the set's own. An empty one is not kept.
     fn replace_chunk(&mut self, c: usize, chunk: Chunk)
-        requires place { c < PLACES_PER_TABLE }
-        requires there { 0 < chunk_word chunk 2 0 → HasValue self.old.chunks c }
+        requires in_range { c < PLACES_PER_TABLE }
+        requires has_value { 0 < chunk_word chunk 2 0 → HasValue self.old.chunks c }
         ensures members { (i : ℕ) → i < MAX_EID → has self.new i ≡ (if i / INDICES_PER_CHUNK == c
             then has_in chunk (i % INDICES_PER_CHUNK) else has self.old i) }
         ensures others { (d : ℕ) → d < PLACES_PER_TABLE → d ≢ c

@@ -7,9 +7,9 @@ ghost use Rattle.hibitset_sparse.specs.declared.table.TheConstants.{GROUPS_PER_T
 
 use crate::group::Group;
 use crate::packed_array::PackedArray;
-use crate::rank::{rank, take_lowest};
+use crate::rank::rank;
 use crate::table::{GROUPS_PER_TABLE, PLACES_PER_TABLE, Table};
-use hibitset_base::bits::with_bit;
+use hibitset_base::bits::{take_bit, with_bit};
 
 /// What becomes of the values of a table, one by one.
 pub(crate) trait Change<T>: Drop {
@@ -25,7 +25,7 @@ pub(crate) trait Change<T>: Drop {
     /// Changes the value of place i, and returns whether it stays.
     fn change(&self, i: usize, value: &mut T) -> bool
         requires { i < PLACES_PER_TABLE }
-        ensures stays { result ≡ true → leaves self.now i value.old (Some value.new) }
+        ensures leaves { result ≡ true → leaves self.now i value.old (Some value.new) }
         ensures goes { result ≡ false → leaves self.now i value.old None };
 }
 
@@ -49,7 +49,7 @@ pub(crate) fn retain_group<T: Drop, C: Change<T>>(
     let mut at = to;
     let mut kept = 0;
     'places: while left != 0 {
-        let bit = take_lowest(&mut left);
+        let bit = take_bit(&mut left);
         let here = group.start + rank(group.word, bit);
         if by.change(64 * q + bit, &mut items[here]) {
             items.swap(at, here);
@@ -97,7 +97,7 @@ impl<T: Drop> Table<T> {
         let mut at = 0;
         let mut to = 0;
         'groups: while left != 0 {
-            let q = take_lowest(&mut left);
+            let q = take_bit(&mut left);
             let group = list[rank(before, q)];
             let word = by.retain_group(&mut items, q, group, to);
             if word != 0 {

@@ -50,7 +50,7 @@ impl SparseBitSet {
     /// member.
     pub fn add(&mut self, id: Index) -> Result<bool, AllocError>
         requires { id < MAX_EID }
-        ensures was { IfOk result (λ was. was ≡ has self.old id) }
+        ensures was_member { IfOk result (λ was. was ≡ has self.old id) }
         ensures added { OnOk result ((i : ℕ) → has self.new i ≡ (has self.old i || i == id)) }
         ensures err { OnErr result ((i : ℕ) → has self.new i ≡ has self.old i) }
         ensures succeeds { 0 < word_of self.old 0 (id / 64) → IsOk result }
@@ -67,7 +67,7 @@ impl SparseBitSet {
 
     /// Takes an index out, and returns whether it was there.
     pub fn remove(&mut self, id: Index) -> bool
-        ensures was { result ≡ has self.old id }
+        ensures was_member { result ≡ has self.old id }
         ensures removed { (i : ℕ) → has self.new i ≡ (has self.old i && not (i == id)) }
     {
         let id = id as usize;

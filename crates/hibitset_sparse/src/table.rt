@@ -8,8 +8,8 @@ ghost use Rattle.std.specs.Int.{bit_at};
 
 use crate::group::Group;
 use crate::packed_array::PackedArray;
-use crate::rank::{is_set, rank, take_lowest};
-use hibitset_base::bits::{last_bit, with_bit};
+use crate::rank::{is_set, rank};
+use hibitset_base::bits::{last_bit, take_bit, with_bit};
 use std::alloc::{AllocError, Global};
 
 /// How many places a table has.
@@ -29,6 +29,7 @@ pub(crate) struct Table<T: Drop> {
 }
 
 // Moves the starts of the groups from one on up by one place.
+#[inline]
 fn move_up(groups: &mut Vec<Group>, from: usize)
     requires { CanMoveUp groups.old.items }
     ensures moved { AreMovedUp from groups.old.items groups.new.items }
@@ -42,6 +43,7 @@ fn move_up(groups: &mut Vec<Group>, from: usize)
 
 // Gives group q one place more, at `bit`, and moves no other. If it is new, it begins at `start`. If an allocation
 // fails, nothing changes.
+#[inline]
 fn set_place(
     groups: &mut PackedArray<Group>,
     q: usize,
@@ -71,6 +73,7 @@ fn set_place(
 
 // Gives group q one place more, at `bit`, and moves the groups after it up. If it is new, it begins at `start`. If an
 // allocation fails, nothing changes.
+#[inline]
 fn widen(
     groups: &mut PackedArray<Group>,
     q: usize,
@@ -81,7 +84,7 @@ fn widen(
     requires bit { bit < 64 }
     requires free { bit_at (word_or_none (value_in groups.old q)) bit ≡ 0 }
     requires starts { (g : Group) → value_in groups.old q ≡ Some g → g.start ≡ start }
-    requires room { HaveRoom (value_in groups.old) }
+    requires have_room { HaveRoom (value_in groups.old) }
     requires fits { start + 1 < 2 ^ 64 }
     ensures wider { OnOk result (IsWider q bit start (value_in groups.old) (value_in groups.new)) }
     ensures err { OnErr result ((groups.new.word ≡ groups.old.word)
@@ -111,7 +114,7 @@ fn narrow(groups: &mut PackedArray<Group>, q: usize, bit: usize)
     requires group { q < 64 }
     requires bit { bit < 64 }
     requires on { bit_at (word_or_none (value_in groups.old q)) bit ≡ 1 }
-    requires room { (p : ℕ) (g : Group) → q < p → p < 64 → value_in groups.old p ≡ Some g → 0 < g.start }
+    requires can_lower { (p : ℕ) (g : Group) → q < p → p < 64 → value_in groups.old p ≡ Some g → 0 < g.start }
     ensures narrower { IsNarrower q bit (value_in groups.old) (value_in groups.new) }
     ensures capacity { (n : ℕ) → HasRoomFor n groups.old → HasRoomFor n groups.new }
 {
@@ -128,9 +131,10 @@ fn narrow(groups: &mut PackedArray<Group>, q: usize, bit: usize)
 }
 
 // Puts a value at a place of a list that has room for it.
+#[inline]
 fn put<T: Drop>(items: &mut Vec<T>, at: usize, value: T)
     requires within { at ≤ length items.old.items }
-    requires room { vec_len items.old < vec_capacity items.old }
+    requires capacity { vec_len items.old < vec_capacity items.old }
     ensures put { items.new.items ≡ insert items.old.items at value }
     ensures length { length items.new.items ≡ length items.old.items + 1 }
     ensures capacity { vec_capacity items.new ≡ vec_capacity items.old }
@@ -168,10 +172,10 @@ impl<T: Drop> Table<T> {
     #[inline]
     pub(crate) fn position(&self, i: usize) -> Option<usize>
         requires { i < PLACES_PER_TABLE }
-        ensures none { IfNone result (value_at self.now i ≡ None) }
-        ensures some { IfSome result (λ at. (at < length self.now.items.items)
+        ensures absent { IfNone result (value_at self.now i ≡ None) }
+        ensures found { IfSome result (λ at. (at < length self.now.items.items)
             × (value_at self.now i ≡ slice_get self.now.items.items at)) }
-        ensures place { IfSome result (IsPlace (value_in self.now.groups) i) }
+        ensures is_place { IfSome result (IsPlace (value_in self.now.groups) i) }
     {
         let group = self.groups.get(i / 64)?;
         if !is_set(group.word, i % 64) {
@@ -194,8 +198,8 @@ impl<T: Drop> Table<T> {
     /// Writes a value over that of a place, which lies at this position.
     #[inline]
     pub(crate) fn write(&mut self, i: usize, at: usize, value: T)
-        requires place { i < PLACES_PER_TABLE }
-        requires there { at < length self.old.items.items }
+        requires in_range { i < PLACES_PER_TABLE }
+        requires in_length { at < length self.old.items.items }
         requires of { IsPlace (value_in self.old.groups) i at }
         ensures put { (j : ℕ) → j < PLACES_PER_TABLE
             → value_at self.new j ≡ (if j == i then Some value else value_at self.old j) }
@@ -207,9 +211,10 @@ impl<T: Drop> Table<T> {
     }
 
     // Where the values of a group begin that has none yet.
+    #[inline]
     fn start_of_new(&self, q: usize) -> usize
         requires group { q < 64 }
-        requires none { value_in self.now.groups q ≡ None }
+        requires absent { value_in self.now.groups q ≡ None }
         ensures { result ≡ values_before (value_in self.now.groups) q }
     {
         let above = self.groups.word >> q;
@@ -223,6 +228,7 @@ impl<T: Drop> Table<T> {
     }
 
     // Where the values of a group begin.
+    #[inline]
     fn start(&self, q: usize) -> usize
         requires { q < 64 }
         ensures { result ≡ values_before (value_in self.now.groups) q }
@@ -250,7 +256,7 @@ impl<T: Drop> Table<T> {
     {
         let mut left = other.groups.word;
         'groups: while left != 0 {
-            let q = take_lowest(&mut left);
+            let q = take_bit(&mut left);
             let word = self.word(q);
             if other.word(q) | word != word {
                 return false;
@@ -270,7 +276,7 @@ impl<T: Drop> Table<T> {
 
     /// Gives a value to a place that has none. If an allocation fails, nothing changes.
     pub(crate) fn insert(&mut self, i: usize, value: T) -> Result<(), AllocError>
-        requires place { i < PLACES_PER_TABLE }
+        requires in_range { i < PLACES_PER_TABLE }
         requires free { value_at self.old i ≡ None }
         ensures put { OnOk result ((j : ℕ) → j < PLACES_PER_TABLE
             → value_at self.new j ≡ (if j == i then Some value else value_at self.old j)) }
@@ -280,9 +286,9 @@ impl<T: Drop> Table<T> {
     {
         let q = i / 64;
         let bit = i % 64;
+        self.items.reserve(1)?;
         let start = self.start(q);
         let at = start + rank(self.word(q), bit);
-        self.items.reserve(1)?;
         widen(&mut self.groups, q, bit, start)?;
         put(&mut self.items, at, value);
         Ok(())
@@ -290,8 +296,8 @@ impl<T: Drop> Table<T> {
 
     /// Takes the value of a place out.
     pub(crate) fn remove(&mut self, i: usize) -> Option<T>
-        requires place { i < PLACES_PER_TABLE }
-        ensures was { result ≡ value_at self.old i }
+        requires in_range { i < PLACES_PER_TABLE }
+        ensures old_value { result ≡ value_at self.old i }
         ensures put { (j : ℕ) → j < PLACES_PER_TABLE
             → value_at self.new j ≡ (if j == i then None else value_at self.old j) }
         ensures length { IfSome result (λ _. length self.old.items.items
@@ -305,9 +311,9 @@ impl<T: Drop> Table<T> {
 
     /// Takes the value of the last place that has one out, and returns it with its place.
     pub(crate) fn pop(&mut self) -> Option<(usize, T)>
-        ensures none { IfNone result ((i : ℕ) → i < PLACES_PER_TABLE → value_at self.old i ≡ None) }
-        ensures place { IfSome result (λ last. last.0 < PLACES_PER_TABLE) }
-        ensures was { IfSome result (λ last. value_at self.old last.0 ≡ Some last.1) }
+        ensures empty { IfNone result ((i : ℕ) → i < PLACES_PER_TABLE → value_at self.old i ≡ None) }
+        ensures in_range { IfSome result (λ last. last.0 < PLACES_PER_TABLE) }
+        ensures old_value { IfSome result (λ last. value_at self.old last.0 ≡ Some last.1) }
         ensures put { IfSome result (λ last. (j : ℕ) → j < PLACES_PER_TABLE
             → value_at self.new j ≡ (if j == last.0 then None else value_at self.old j)) }
         ensures length { IfSome result (λ last. length self.old.items.items

@@ -5,20 +5,7 @@ ghost use Rattle.hibitset_sparse.specs.declared.table.TheConstants.{PLACES_PER_T
 
 use crate::group::Group;
 use crate::table::{PLACES_PER_TABLE, Table};
-
-/// Takes the lowest bit out of a word, and returns its number.
-#[inline]
-pub(crate) fn take_first_bit(word: &mut usize) -> usize
-    requires { 0 < word.old }
-    ensures below { result < 64 }
-    ensures first { (start : ℕ) → bits_from start word.old
-        ≡ (start + result) ∷ bits_from start word.new }
-    ensures less { word.new < word.old }
-{
-    let bit = word.trailing_zeros();
-    *word &= *word - 1;
-    bit as usize
-}
+use hibitset_base::bits::take_bit;
 
 /// A walk over the places of a table that have a value, in ascending order, each with its value.
 ///
@@ -76,7 +63,7 @@ impl<'a, T> TableIter<'a, T> {
     pub(crate) fn next(&mut self) -> Option<(usize, &'a T)>
         ensures steps { YieldsFirstBy (λ entry. (entry.0, entry.1.now)) entries_left
             self.old result self.new }
-        ensures place { IfSome result (λ entry. entry.0 < PLACES_PER_TABLE) }
+        ensures in_range { IfSome result (λ entry. entry.0 < PLACES_PER_TABLE) }
     {
         let Some((item, items)) = self.items.split_first() else {
             return None;
@@ -88,12 +75,12 @@ impl<'a, T> TableIter<'a, T> {
             let Some((group, groups)) = self.groups.split_first() else {
                 return None;
             };
-            self.first = 64 * take_first_bit(&mut self.root);
+            self.first = 64 * take_bit(&mut self.root);
             self.word = group.word;
             self.groups = groups;
         }
         self.items = items;
-        let place = self.first + take_first_bit(&mut self.word);
+        let place = self.first + take_bit(&mut self.word);
         Some((place, item))
     }
 }

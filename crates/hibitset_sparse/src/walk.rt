@@ -9,7 +9,8 @@ ghost use Rattle.hibitset_sparse.specs.declared.chunk.TheConstants.{INDICES_PER_
 
 use crate::chunk::{Chunk, INDICES_PER_CHUNK};
 use crate::table::Table;
-use crate::table_iter::{TableIter, take_first_bit};
+use crate::table_iter::TableIter;
+use hibitset_base::bits::take_bit;
 use hibitset_base::util::{Index, MAX_EID};
 use std::alloc::{AllocError, Global};
 
@@ -120,7 +121,7 @@ impl<'a> Iterator for SparseIter<'a> {
             self.first = first;
             self.word = word;
         }
-        let index = self.first + take_first_bit(&mut self.word);
+        let index = self.first + take_bit(&mut self.word);
         Some(index as Index)
     }
 }

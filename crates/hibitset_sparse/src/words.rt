@@ -17,10 +17,10 @@ impl Chunk {
     // the words stay.
     fn add_bits(&mut self, i: usize, bits: usize) -> Result<(), AllocError>
         requires index { i < INDICES_PER_CHUNK }
-        requires some { 0 < bits }
+        requires nonzero { 0 < bits }
         ensures added { OnOk result ((j : ℕ) → j < INDICES_PER_CHUNK
             → has_in self.new j ≡ (has_in self.old j || is_in_word i bits j)) }
-        ensures some { OnOk result (0 < chunk_word self.new 2 0) }
+        ensures nonempty { OnOk result (0 < chunk_word self.new 2 0) }
         ensures err { OnErr result ((l p : ℕ) → l < 3
             → chunk_word self.new l p ≡ chunk_word self.old l p) }
     {
@@ -39,7 +39,7 @@ impl SparseBitSet {
     // the members stay.
     fn add_bits(&mut self, id: usize, bits: usize) -> Result<(), AllocError>
         requires index { id < MAX_EID }
-        requires some { 0 < bits }
+        requires nonzero { 0 < bits }
         ensures added { OnOk result ((i : ℕ)
             → has self.new i ≡ (has self.old i || is_in_word id bits i)) }
         ensures err { OnErr result ((i : ℕ) → has self.new i ≡ has self.old i) }

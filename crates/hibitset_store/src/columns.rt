@@ -58,7 +58,7 @@ impl<V: Drop> Column<V> {
     #[inline]
     pub fn mask(&self) -> &BitSet
         ensures keys { (i : ℕ) → has result.now i ≡ is_some (value_of self.now i) }
-        ensures within { (i : ℕ) → MAX_EID ≤ i → value_of self.now i ≡ None }
+        ensures in_range { (i : ℕ) → MAX_EID ≤ i → value_of self.now i ≡ None }
         ensures words { slice_len result.now 0 ≡ words_len self.now }
     {
         &self.mask
@@ -122,19 +122,19 @@ impl<V: Drop> Column<V> {
     #[inline]
     pub fn insert(&mut self, id: Index, value: V) -> Result<Option<V>, V>
         requires { id < MAX_EID }
-        ensures was { IfOk result (λ was. was ≡ value_of self.old id) }
+        ensures old_value { IfOk result (λ was. was ≡ value_of self.old id) }
         ensures inserted { OnOk result (IsWith (value_of self.old) id (Some value)
             (value_of self.new)) }
         ensures value_returned { IfErr result (λ back. back ≡ value) }
         ensures err { OnErr result ((i : ℕ) → value_of self.new i ≡ value_of self.old i) }
         ensures succeeds { IsSome (value_of self.old id) → IsOk result }
-        ensures ready { HasRoom self.old id → IsOk result }
-        ensures unused { HasRoom self.old id → KeepsRoom self.old self.new }
-        ensures over { IsSome (value_of self.old id) → KeepsRoom self.old self.new }
-        ensures made { OnOk result (HasRoom self.new id) }
-        ensures most { MakesRoom id self.old self.new }
+        ensures succeeds_with_room { HasRoom self.old id → IsOk result }
+        ensures keeps_room { HasRoom self.old id → KeepsRoom self.old self.new }
+        ensures keeps_room_at_value { IsSome (value_of self.old id) → KeepsRoom self.old self.new }
+        ensures has_room { OnOk result (HasRoom self.new id) }
+        ensures makes_room { MakesRoom id self.old self.new }
         ensures list { list_len self.new ≤ MAX_SLOTS_PER_MADE_SLOT * (PAGE * made_pages self.new) }
-        ensures stays { OnErr result (words_len self.new ≡ words_len self.old) }
+        ensures err_len { OnErr result (words_len self.new ≡ words_len self.old) }
     {
         if self.mask.contains(id) {
             return Ok(self.write_over(id, value));
@@ -147,9 +147,9 @@ impl<V: Drop> Column<V> {
     #[inline]
     fn write_over(&mut self, id: Index, value: V) -> Option<V>
         requires { is_some (value_of self.old id) ≡ true }
-        ensures was { result ≡ value_of self.old id }
+        ensures old_value { result ≡ value_of self.old id }
         ensures inserted { IsWith (value_of self.old) id (Some value) (value_of self.new) }
-        ensures keeps { KeepsRoom self.old self.new }
+        ensures keeps_room { KeepsRoom self.old self.new }
     {
         let slot = self.pages.slot_of_key(id);
         self.pages.swap_value(slot, Some(value))
@@ -159,17 +159,17 @@ impl<V: Drop> Column<V> {
     // changed.
     #[inline]
     fn insert_new(&mut self, id: Index, value: V) -> Result<(), V>
-        requires below { id < MAX_EID }
-        requires none { value_of self.old id ≡ None }
+        requires in_range { id < MAX_EID }
+        requires absent { value_of self.old id ≡ None }
         ensures inserted { OnOk result (IsWith (value_of self.old) id (Some value)
             (value_of self.new)) }
         ensures value_returned { IfErr result (λ back. back ≡ value) }
         ensures err { OnErr result ((i : ℕ) → value_of self.new i ≡ value_of self.old i) }
-        ensures ready { HasRoom self.old id → IsOk result }
-        ensures unused { HasRoom self.old id → KeepsRoom self.old self.new }
-        ensures made { OnOk result (HasRoom self.new id) }
-        ensures most { MakesRoom id self.old self.new }
-        ensures stays { OnErr result (words_len self.new ≡ words_len self.old) }
+        ensures succeeds_with_room { HasRoom self.old id → IsOk result }
+        ensures keeps_room { HasRoom self.old id → KeepsRoom self.old self.new }
+        ensures has_room { OnOk result (HasRoom self.new id) }
+        ensures makes_room { MakesRoom id self.old self.new }
+        ensures err_len { OnErr result (words_len self.new ≡ words_len self.old) }
     {
         let Ok(slot) = self.pages.make_slot(id, &self.mask) else {
             return Err(value);
@@ -185,10 +185,10 @@ impl<V: Drop> Column<V> {
     /// Takes the value of an index out. The column keeps its capacity.
     #[inline]
     pub fn remove(&mut self, id: Index) -> Option<V>
-        ensures was { result ≡ value_of self.old id }
+        ensures old_value { result ≡ value_of self.old id }
         ensures removed { IsWith (value_of self.old) id None (value_of self.new) }
-        ensures keeps { KeepsRoom self.old self.new }
-        ensures room { IsSome result → HasRoom self.new id }
+        ensures keeps_room { KeepsRoom self.old self.new }
+        ensures has_room { IsSome result → HasRoom self.new id }
     {
         let slot = self.pages.slot(id);
         if !self.mask.remove(id) {

@@ -15,7 +15,7 @@ use hibitset::laws::laws;
 /// four words of each mask for every key of the smaller column, and the top.
 pub fn join<'a, V: Drop, W: Drop>(a: &'a Column<V>, b: &'a Column<W>) -> Join<'a, V, W>
     ensures pairs { pairs_left result ≡ join_of (value_of a.now) (value_of b.now) }
-    ensures begun { reads_of result ≡ 1 }
+    ensures read { reads_of result ≡ 1 }
     ensures bound { reads_in_all result
         ≤ (LAYERS - 1) * min (length (keys_of (value_of a.now))) (length (keys_of (value_of b.now)))
         + 1 }
@@ -46,7 +46,7 @@ pub fn join_masked<'a, V: Drop, W: Drop, M: BitSetLike>(
 ) -> JoinMasked<'a, V, W, M>
     ensures pairs { masked_left M.holds result
         ≡ joined_within (value_of a.now) (value_of b.now) (M.holds m) }
-    ensures begun { masked_reads_of result ≡ 1 }
+    ensures read { masked_reads_of result ≡ 1 }
     ensures bound { masked_reads_in_all M.word result
         ≤ (LAYERS - 1) * min (length (keys_of (value_of a.now))) (length (keys_of (value_of b.now)))
         + 1 }
@@ -67,7 +67,7 @@ impl<V: Drop> Column<V> {
     /// mask for every key, and the top.
     pub fn iter(&self) -> Iter<'_, V>
         ensures entries { entries_left result ≡ entries_of (value_of self.now) }
-        ensures begun { iter_reads_of result ≡ 1 }
+        ensures read { iter_reads_of result ≡ 1 }
         ensures bound { iter_reads_in_all result
             ≤ (LAYERS - 1) * length (keys_of (value_of self.now)) + 1 }
         ensures runs { EveryRun (IterSteps {V = V})
@@ -84,7 +84,7 @@ impl<V: Drop> Column<V> {
     /// As the function `join`, of this column and another.
     pub fn join<'a, W: Drop>(&'a self, other: &'a Column<W>) -> Join<'a, V, W>
         ensures pairs { pairs_left result ≡ join_of (value_of self.now) (value_of other.now) }
-        ensures begun { reads_of result ≡ 1 }
+        ensures read { reads_of result ≡ 1 }
         ensures bound { reads_in_all result
             ≤ (LAYERS - 1) * min (length (keys_of (value_of self.now)))
             (length (keys_of (value_of other.now))) + 1 }
@@ -103,7 +103,7 @@ impl<V: Drop> Column<V> {
     ) -> JoinMasked<'a, V, W, M>
         ensures pairs { masked_left M.holds result
             ≡ joined_within (value_of self.now) (value_of other.now) (M.holds m) }
-        ensures begun { masked_reads_of result ≡ 1 }
+        ensures read { masked_reads_of result ≡ 1 }
         ensures bound { masked_reads_in_all M.word result
             ≤ (LAYERS - 1) * min (length (keys_of (value_of self.now)))
             (length (keys_of (value_of other.now))) + 1 }

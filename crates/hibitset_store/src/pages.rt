@@ -86,7 +86,7 @@ impl<V: Drop> Pages<V> {
     #[inline]
     pub(crate) fn slot_of_key(&self, id: Index) -> usize
         requires laid_out { PageTableInvariant self.now }
-        requires some { is_some (value_at self.now id) ≡ true }
+        requires has_value { is_some (value_at self.now id) ≡ true }
         ensures { result ≡ slot_of self.now id }
     {
         let id = id as usize;
@@ -101,7 +101,7 @@ impl<V: Drop> Pages<V> {
     #[inline]
     pub(crate) fn value(&self, id: Index) -> &V
         requires laid_out { PageTableInvariant self.now }
-        requires some { is_some (value_at self.now id) ≡ true }
+        requires has_value { is_some (value_at self.now id) ≡ true }
         ensures { value_at self.now id ≡ Some result.now }
     {
         unwrap_present(&self.slots[self.slot_of_key(id)])
@@ -126,8 +126,8 @@ impl<V: Drop> Pages<V> {
     #[inline]
     pub(crate) fn swap_value(&mut self, slot: usize, value: Option<V>) -> Option<V>
         requires laid_out { PageTableInvariant self.old }
-        requires there { slot < slot_count self.old }
-        ensures was { result ≡ value_in self.old.slots.items slot }
+        requires in_range { slot < slot_count self.old }
+        ensures old_value { result ≡ value_in self.old.slots.items slot }
         ensures put { (id : ℕ) → slot ≡ slot_of self.old id → (i : ℕ)
             → value_at self.new i ≡ (if i == id then value else value_at self.old i) }
         ensures many { AreAsMany self.old self.new }
@@ -141,18 +141,18 @@ impl<V: Drop> Pages<V> {
     pub(crate) fn make_slot(&mut self, id: Index, keys: &BitSet) -> Result<usize, AllocError>
         requires laid_out { PageTableInvariant self.old }
         requires keys { Covers keys.now self.old }
-        requires below { id < MAX_EID }
+        requires in_range { id < MAX_EID }
         ensures slot { IfOk result (λ slot. slot ≡ slot_of self.new id) }
-        ensures there { OnOk result (HasSlot self.new id) }
+        ensures has_slot { OnOk result (HasSlot self.new id) }
         ensures made { OnOk result (slots_in self.new (id / PAGE) ≡ PAGE) }
         ensures same { (i : ℕ) → value_at self.new i ≡ value_at self.old i }
         ensures laid_out { PageTableInvariant self.new }
-        ensures stays { OnErr result ((p : ℕ) → slots_in self.new p ≡ slots_in self.old p) }
+        ensures err { OnErr result ((p : ℕ) → slots_in self.new p ≡ slots_in self.old p) }
         ensures others { (p : ℕ) → p ≢ id / PAGE → slots_in self.new p ≡ slots_in self.old p }
         ensures succeeds { slots_in self.old (id / PAGE) ≡ PAGE → IsOk result }
-        ensures unused { slots_in self.old (id / PAGE) ≡ PAGE → AreAsMany self.old self.new }
-        ensures keeps { vec_len self.old.starts ≤ vec_len self.new.starts }
-        ensures most { vec_len self.new.starts ≤ max (vec_len self.old.starts) (id / PAGE + 1) }
+        ensures keeps_slots { slots_in self.old (id / PAGE) ≡ PAGE → AreAsMany self.old self.new }
+        ensures len_min { vec_len self.old.starts ≤ vec_len self.new.starts }
+        ensures len_max { vec_len self.new.starts ≤ max (vec_len self.old.starts) (id / PAGE + 1) }
     {
         let page = id as usize / PAGE;
         if self.page_start(page) == NO_PAGE {
@@ -167,15 +167,15 @@ impl<V: Drop> Pages<V> {
     fn make_page(&mut self, page: usize, keys: &BitSet) -> Result<(), AllocError>
         requires laid_out { PageTableInvariant self.old }
         requires keys { Covers keys.now self.old }
-        requires below { page < MAX_EID / PAGE }
-        requires none { start_in self.old.starts.items page ≡ NO_PAGE }
+        requires in_range { page < MAX_EID / PAGE }
+        requires no_page { start_in self.old.starts.items page ≡ NO_PAGE }
         ensures same { (i : ℕ) → value_at self.new i ≡ value_at self.old i }
         ensures laid_out { PageTableInvariant self.new }
         ensures made { OnOk result (slots_in self.new page ≡ PAGE) }
-        ensures stays { OnErr result ((p : ℕ) → slots_in self.new p ≡ slots_in self.old p) }
+        ensures err { OnErr result ((p : ℕ) → slots_in self.new p ≡ slots_in self.old p) }
         ensures others { (p : ℕ) → p ≢ page → slots_in self.new p ≡ slots_in self.old p }
-        ensures keeps { vec_len self.old.starts ≤ vec_len self.new.starts }
-        ensures most { vec_len self.new.starts ≤ max (vec_len self.old.starts) (page + 1) }
+        ensures len_min { vec_len self.old.starts ≤ vec_len self.new.starts }
+        ensures len_max { vec_len self.new.starts ≤ max (vec_len self.old.starts) (page + 1) }
     {
         self.lengthen(page)?;
         self.add_page(page, keys)
@@ -184,14 +184,14 @@ impl<V: Drop> Pages<V> {
     // Makes the table go as far as a page, and makes no page. Refused, it changes nothing.
     fn lengthen(&mut self, page: usize) -> Result<(), AllocError>
         requires laid_out { PageTableInvariant self.old }
-        requires below { page < MAX_EID / PAGE }
+        requires in_range { page < MAX_EID / PAGE }
         ensures same { (i : ℕ) → value_at self.new i ≡ value_at self.old i }
         ensures laid_out { PageTableInvariant self.new }
-        ensures there { OnOk result (page < length self.new.starts.items) }
+        ensures in_range { OnOk result (page < length self.new.starts.items) }
         ensures starts { (p : ℕ) → start_in self.new.starts.items p
             ≡ start_in self.old.starts.items p }
-        ensures keeps { vec_len self.old.starts ≤ vec_len self.new.starts }
-        ensures most { vec_len self.new.starts ≤ max (vec_len self.old.starts) (page + 1) }
+        ensures len_min { vec_len self.old.starts ≤ vec_len self.new.starts }
+        ensures len_max { vec_len self.new.starts ≤ max (vec_len self.old.starts) (page + 1) }
     {
         if self.starts.len() <= page {
             self.starts.resize(page + 1, NO_PAGE)?;
@@ -204,11 +204,11 @@ impl<V: Drop> Pages<V> {
         requires laid_out { PageTableInvariant self.old }
         requires keys { Covers keys.now self.old }
         requires within { page < length self.old.starts.items }
-        requires none { start_in self.old.starts.items page ≡ NO_PAGE }
+        requires no_page { start_in self.old.starts.items page ≡ NO_PAGE }
         ensures same { (i : ℕ) → value_at self.new i ≡ value_at self.old i }
         ensures laid_out { PageTableInvariant self.new }
         ensures made { OnOk result (slots_in self.new page ≡ PAGE) }
-        ensures stays { OnErr result ((p : ℕ) → slots_in self.new p ≡ slots_in self.old p) }
+        ensures err { OnErr result ((p : ℕ) → slots_in self.new p ≡ slots_in self.old p) }
         ensures others { (p : ℕ) → p ≢ page → slots_in self.new p ≡ slots_in self.old p }
         ensures table { vec_len self.new.starts ≡ vec_len self.old.starts }
     {
@@ -228,11 +228,11 @@ impl<V: Drop> Pages<V> {
         requires laid_out { PageTableInvariant self.old }
         requires within { page < length self.old.starts.items }
         requires behind { self.old.in_order ≤ page * PAGE }
-        requires none { start_in self.old.starts.items page ≡ NO_PAGE }
+        requires no_page { start_in self.old.starts.items page ≡ NO_PAGE }
         ensures same { (i : ℕ) → value_at self.new i ≡ value_at self.old i }
         ensures laid_out { PageTableInvariant self.new }
         ensures made { OnOk result (slots_in self.new page ≡ PAGE) }
-        ensures stays { OnErr result ((p : ℕ) → slots_in self.new p ≡ slots_in self.old p) }
+        ensures err { OnErr result ((p : ℕ) → slots_in self.new p ≡ slots_in self.old p) }
         ensures others { (p : ℕ) → p ≢ page → slots_in self.new p ≡ slots_in self.old p }
         ensures table { vec_len self.new.starts ≡ vec_len self.old.starts }
     {

@@ -1,5 +1,5 @@
 -- What workers did with their lists, together.
-use Rattle.std.proofs.Common.{◌≡◌, ◌⊎◌, inl, inr, ℕ, zero, suc, ◌+◌, ◌<◌, List, [], ◌∷◌, ◌++◌, length, get_or, slice_index, Contains, Any, All, flat_map, replicate, map, Result, Ok, Err, IfOk, refl, sym, ap, subst, ◌∙◌, length-append, arith}
+use Rattle.std.proofs.Common.{◌≡◌, ◌⊎◌, inl, inr, ℕ, zero, suc, ◌+◌, ◌<◌, List, [], ◌∷◌, ◌++◌, length, get_or, Contains, Any, All, flat_map, replicate, map, Result, Ok, Err, IfOk, refl, sym, ap, subst, ◌∙◌, length-append, arith}
 use Rattle.std.specs.List.{sum_by, AllZip}
 use Rattle.std.proofs.lemmas.List.Sums.{sum_by-cons}
 use Rattle.std.proofs.lemmas.List.Concat.{flat_map-cons}
@@ -25,11 +25,6 @@ module _ {X : Type 0} (P : X → Type 0) where
   any_cases x xs (suc k, y, below, same, h) = inr (k, y, omega (arith, below), same, h)
 
 -- ---- the list of one worker
-
-pub contained_at : (xs : List ℕ) (i : ℕ) → Contains xs i → (k : ℕ) × (k < length xs) × (slice_index xs k ≡ i)
-contained_at [] i h = absurd (let k = h.1 in omega (arith, k))
-contained_at (x ∷ xs) i (zero, below, same) = (0, below, same)
-contained_at (x ∷ xs) i (suc k, below, same) = let t = contained_at xs i (k, omega (arith, below), same) in (suc t.0, (let u = t.1 in omega (arith, u)), t.2)
 
 -- ---- the reports of two
 

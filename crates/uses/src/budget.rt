@@ -15,8 +15,8 @@ pub type Both<'a> = BitSetAnd<&'a BitSet, &'a BitSet>;
 pub fn in_both<'a>(a: &'a BitSet, b: &'a BitSet) -> BitIter<Both<'a>>
     ensures items { items_left is_in_both result
         ≡ members_below MAX_EID (λ i. has a.now i && has b.now i) }
-    ensures few { reads_in_all result ≤ budget a.now b.now }
-    ensures within { (end : ℕ) → EndsBy a.now end ⊎ EndsBy b.now end
+    ensures reads_max { reads_in_all result ≤ budget a.now b.now }
+    ensures begins_before { (end : ℕ) → EndsBy a.now end ⊎ EndsBy b.now end
         → All (BeginsBefore end) (words_ahead words_in_both result) }
 {
     laws();
@@ -34,7 +34,7 @@ pub fn in_both_from<'a>(
         ≡ members (λ i. has a.now i && has b.now i) start (MAX_EID - start) }
     ensures fewer { reads_in_all result.1 ≤ reads_in_all result.0 }
     ensures ahead { words_ahead words_in_both result.1 ≡ ahead_after start result.0 }
-    ensures few { reads_in_all result.1 ≤ budget a.now b.now }
+    ensures reads_max { reads_in_all result.1 ≤ budget a.now b.now }
 {
     laws();
     ((a & b).iter(), (a & b).iter_from(start))
@@ -47,9 +47,9 @@ pub fn halves<'a>(
 ) -> (BitProducer<'a, Both<'a>>, Option<BitProducer<'a, Both<'a>>>)
     ensures items { part_items is_in_both result.0 ++ items_of_second is_in_both result.1
         ≡ members_below MAX_EID (is_in_both both.now) }
-    ensures few { part_reads_in_all result.0 + other_reads_in_all result.1
+    ensures reads_max { part_reads_in_all result.0 + other_reads_in_all result.1
         ≤ budget both.now.0.now both.now.1.now }
-    ensures by_now { part_reads result.0 ≤ 4 }
+    ensures read { part_reads result.0 ≤ 4 }
 {
     laws();
     BitProducer(both.iter(), 3).split()

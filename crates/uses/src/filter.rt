@@ -46,7 +46,7 @@ impl Tagged {
     pub fn tag(&mut self, id: Index, tag: usize) -> Result<bool, AllocError>
         requires tag { tag < tags_of self.old }
         requires id { id < MAX_EID }
-        ensures was { IfOk result (λ was. was ≡ is_tagged self.old tag id) }
+        ensures was_tagged { IfOk result (λ was. was ≡ is_tagged self.old tag id) }
         ensures tagged { OnOk result ((t i : ℕ)
             → is_tagged self.new t i ≡ (is_tagged self.old t i || (t == tag && i == id))) }
         ensures err { OnErr result ((t i : ℕ)

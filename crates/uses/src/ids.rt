@@ -52,7 +52,7 @@ impl Ids {
     fn end_of_run(&self, start: Index) -> Index
         requires { start < MAX_EID }
         ensures from { start ≤ result }
-        ensures within { result ≤ MAX_EID }
+        ensures in_range { result ≤ MAX_EID }
         ensures free { (i : ℕ) → start ≤ i → i < result → in_use self.now i ≡ false }
         ensures end { (in_use self.now result ≡ true) ⊎ (result ≡ MAX_EID) }
     {
@@ -108,7 +108,7 @@ impl Ids {
 
     /// Takes an identifier back, and returns whether it was in use.
     pub fn free(&mut self, id: Index) -> bool
-        ensures was { result ≡ in_use self.old id }
+        ensures was_in_use { result ≡ in_use self.old id }
         ensures freed { (i : ℕ) → in_use self.new i ≡ (in_use self.old i && not (i == id)) }
     {
         self.used.remove(id)

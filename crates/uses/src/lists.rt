@@ -14,12 +14,12 @@ use std::alloc::Global;
 /// before it.
 pub fn set_of(alloc: Global, list: &[Index]) -> Result<BitSet, BuildError>
     ensures members { IfOk result (λ set. (i : ℕ) → (has set i ≡ true) ↔ Contains list.now i) }
-    ensures short { IfOk result (λ set. (l end : ℕ) → l < LAYERS - 1
+    ensures upper_len_max { IfOk result (λ set. (l end : ℕ) → l < LAYERS - 1
         → ((i : ℕ) → Contains list.now i → i / 64 < 64 ^ l * end) → slice_len set l ≤ end) }
     ensures in_range { IfOk result (λ _. InRangeBefore MAX_EID list.now (length list.now)) }
-    ensures place { IfErr result (λ error. place_of error < length list.now) }
+    ensures error_place { IfErr result (λ error. place_of error < length list.now) }
     ensures before { IfErr result (λ error. InRangeBefore MAX_EID list.now (place_of error)) }
-    ensures why { IfErr result (IsRefusalIn MAX_EID list.now) }
+    ensures reason { IfErr result (IsRefusalIn MAX_EID list.now) }
     ensures apart { IfErr result (LiesApartIn (λ i j. i / 64 < j / 64) list.now) }
 {
     BitSet::from_slice(alloc, list)
@@ -35,12 +35,12 @@ pub fn set_of(alloc: Global, list: &[Index]) -> Result<BitSet, BuildError>
 pub fn set_of_range(alloc: Global, start: Index, end: Index) -> Result<BitSet, BuildError>
     ensures members { IfOk result (λ set. (i : ℕ)
         → (has set i ≡ true) ↔ ((start ≤ i) × (i < end))) }
-    ensures short { IfOk result (λ set. (l : ℕ) → l < LAYERS - 1 → (n : ℕ) → end ≤ 64 ^ (l + 1) * n
+    ensures upper_len_max { IfOk result (λ set. (l : ℕ) → l < LAYERS - 1 → (n : ℕ) → end ≤ 64 ^ (l + 1) * n
         → slice_len set l ≤ n) }
     ensures in_range { IfOk result (λ _. start < end → end ≤ MAX_EID) }
-    ensures place { IfErr result (λ error. start + place_of error < end) }
+    ensures error_place { IfErr result (λ error. start + place_of error < end) }
     ensures before { IfErr result (λ error. (k : ℕ) → k < place_of error → start + k < MAX_EID) }
-    ensures why { IfErr result (IsRefusalFrom MAX_EID start) }
+    ensures reason { IfErr result (IsRefusalFrom MAX_EID start) }
     ensures word { IfErr result (BeginsWord start) }
 {
     BitSet::from_indices(alloc, start..end)
@@ -56,13 +56,13 @@ pub fn add_all(set: &mut BitSet, list: &[Index]) -> Result<(), BuildError>
     ensures added { OnOk result ((i : ℕ)
         → (has set.new i ≡ true) ↔ ((has set.old i ≡ true) ⊎ Contains list.now i)) }
     ensures in_range { OnOk result (InRangeBefore MAX_EID list.now (length list.now)) }
-    ensures some { IfErr result (λ error. (i : ℕ)
+    ensures added_before { IfErr result (λ error. (i : ℕ)
         → (has set.new i ≡ true) ↔ ((has set.old i ≡ true)
         ⊎ Contains (take (place_of error) list.now) i)) }
-    ensures place { IfErr result (λ error. place_of error < length list.now) }
+    ensures error_place { IfErr result (λ error. place_of error < length list.now) }
     ensures before { IfErr result (λ error. InRangeBefore MAX_EID list.now (place_of error)) }
-    ensures why { IfErr result (IsRefusalIn MAX_EID list.now) }
-    ensures lacks { IfErr result (LacksRoom (λ i. slice_len set.new 0 ≤ i / 64) list.now) }
+    ensures reason { IfErr result (IsRefusalIn MAX_EID list.now) }
+    ensures lacks_room { IfErr result (LacksRoom (λ i. slice_len set.new 0 ≤ i / 64) list.now) }
 {
     set.extend_from_slice(list)
 }

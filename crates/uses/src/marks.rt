@@ -29,7 +29,7 @@ pub fn marked<'a>(
 ) -> BitIter<BitSetAnd<&'a SparseBitSet, &'a BitSet>>
     ensures items { items_left is_marked_row result
         ≡ members_below MAX_EID (λ i. is_marked marks.now i && has rows.now i) }
-    ensures few { reads_of_both result
+    ensures reads_max { reads_of_both result
         ≤ 4 * length (members_below MAX_EID (is_marked marks.now)) + 1 }
 {
     sparse_laws();

@@ -20,7 +20,7 @@ pub fn chosen<'a>(
 ) -> BitIter<Chosen<'a>>
     ensures items { items_left is_chosen result ≡ members_below MAX_EID
         (λ i. ((has a.now i && has b.now i) && not (has hidden.now i)) && has ready.now i) }
-    ensures few { chosen_reads result ≤ budget_of_three a.now b.now ready.now }
+    ensures reads_max { chosen_reads result ≤ budget_of_three a.now b.now ready.now }
 {
     laws();
     cover_laws();

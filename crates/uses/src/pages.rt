@@ -34,7 +34,7 @@ impl Pages {
     /// Marks a page, and returns whether it was dirty. If an allocation fails, nothing changes.
     pub fn mark(&mut self, page: Index) -> Result<bool, AllocError>
         requires { page < MAX_EID }
-        ensures was { IfOk result (λ was. was ≡ is_dirty self.old page) }
+        ensures was_dirty { IfOk result (λ was. was ≡ is_dirty self.old page) }
         ensures marked { OnOk result ((i : ℕ)
             → is_dirty self.new i ≡ (is_dirty self.old i || i == page)) }
         ensures err { OnErr result ((i : ℕ) → is_dirty self.new i ≡ is_dirty self.old i) }

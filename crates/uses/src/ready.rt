@@ -37,7 +37,7 @@ impl Ready {
     /// An allocation fails: nothing changes. Below the limit it can't fail, at any time.
     pub fn wake(&mut self, task: Index) -> Result<bool, AllocError>
         requires { task < MAX_EID }
-        ensures was { IfOk result (λ was. was ≡ is_ready self.old task) }
+        ensures was_ready { IfOk result (λ was. was ≡ is_ready self.old task) }
         ensures woken { OnOk result ((i : ℕ)
             → is_ready self.new i ≡ (is_ready self.old i || i == task)) }
         ensures err { OnErr result ((i : ℕ) → is_ready self.new i ≡ is_ready self.old i) }
@@ -65,7 +65,7 @@ impl Ready {
     pub fn idle_below(&self) -> Index
         ensures idle { (task : ℕ) → task < result → is_ready self.now task ≡ false }
         ensures ready { result < MAX_EID → is_ready self.now result ≡ true }
-        ensures within { result ≤ MAX_EID }
+        ensures in_range { result ≤ MAX_EID }
     {
         self.tasks.first().unwrap_or(MAX_EID as Index)
     }

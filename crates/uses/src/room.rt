@@ -11,8 +11,8 @@ use std::alloc::{AllocError, Global};
 /// words of layer 0 as before.
 pub fn add_without_growth(set: &mut BitSet, id: Index) -> bool
     requires id { id < MAX_EID }
-    requires room { id / 64 < slice_len set.old 0 }
-    ensures was { result ≡ has set.old id }
+    requires has_word { id / 64 < slice_len set.old 0 }
+    ensures was_member { result ≡ has set.old id }
     ensures added { (i : ℕ) → has set.new i ≡ (has set.old i || i == id) }
     ensures length { slice_len set.new 0 ≡ slice_len set.old 0 }
 {
@@ -22,7 +22,7 @@ pub fn add_without_growth(set: &mut BitSet, id: Index) -> bool
 /// A copy with one index more, for which the set has a word. The copy has as many words of layer 0.
 pub fn with_one_more(set: &BitSet, id: Index) -> Result<BitSet, AllocError>
     requires id { id < MAX_EID }
-    requires room { id / 64 < slice_len set.now 0 }
+    requires has_word { id / 64 < slice_len set.now 0 }
     ensures members { IfOk result (λ copy. (i : ℕ) → has copy i ≡ (has set.now i || i == id)) }
     ensures length { IfOk result (λ copy. slice_len copy 0 ≡ slice_len set.now 0) }
 {
@@ -49,7 +49,7 @@ pub fn saved(alloc: Global, set: &BitSet) -> Result<(Vec<usize>, Vec<usize>), Al
 pub fn add_beside(set: &mut AtomicBitSet, member: Index, id: Index) -> bool
     requires member { has_atomic set.old member ≡ true }
     requires beside { member / 4096 ≡ id / 4096 }
-    ensures was { result ≡ has_atomic set.old id }
+    ensures was_member { result ≡ has_atomic set.old id }
     ensures added { (i : ℕ) → has_atomic set.new i ≡ (has_atomic set.old i || i == id) }
 {
     atomic_laws();

@@ -28,7 +28,7 @@ impl Seen {
 
     /// Returns whether a key of this hash was seen, and takes it as seen from now on.
     pub fn see(&mut self, hash: u64) -> Result<bool, AllocError>
-        ensures was { IfOk result (λ was. was ≡ was_seen self.old hash) }
+        ensures was_seen { IfOk result (λ was. was ≡ was_seen self.old hash) }
         ensures seen { OnOk result ((other : ℕ) → was_seen self.new other
             ≡ (was_seen self.old other || other % MAX_EID == hash % MAX_EID)) }
         ensures err { OnErr result ((other : ℕ) → was_seen self.new other

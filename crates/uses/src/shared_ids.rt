@@ -22,15 +22,16 @@ pub struct Taken {
 /// whatever the threads do. It makes at most seven loads for each index that it tries.
 pub fn take_fresh(set: &SharedBitSet, seat: &mut Seat, start: Index, tries: u32) -> Option<Index>
     requires { BelongsTo set.now seat.old }
-    ensures came { BelongsTo set.now seat.new × (weight_of seat.new ≡ weight_of seat.old) }
+    ensures belongs { BelongsTo set.now seat.new }
+    ensures weight { weight_of seat.new ≡ weight_of seat.old }
     ensures known { (i : ℕ) → IsKnown seat.old i → IsKnown seat.new i }
-    ensures within { IfSome result (λ id. (start ≤ id) × (id < start + tries)
+    ensures in_range { IfSome result (λ id. (start ≤ id) × (id < start + tries)
         × (id < ATOMIC_MAX_EID)) }
     ensures fresh { IfSome result (λ id. ¬ IsOld set.now id × ¬ IsKnown seat.old id
         × ¬ Contains (reports_of seat.old) id) }
     ensures given { IfSome result (λ id. reports_of seat.new ≡ id ∷ reports_of seat.old) }
     ensures first { IfSome result (λ id. (i : ℕ) → start ≤ i → i ≤ id → IsKnown seat.new i) }
-    ensures none { IfNone result (reports_of seat.new ≡ reports_of seat.old) }
+    ensures reports_kept { IfNone result (reports_of seat.new ≡ reports_of seat.old) }
     ensures all { IfNone result ((i : ℕ) → start ≤ i → i < start + tries → i < ATOMIC_MAX_EID
         → IsKnown seat.new i) }
     ensures loads { MatchOption result
@@ -49,12 +50,13 @@ pub fn take_fresh(set: &SharedBitSet, seat: &mut Seat, start: Index, tries: u32)
 // Takes so many fresh identifiers into a list, or fewer where no more are found, or if an allocation fails, which it
 // tells.
 fn take_into(set: &SharedBitSet, seat: &mut Seat, ids: &mut Vec<Index>, count: usize) -> bool
-    requires came { BelongsTo set.now seat.old }
-    requires none { (reports_of seat.old ≡ []) × (ids.old.items ≡ []) }
-    ensures came { BelongsTo set.now seat.new × (weight_of seat.new ≡ weight_of seat.old) }
+    requires belongs { BelongsTo set.now seat.old }
+    requires empty { (reports_of seat.old ≡ []) × (ids.old.items ≡ []) }
+    ensures belongs { BelongsTo set.now seat.new }
+    ensures weight { weight_of seat.new ≡ weight_of seat.old }
     ensures taken { reports_of seat.new ≡ reverse ids.new.items }
     ensures count { length ids.new.items ≤ count }
-    ensures short { (length ids.new.items ≡ count) ⊎ (result ≡ true)
+    ensures complete { (length ids.new.items ≡ count) ⊎ (result ≡ true)
         ⊎ ((i : ℕ) → i < ATOMIC_MAX_EID → IsKnown seat.new i) }
     ensures loads { loads_by seat.new ≤ loads_by seat.old + 7 * ATOMIC_MAX_EID }
 {
@@ -80,10 +82,11 @@ fn take_into(set: &SharedBitSet, seat: &mut Seat, ids: &mut Vec<Index>, count: u
 /// `ATOMIC_MAX_EID`.
 pub fn take_many(alloc: Global, set: &SharedBitSet, seat: Seat, count: usize) -> Taken
     requires { BelongsTo set.now seat × (reports_of seat ≡ []) }
-    ensures came { BelongsTo set.now result.seat × (weight_of result.seat ≡ weight_of seat) }
+    ensures belongs { BelongsTo set.now result.seat }
+    ensures weight { weight_of result.seat ≡ weight_of seat }
     ensures taken { reports_of result.seat ≡ reverse result.ids.items }
     ensures count { length result.ids.items ≤ count }
-    ensures short { (length result.ids.items ≡ count) ⊎ (result.refused ≡ true)
+    ensures complete { (length result.ids.items ≡ count) ⊎ (result.refused ≡ true)
         ⊎ ((i : ℕ) → i < ATOMIC_MAX_EID → IsKnown result.seat i) }
     ensures loads { loads_by result.seat ≤ loads_by seat + 7 * ATOMIC_MAX_EID }
 {

@@ -12,7 +12,7 @@ use std::alloc::{AllocError, Global};
 /// and four more, and writes none. If an allocation fails, the seat still came from the set, and knows what it knew.
 pub fn indices(alloc: Global, set: &SharedBitSet, seat: &mut Seat) -> Result<Vec<Index>, AllocError>
     requires { BelongsTo set.now seat.old }
-    ensures came { BelongsTo set.now seat.new }
+    ensures belongs { BelongsTo set.now seat.new }
     ensures seat { (weight_of seat.new ≡ weight_of seat.old)
         × (reports_of seat.new ≡ reports_of seat.old) }
     ensures known { (i : ℕ) → IsKnown seat.old i → IsKnown seat.new i }
@@ -35,13 +35,13 @@ pub fn indices(alloc: Global, set: &SharedBitSet, seat: &mut Seat) -> Result<Vec
 /// knew, is less. The seat knows it afterwards, and what it knew. At most four words are loaded, and none is written.
 pub fn first(set: &SharedBitSet, seat: &mut Seat) -> Option<Index>
     requires { BelongsTo set.now seat.old }
-    ensures came { BelongsTo set.now seat.new }
+    ensures belongs { BelongsTo set.now seat.new }
     ensures seat { (weight_of seat.new ≡ weight_of seat.old)
         × (reports_of seat.new ≡ reports_of seat.old) }
     ensures known { (i : ℕ) → IsKnown seat.old i → IsKnown seat.new i }
     ensures item { IfSome result (λ x. IsKnown seat.new x) }
-    ensures least { IfSome result (λ x. (i : ℕ) → IsOld set.now i ⊎ IsKnown seat.old i → x ≤ i) }
-    ensures none { result ≡ None → (i : ℕ) → ¬ IsOld set.now i × ¬ IsKnown seat.old i }
+    ensures lowest { IfSome result (λ x. (i : ℕ) → IsOld set.now i ⊎ IsKnown seat.old i → x ≤ i) }
+    ensures empty { result ≡ None → (i : ℕ) → ¬ IsOld set.now i × ¬ IsKnown seat.old i }
     ensures steps { (loads_by seat.new ≤ loads_by seat.old + 4)
         × (exchanges_by seat.new ≡ exchanges_by seat.old) }
 {

@@ -45,7 +45,8 @@ struct Work {
 // Adds the indices of a list that lie in range, and counts those that the seat put in.
 fn add_list(set: &SharedBitSet, seat: &mut Seat, list: &[Index]) -> usize
     requires { BelongsTo set.now seat.old × (reports_of seat.old ≡ []) }
-    ensures came { BelongsTo set.now seat.new × (weight_of seat.new ≡ weight_of seat.old) }
+    ensures belongs { BelongsTo set.now seat.new }
+    ensures weight { weight_of seat.new ≡ weight_of seat.old }
     ensures new { result ≡ length (reports_of seat.new) }
     ensures known { (i : ℕ) → Contains list.now i → i < ATOMIC_MAX_EID → IsKnown seat.new i }
     ensures reported { (i : ℕ) → Contains (reports_of seat.new) i
@@ -78,7 +79,7 @@ fn jobs_of(
     alloc: Global,
 ) -> Result<(Seat, Vec<Job>), Seat>
     requires seat { BelongsTo set.now seat × (reports_of seat ≡ []) }
-    requires few { length lists.items < weight_of seat }
+    requires enough_shares { length lists.items < weight_of seat }
     ensures value_returned { IfErr result (λ s. s ≡ seat) }
     ensures kept { IfOk result (λ r. BelongsTo set.now r.0 × (reports_of r.0 ≡ [])) }
     ensures jobs { IfOk result (λ r. All (IsJob set.now) r.1.items) }
@@ -124,7 +125,7 @@ fn run<R: Threads + Sync>(
 fn together(set: &SharedBitSet, kept: Seat, works: Vec<Work>) -> Work
     requires kept { BelongsTo set.now kept × (reports_of kept ≡ []) }
     requires works { All (IsWork set.now) works.items }
-    ensures came { BelongsTo set.now result.seat }
+    ensures belongs { BelongsTo set.now result.seat }
     ensures weight { weight_of result.seat ≡ weight_of kept + sum_by seat_weight works.items }
     ensures known { (i : ℕ) → Any (λ work. IsKnown work.seat i) works.items
         → IsKnown result.seat i }
@@ -173,7 +174,7 @@ fn add_shared<R: Threads + Sync>(
     lists: Vec<Vec<Index>>,
 ) -> Result<Added, Refused>
     requires seat { BelongsTo set seat × (reports_of seat ≡ []) × (weight_of seat ≡ SHARES) }
-    requires few { length lists.items < SHARES }
+    requires enough_shares { length lists.items < SHARES }
     ensures members { IfOk result (λ added. (i : ℕ)
         → (has added.set i ≡ true) ↔ (IsOld set i ⊎ IsListed lists.items i)) }
     ensures new { IfOk result (λ added. IsNumberOfNew (IsOld set) (has added.set) added.new) }

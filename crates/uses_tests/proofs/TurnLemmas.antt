@@ -1,10 +1,8 @@
 -- What a call of its own leaves of a past, and a list of such calls.
 use Rattle.std.proofs.Common.{◌≡◌, ◌⊎◌, inl, inr, ℕ, ◌+◌, ◌<◌, ◌≤◌, Bool, true, false, ◌||◌, ◌==◌, ◌↔◌, List, [], ◌∷◌, ◌++◌, length, take, get_or, Contains, Some, None, refl, sym, ap, subst, ◌∙◌, arith}
-use Rattle.std.proofs.lemmas.Bool.{or_cases}
+use Rattle.std.proofs.lemmas.Bool.{or_cases, or_left, or_right, eqb-true}
 use Rattle.std.proofs.lemmas.List.{take_more, take_all}
 use Rattle.std.proofs.lemmas.List.Elements.{Contains-append_left, Contains-push, Contains-push_cases}
-use Rattle.hibitset_atomic.proofs.SpanLemmas.{or_left, or_right}
-use Rattle.hibitset_atomic.proofs.HistoryBitLemmas.{eq_true}
 use Rattle.hibitset_base.specs.Decisions.{eq_same, same_or_not}
 use Rattle.hibitset_atomic.specs.declared.steps.calls.Call.{Call}
 use Rattle.hibitset_atomic.specs.declared.steps.event.Event.{Event}
@@ -52,7 +50,7 @@ members_more before now first list k below added members i =
     rw more (
       (λ on. elim (or_cases (before i) (i == get_or list k 0) (sym (added i) ∙ on)) [
         | inl was ↦ elim ((members i).0 was) [ inl h ↦ inl h | inr h ↦ inr (Contains-append_left (take k list) (get_or list k 0 ∷ []) i h) ]
-        | inr here ↦ inr (let e : get_or list k 0 ≡ i = sym (eq_true i (get_or list k 0) here) in subst (Contains (take k list ++ get_or list k 0 ∷ [])) e (Contains-push (take k list) (get_or list k 0)))
+        | inr here ↦ inr (let e : get_or list k 0 ≡ i = sym (eqb-true i (get_or list k 0) here) in subst (Contains (take k list ++ get_or list k 0 ∷ [])) e (Contains-push (take k list) (get_or list k 0)))
       ]),
       (λ h. added i ∙ elim h [
         | inl was ↦ or_left (before i) (i == get_or list k 0) ((members i).1 (inl was))

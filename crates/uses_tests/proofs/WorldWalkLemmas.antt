@@ -2,7 +2,7 @@
 use Rattle.std.proofs.Common.{◌≡◌, ◌⊎◌, inl, inr, ℕ, zero, suc, ◌+◌, ◌-◌, ◌*◌, ◌/◌, ◌%◌, ◌^◌, ◌<◌, ◌≤◌, Bool, true, false, List, [], ◌∷◌, length, Contains, Option, Some, None, refl, sym, ap, subst, ◌∙◌, arith, length-append}
 use Rattle.std.specs.Int.{bit_at}
 use Rattle.std.specs.List.Sorted.{IsStrictlyIncreasing}
-use Rattle.std.proofs.lemmas.Bool.{or_cases}
+use Rattle.std.proofs.lemmas.Bool.{or_cases, or_right}
 use Rattle.std.proofs.lemmas.Nat.Bits.{bit_at-zero}
 use Rattle.std.proofs.Math.Nat.{eq-or-lt_of_le}
 use Rattle.hibitset_base.specs.Decisions.{eq_same}
@@ -16,9 +16,10 @@ use Rattle.hibitset_atomic.proofs.ListLemmas.{contains-from_has, has-from_contai
 use Rattle.hibitset_atomic.specs.History.{some_in, has_passed, is_there, bit_of_history, Walk, new_walk, bits, read_word, read_first, reads_on, walk_of}
 use Rattle.hibitset_atomic.specs.HistoryFacts.{Between, IsFirst, IsNext, is_finished, finished_before, WasThere, IsWithin, HasBits}
 use Rattle.hibitset_atomic.specs.Replies.{IsWord, ReadAnswer}
-use Rattle.hibitset_atomic.proofs.SpanLemmas.{some_in-found, between-has, has-append, members-between, members-has, members-holds, or_right}
+use Rattle.hibitset_atomic.proofs.SpanLemmas.{some_in-found, between-has, members-between, members-has, members-holds}
 use Rattle.hibitset_atomic.proofs.HistoryBitLemmas.{came-stays, passed_below}
 use Rattle.hibitset_atomic.proofs.WorldStepLemmas.{stands-lowest}
+use Rattle.hibitset_atomic.proofs.ListLemmas.{has_split}
 use Rattle.uses_tests.specs.Turns.{items_or_none, reads_or_none, left_or_none, HasLeaf}
 
 -- ---- lists
@@ -101,7 +102,7 @@ module _ (old : ℕ → Bool) (past : List Event) (word : ℕ) (ended : Bool) wh
 
   more_items : (items : List ℕ) (reads layer position : ℕ) (rest : List Place) (i : ℕ) → ((b : ℕ) → b < 64 → bit_at word b ≡ bit_of (bit_of_history old past layer (64 * position + b)))
       → Has (read_word (bit_of_history old past) items reads layer position rest).items i → Has items i ⊎ (bit_at word (i % 64) ≡ 1)
-  more_items items reads zero position rest i is has = elim (has-append items (bits (bit_of_history old past) 0 position) i has) [
+  more_items items reads zero position rest i is has = elim (has_split items (bits (bit_of_history old past) 0 position) i has) [
     | inl before ↦ inl before
     | inr new ↦ inr (leaf_bit position i is new)
   ]

@@ -4,3 +4,5 @@ pub mod atomic_table;
 pub mod rayon;
 #[macro_use]
 pub mod rattle_std;
+#[cfg(all(test, feature = "std"))]
+mod tests;

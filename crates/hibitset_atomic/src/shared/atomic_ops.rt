@@ -46,12 +46,12 @@ impl SharedBitSet {
     // The exchange at layer 0.
     #[inline]
     pub(crate) fn fetch_or_layer0(&self, pass: &mut TableSeat, id: u32) -> bool
-        requires came { pass.old.table_id ≡ self.now.table.shared.table_id }
+        requires same_table { pass.old.table_id ≡ self.now.table.shared.table_id }
         requires seat { (0 < length pass.old.me.0.shares) × AllReportsKnown pass.old.me.0 }
         requires id { id < ATOMIC_MAX_EID }
         ensures same { (pass.new.table_id ≡ pass.old.table_id) × (pass.new.id ≡ pass.old.id)
             × Grew pass.old.me pass.new.me × Has pass.new.me.0.seen id }
-        ensures there { result ≡ true → pass.new.me.0.reports ≡ pass.old.me.0.reports }
+        ensures no_report { result ≡ true → pass.new.me.0.reports ≡ pass.old.me.0.reports }
         ensures new { result ≡ false → (pass.new.me.0.reports ≡ id ∷ pass.old.me.0.reports)
             × ¬ IsSet pass.old.me.0.old id × ¬ Has pass.old.me.0.seen id }
         ensures counts { (pass.new.me.0.loads ≡ pass.old.me.0.loads)
@@ -67,10 +67,10 @@ impl SharedBitSet {
     // The exchange at a layer above 0, after that of the layer below.
     #[inline]
     fn fetch_or_summary(&self, pass: &mut TableSeat, id: Index, layer: usize)
-        requires came { pass.old.table_id ≡ self.now.table.shared.table_id }
+        requires same_table { pass.old.table_id ≡ self.now.table.shared.table_id }
         requires id { id < ATOMIC_MAX_EID }
         requires layer { layer + 1 < ATOMIC_LAYERS }
-        requires below { Has pass.old.me.0.seen (first_mark layer + id / 64 ^ layer) }
+        requires seen_below { Has pass.old.me.0.seen (first_mark layer + id / 64 ^ layer) }
         ensures same { (pass.new.table_id ≡ pass.old.table_id) × (pass.new.id ≡ pass.old.id)
             × Grew pass.old.me pass.new.me × (pass.new.me.0.reports ≡ pass.old.me.0.reports) }
         ensures mark { Has pass.new.me.0.seen (first_mark (layer + 1) + id / 64 ^ (layer + 1)) }
@@ -87,11 +87,11 @@ impl SharedBitSet {
     // does not stand yet, so that threads whose indices lie under one word don't contend for it.
     #[inline]
     pub(crate) fn set_summary(&self, pass: &mut TableSeat, id: Index, layer: usize)
-        requires came { pass.old.table_id ≡ self.now.table.shared.table_id }
+        requires same_table { pass.old.table_id ≡ self.now.table.shared.table_id }
         requires seat { 0 < length pass.old.me.0.shares }
         requires id { id < ATOMIC_MAX_EID }
         requires layer { layer + 1 < ATOMIC_LAYERS }
-        requires below { Has pass.old.me.0.seen (first_mark layer + id / 64 ^ layer) }
+        requires seen_below { Has pass.old.me.0.seen (first_mark layer + id / 64 ^ layer) }
         ensures same { (pass.new.table_id ≡ pass.old.table_id) × (pass.new.id ≡ pass.old.id)
             × Grew pass.old.me pass.new.me × (pass.new.me.0.reports ≡ pass.old.me.0.reports) }
         ensures mark { Has pass.new.me.0.seen (first_mark (layer + 1) + id / 64 ^ (layer + 1)) }
@@ -106,9 +106,9 @@ impl SharedBitSet {
 
     #[inline]
     pub(crate) fn load(&self, pass: &mut TableSeat, place: usize) -> u64
-        requires came { pass.old.table_id ≡ self.now.table.shared.table_id }
+        requires same_table { pass.old.table_id ≡ self.now.table.shared.table_id }
         requires seat { 0 < length pass.old.me.0.shares }
-        requires place { place < ROW_WORDS }
+        requires in_range { place < ROW_WORDS }
         ensures same { (pass.new.table_id ≡ pass.old.table_id) × (pass.new.id ≡ pass.old.id) }
         ensures found { LoadAt place pass.old.me result pass.new.me }
         ensures counts { (pass.new.me.0.loads ≡ pass.old.me.0.loads + 1)
@@ -119,7 +119,7 @@ impl SharedBitSet {
 
     #[inline]
     pub(crate) fn load_bit(&self, pass: &mut TableSeat, mark: u32) -> bool
-        requires came { pass.old.table_id ≡ self.now.table.shared.table_id }
+        requires same_table { pass.old.table_id ≡ self.now.table.shared.table_id }
         requires seat { 0 < length pass.old.me.0.shares }
         requires mark { mark < 64 * ROW_WORDS }
         ensures same { (pass.new.table_id ≡ pass.old.table_id) × (pass.new.id ≡ pass.old.id)
@@ -137,13 +137,13 @@ impl SharedBitSet {
     // over an old or known index.
     #[inline]
     pub(crate) fn load_word(&self, pass: &mut TableSeat, layer: usize, position: u32) -> u64
-        requires came { pass.old.table_id ≡ self.now.table.shared.table_id }
+        requires same_table { pass.old.table_id ≡ self.now.table.shared.table_id }
         requires seat { 0 < length pass.old.me.0.shares }
         requires layer { layer < 4 }
         requires position { position < 64 ^ (3 - layer) }
         ensures same { (pass.new.table_id ≡ pass.old.table_id) × (pass.new.id ≡ pass.old.id)
             × Grew pass.old.me pass.new.me × (pass.new.me.0.reports ≡ pass.old.me.0.reports) }
-        ensures some { Has pass.old.me.0.seen (first_mark (layer + 1) + position) → 0 < result }
+        ensures nonzero { Has pass.old.me.0.seen (first_mark (layer + 1) + position) → 0 < result }
         ensures seen { (b : ℕ) → b < 64 → bit_at result b ≡ 1
             → Has pass.new.me.0.seen (first_mark layer + (64 * position + b)) }
         ensures known { (i : ℕ) → Knows pass.old.me.0 i → i / 64 ^ (layer + 1) ≡ position

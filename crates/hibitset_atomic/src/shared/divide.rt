@@ -11,10 +11,10 @@ use std::alloc::Global;
 
 // The share of one of so many seats: the weight by their number, rounded up.
 fn share_of_one(weight: u32, seats: usize) -> u32
-    requires some { 0 < seats }
-    requires few { seats ≤ weight }
+    requires nonzero { 0 < seats }
+    requires enough_shares { seats ≤ weight }
     ensures up { weight ≤ seats * result }
-    ensures near { seats * result < weight + seats }
+    ensures share_max { seats * result < weight + seats }
 {
     weight.div_ceil(seats as u32)
 }
@@ -25,9 +25,9 @@ impl SharedBitSet {
     // Each is a half, or a part of a half that is joined to the other half. So there are at most 15 joins, with a load
     // each.
     fn cut_off(&self, seat: Seat, shares: u32) -> (Seat, Seat)
-        requires came { BelongsTo self.now seat }
+        requires belongs { BelongsTo self.now seat }
         requires shares { (0 < shares) × (shares < weight_of seat) }
-        ensures came { BelongsTo self.now result.0 × BelongsTo self.now result.1 }
+        ensures belongs { BelongsTo self.now result.0 × BelongsTo self.now result.1 }
         ensures weights { (weight_of result.0 ≡ weight_of seat - shares)
             × (weight_of result.1 ≡ shares) }
         ensures reports { (reports_of result.0 ≡ reports_of seat) × (reports_of result.1 ≡ []) }
@@ -54,14 +54,14 @@ impl SharedBitSet {
 
     // Puts the seats of one seat into a vector that has room for them.
     fn give_seats(&self, seat: Seat, n: usize, seats: &mut Vec<Seat>)
-        requires came { BelongsTo self.now seat }
-        requires some { 0 < n }
-        requires few { n ≤ weight_of seat }
-        requires none { seats.old.items ≡ [] }
-        requires room { n ≤ vec_capacity seats.old }
+        requires belongs { BelongsTo self.now seat }
+        requires nonzero { 0 < n }
+        requires enough_shares { n ≤ weight_of seat }
+        requires empty { seats.old.items ≡ [] }
+        requires capacity { n ≤ vec_capacity seats.old }
         ensures number { length seats.new.items ≡ n }
-        ensures came { All (BelongsTo self.now) seats.new.items }
-        ensures even { All (IsEvenShare (weight_of seat) n) seats.new.items }
+        ensures belongs { All (BelongsTo self.now) seats.new.items }
+        ensures even_shares { All (IsEvenShare (weight_of seat) n) seats.new.items }
         ensures shares { sum_by weight_of seats.new.items ≡ weight_of seat }
         ensures reports { map reports_of seats.new.items ≡ reports_of seat ∷ replicate (n - 1) [] }
         ensures known { All (KnowsAllOf seat) seats.new.items }
@@ -99,13 +99,13 @@ impl SharedBitSet {
     ///
     /// Each seat has the loads of the one and at most 30 more. It waits for no other thread.
     pub fn divide_among(&self, alloc: Global, seat: Seat, n: usize) -> Result<Vec<Seat>, Seat>
-        requires came { BelongsTo self.now seat }
-        requires some { 0 < n }
-        requires few { n ≤ weight_of seat }
+        requires belongs { BelongsTo self.now seat }
+        requires nonzero { 0 < n }
+        requires enough_shares { n ≤ weight_of seat }
         ensures value_returned { IfErr result (λ s. s ≡ seat) }
         ensures number { IfOk result (λ seats. length seats.items ≡ n) }
-        ensures came { IfOk result (λ seats. All (BelongsTo self.now) seats.items) }
-        ensures even { IfOk result (λ seats. All (IsEvenShare (weight_of seat) n) seats.items) }
+        ensures belongs { IfOk result (λ seats. All (BelongsTo self.now) seats.items) }
+        ensures even_shares { IfOk result (λ seats. All (IsEvenShare (weight_of seat) n) seats.items) }
         ensures shares { IfOk result (λ seats. sum_by weight_of seats.items ≡ weight_of seat) }
         ensures reports { IfOk result (λ seats. map reports_of seats.items
             ≡ reports_of seat ∷ replicate (n - 1) []) }

@@ -64,11 +64,11 @@ fn load(
     layer: usize,
     position: u32,
 ) -> usize
-    requires came { BelongsTo set.now seat.old }
+    requires belongs { BelongsTo set.now seat.old }
     requires layer { layer < ATOMIC_LAYERS }
     requires position { position < 64 ^ (ATOMIC_LAYERS - 1 - layer) }
-    ensures keeps { Keeps set.now seat.old seat.new }
-    ensures some { Has (view_of seat.old).seen (first_mark (layer + 1) + position) → 0 < result }
+    ensures keeps_known { Keeps set.now seat.old seat.new }
+    ensures nonzero { Has (view_of seat.old).seen (first_mark (layer + 1) + position) → 0 < result }
     ensures seen { (b : ℕ) → b < 64 → bit_at result b ≡ 1
         → Has (view_of seat.new).seen (first_mark layer + (64 * position + b)) }
     ensures due { (i : ℕ) → IsOldOrKnown set.now seat.old i → i / 64 ^ (layer + 1) ≡ position
@@ -90,7 +90,7 @@ fn descend(
     layer: usize,
     position: u32,
 )
-    requires came { BelongsTo set.now seat.old }
+    requires belongs { BelongsTo set.now seat.old }
     requires layer { layer ≤ ATOMIC_LAYERS }
     requires above { 0 < layer }
     requires rest { CanContinueAt cursor.old layer position }
@@ -113,7 +113,7 @@ fn next_index(
     cursor: &mut Cursor<LEVELS>,
     reads: &mut Reads,
 ) -> Option<Index>
-    requires came { BelongsTo set.now seat.old }
+    requires belongs { BelongsTo set.now seat.old }
     requires stands { WalkInvariant (view_of seat.old) reads.old.count (cursor_places cursor.old) }
     ensures end { result ≡ None → (cursor_places cursor.new ≡ []) }
     ensures goes { MatchOption result (LoadsTo set.now seat.old seat.new reads.old.count
@@ -141,7 +141,7 @@ impl SharedBitSet {
     pub fn walk<'a>(&'a self, seat: &'a mut Seat) -> SharedWalk<'a>
         requires { BelongsTo self.now seat.old }
         ensures same_reference { lender result ≡ seat.entry.ghost_name }
-        ensures over { (set_of result ≡ self.now) × (seat_of result ≡ seat.old) }
+        ensures set_and_seat { (set_of result ≡ self.now) × (seat_of result ≡ seat.old) }
         ensures ready { IsReady result }
         ensures due { (i : ℕ) → IsOld self.now i ⊎ IsKnown seat.old i → IsDue result i }
         ensures loads { loads_of result ≡ 0 }

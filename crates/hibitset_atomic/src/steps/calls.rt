@@ -46,7 +46,7 @@ impl Calls {
         ensures put { OnOk result ((c : ℕ)
             → call_in self.new c ≡ cond (number == c) (Some call) (call_in self.old c)) }
         ensures err { OnErr result ((c : ℕ) → call_in self.new c ≡ call_in self.old c) }
-        ensures there { IsSome (call_in self.old number) → IsOk result }
+        ensures succeeds_made { IsSome (call_in self.old number) → IsOk result }
     {
         match self.map.insert(number, call) {
             Ok(_) => Ok(()),

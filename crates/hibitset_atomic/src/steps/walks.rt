@@ -24,7 +24,7 @@ pub(crate) struct Progress {
 // Appends the positions of the bits of a word, where bit 0 is at `start`.
 fn push_bits(items: &mut Vec<Index>, word: usize, start: Index)
     requires start { start + 64 ≤ 2 ^ 32 }
-    requires room { length items.old.items + 64 ≤ vec_capacity items.old }
+    requires capacity { length items.old.items + 64 ≤ vec_capacity items.old }
     ensures { items.new.items ≡ items.old.items ++ bits_from start word }
 {
     for bit in 0..64 {
@@ -68,7 +68,7 @@ impl Progress {
             ≡ (read_first (layer_bit (layer_word layers.now)) self.old.items.items 0
             (left_of self.old)).left) }
         ensures word { IfOk result (λ r. FirstWord (layer_word layers.now) (left_of self.old) r.0) }
-        ensures ended { IfOk result (λ r. IsTrue r.1 ↔ (left_of self.new ≡ [])) }
+        ensures end { IfOk result (λ r. IsTrue r.1 ↔ (left_of self.new ≡ [])) }
         ensures err { OnErr result ((self.new.items.items ≡ self.old.items.items)
             × (left_of self.new ≡ left_of self.old)) }
     {

@@ -42,7 +42,7 @@ pub struct Settled {
 
 // Adds each index below a bound, and counts the answers false.
 fn add_below(set: &SharedBitSet, seat: Seat, count: u32) -> Added
-    requires came { BelongsTo set.now seat × (reports_of seat ≡ []) }
+    requires belongs { BelongsTo set.now seat × (reports_of seat ≡ []) }
     requires count { count ≤ ATOMIC_MAX_EID }
     ensures { BelongsTo set.now result.seat × (length (reports_of result.seat) ≡ result.new) }
 {
@@ -67,7 +67,7 @@ fn on_two_threads<R: Threads + Wait + Sync>(
     requires a { BelongsTo set.now a × (reports_of a ≡ []) }
     requires b { BelongsTo set.now b × (reports_of b ≡ []) }
     requires count { count ≤ ATOMIC_MAX_EID }
-    ensures came { IfSome result (λ t. BelongsTo set.now t.0.seat × BelongsTo set.now t.1.seat) }
+    ensures belongs { IfSome result (λ t. BelongsTo set.now t.0.seat × BelongsTo set.now t.1.seat) }
     ensures new { IfSome result (λ t. (length (reports_of t.0.seat) ≡ t.0.new)
         × (length (reports_of t.1.seat) ≡ t.1.new)) }
 {
@@ -78,7 +78,7 @@ fn on_two_threads<R: Threads + Wait + Sync>(
             requires a { BelongsTo set.now a × (reports_of a ≡ []) }
             requires b { BelongsTo set.now b × (reports_of b ≡ []) }
             requires count { count ≤ ATOMIC_MAX_EID }
-            ensures came { IfSome result (λ t. BelongsTo set.entry.now t.0.seat
+            ensures belongs { IfSome result (λ t. BelongsTo set.entry.now t.0.seat
                 × BelongsTo set.entry.now t.1.seat) }
             ensures new { IfSome result (λ t. (length (reports_of t.0.seat) ≡ t.0.new)
                 × (length (reports_of t.1.seat) ≡ t.1.new)) }
@@ -114,9 +114,9 @@ pub fn add_from_two<R: Threads + Wait + Sync>(
     seat: Seat,
     count: u32,
 ) -> Option<Settled>
-    requires came { BelongsTo set seat × (reports_of seat ≡ []) }
+    requires belongs { BelongsTo set seat × (reports_of seat ≡ []) }
     requires count { count ≤ ATOMIC_MAX_EID }
-    ensures once { IfSome result (λ r. IsDistinct nat_eq (reports_of r.seat.value)) }
+    ensures distinct { IfSome result (λ r. IsDistinct nat_eq (reports_of r.seat.value)) }
     ensures new { IfSome result (λ r. length (reports_of r.seat.value) ≡ r.new) }
     ensures members { IfSome result (λ r. (i : ℕ)
         → (has r.set i ≡ true) ↔ (IsOld set i ⊎ Contains (reports_of r.seat.value) i)) }
@@ -143,7 +143,7 @@ pub fn settle_with(
     seat: Seat,
     id: Index,
 ) -> Result<AtomicBitSet, (SharedBitSet, Seat)>
-    requires came { BelongsTo set seat }
+    requires belongs { BelongsTo set seat }
     requires id { id < ATOMIC_MAX_EID }
     ensures added { IfOk result (λ r. has r id ≡ true) }
     ensures old { IfOk result (λ r. (i : ℕ) → IsOld set i → has r i ≡ true) }
@@ -158,9 +158,9 @@ pub fn settle_with(
 /// Adds an index twice. The second time it is read and nothing else, so there are no more exchanges than one add may
 /// make.
 pub fn add_again(set: &SharedBitSet, seat: &mut Seat, id: Index) -> bool
-    requires came { BelongsTo set.now seat.old }
+    requires belongs { BelongsTo set.now seat.old }
     requires id { id < ATOMIC_MAX_EID }
-    ensures came { BelongsTo set.now seat.new }
+    ensures belongs { BelongsTo set.now seat.new }
     ensures there { result ≡ true }
     ensures loads { loads_by seat.new ≤ loads_by seat.old + 11 }
     ensures exchanges { exchanges_by seat.new ≤ exchanges_by seat.old + 4 }
@@ -172,11 +172,11 @@ pub fn add_again(set: &SharedBitSet, seat: &mut Seat, id: Index) -> bool
 /// Adds two indices whose bits lie in one word of layer 0. The second exchanges that word at most, so there are five
 /// exchanges at most.
 pub fn add_in_one_word(set: &SharedBitSet, seat: &mut Seat, first: Index, second: Index) -> bool
-    requires came { BelongsTo set.now seat.old }
+    requires belongs { BelongsTo set.now seat.old }
     requires first { first < ATOMIC_MAX_EID }
     requires second { second < ATOMIC_MAX_EID }
     requires word { first / 64 ≡ second / 64 }
-    ensures came { BelongsTo set.now seat.new }
+    ensures belongs { BelongsTo set.now seat.new }
     ensures exchanges { exchanges_by seat.new ≤ exchanges_by seat.old + 5 }
 {
     set.add_atomic(seat, first);

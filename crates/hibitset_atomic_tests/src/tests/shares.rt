@@ -178,7 +178,7 @@ fn divided_among_as_many_as_it_has_shares(rt: HostRuntime) -> Result<(), AllocEr
 fn joined(set: &SharedBitSet, first: Seat, others: Vec<Seat>) -> Seat
     requires first { BelongsTo set.now first }
     requires others { All (BelongsTo set.now) others.items }
-    ensures came { BelongsTo set.now result }
+    ensures belongs { BelongsTo set.now result }
     ensures weight { weight_of result ≡ weight_of first + sum_by weight_of others.items }
     ensures reports { reports_of result ≡ reports_of first ++ flat_map reports_of others.items }
 {
@@ -191,9 +191,9 @@ fn joined(set: &SharedBitSet, first: Seat, others: Vec<Seat>) -> Seat
 
 // Divided and joined again, a seat has the weight and the reports that it had.
 fn divided_and_joined(set: &SharedBitSet, seat: Seat, n: usize, alloc: Global) -> Option<Seat>
-    requires came { BelongsTo set.now seat }
+    requires belongs { BelongsTo set.now seat }
     requires n { (0 < n) × (n ≤ weight_of seat) }
-    ensures came { IfSome result (λ joined. BelongsTo set.now joined) }
+    ensures belongs { IfSome result (λ joined. BelongsTo set.now joined) }
     ensures weight { IfSome result (λ joined. weight_of joined ≡ weight_of seat) }
     ensures reports { IfSome result (λ joined. reports_of joined ≡ reports_of seat) }
 {
@@ -207,7 +207,7 @@ fn divided_and_joined(set: &SharedBitSet, seat: Seat, n: usize, alloc: Global) -
 // Each seat adds an index below a thousand.
 fn add_with_each(set: &SharedBitSet, seats: &mut Vec<Seat>)
     requires { All (BelongsTo set.now) seats.old.items }
-    ensures came { All (BelongsTo set.now) seats.new.items }
+    ensures belongs { All (BelongsTo set.now) seats.new.items }
     ensures number { length seats.new.items ≡ length seats.old.items }
 {
     for place in 0..seats.len().min(1000) {

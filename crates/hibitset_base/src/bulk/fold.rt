@@ -8,7 +8,7 @@ ghost use Rattle.hibitset_base.specs.Places.{places_in, bits_from, items_of};
 ghost use Rattle.hibitset_base.specs.Walk.{items_left};
 ghost use Rattle.hibitset_base.specs.declared.util.TheConstants.{LAYERS, MAX_EID};
 
-use crate::bulk::{take_bit, take_child, take_lowest_word, take_next_block};
+use crate::bulk::{take_child, take_index, take_lowest_word, take_next_block};
 use crate::iter::BitIter;
 use crate::like::BitSetLike;
 use crate::util::Index;
@@ -41,7 +41,7 @@ fn fold_word<R, F: Fn(R, Index) -> R>(start: Index, word: usize, init: R, step: 
     let mut so_far = init;
     let mut rest = word;
     'bits: while rest != 0 {
-        so_far = step(so_far, take_bit(start, &mut rest));
+        so_far = step(so_far, take_index(start, &mut rest));
     }
     so_far
 }

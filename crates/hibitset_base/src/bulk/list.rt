@@ -30,7 +30,7 @@ const INDICES_PER_BLOCK: usize = 64 * 64;
 #[inline(never)]
 fn push_block<T: BitSetLike>(set: &T, start: u32, list: &mut Vec<Index>)
     requires within { start + 64 ≤ 64 ^ (LAYERS - 1) }
-    requires room { length list.old.items + INDICES_PER_BLOCK ≤ vec_capacity list.old }
+    requires capacity { length list.old.items + INDICES_PER_BLOCK ≤ vec_capacity list.old }
     ensures { list.new.items ≡ list.old.items
         ++ members (T.holds set.now) (start * 64) INDICES_PER_BLOCK }
 {
@@ -51,7 +51,7 @@ fn flush_if_full(buffer: &[Index], end: usize, list: &mut Vec<Index>) -> Result<
     requires some_room { 68 ≤ length buffer.now }
     ensures same { IfOk result (λ n. list.new.items ++ take n buffer.now
         ≡ list.old.items ++ take end buffer.now) }
-    ensures room { IfOk result (λ n. n + 68 ≤ length buffer.now) }
+    ensures long_enough { IfOk result (λ n. n + 68 ≤ length buffer.now) }
 {
     if buffer.len() - end < 68 {
         list.extend_from_slice(&buffer[..end])?;
@@ -74,7 +74,7 @@ fn list_subtree<T: BitSetLike>(
 ) -> Result<usize, AllocError>
     requires aligned { start % 64 ≡ 0 }
     requires within { start < 64 ^ (LAYERS - 1) }
-    requires room { 68 ≤ length buffer.old }
+    requires long_enough { 68 ≤ length buffer.old }
     requires end { end ≤ length buffer.old }
     ensures listed { IfOk result (λ n. list.new.items ++ take n buffer.new
         ≡ list.old.items ++ (take end buffer.old
@@ -105,7 +105,7 @@ fn list_left<T: BitSetLike>(
     buffer: &mut [Index],
     list: &mut Vec<Index>,
 ) -> Result<(), AllocError>
-    requires room { 68 ≤ length buffer.old }
+    requires long_enough { 68 ≤ length buffer.old }
     ensures { IfOk result (λ _. list.new.items
         ≡ list.old.items ++ items_of (T.holds set.now) (cursor_places cursor.old)) }
 {

@@ -17,7 +17,7 @@ use crate::util::Index;
 // Writes the indices of a word's bits into a list one by one, from a place on, and returns the place after them.
 #[inline]
 fn write_exactly(list: &mut [Index], at: usize, start: Index, word: usize) -> usize
-    requires room { at + count_ones word ≤ length list.old }
+    requires long_enough { at + count_ones word ≤ length list.old }
     requires aligned { start % 64 ≡ 0 }
     ensures written { take result list.new ≡ take at list.old ++ bits_from start word }
     ensures within { result ≤ length list.new }
@@ -34,7 +34,7 @@ fn write_exactly(list: &mut [Index], at: usize, start: Index, word: usize) -> us
 // As `write_exactly`, but by the faster `write_bits` while 68 entries are free, since that may write past the end.
 #[inline]
 fn write_word(list: &mut [Index], at: usize, start: Index, word: usize) -> usize
-    requires room { at + count_ones word ≤ length list.old }
+    requires long_enough { at + count_ones word ≤ length list.old }
     requires aligned { start % 64 ≡ 0 }
     requires within { start < MAX_EID }
     ensures written { take result list.new ≡ take at list.old ++ bits_from start word }
@@ -58,7 +58,7 @@ fn write_subtree<T: BitSetLike>(
 ) -> usize
     requires aligned { start % 64 ≡ 0 }
     requires within { start < 64 ^ (LAYERS - 1) }
-    requires room { at + length (items_of (T.holds set.now) (places_in 1 (bits_from start word)))
+    requires long_enough { at + length (items_of (T.holds set.now) (places_in 1 (bits_from start word)))
         ≤ length list.old }
     ensures written { take result list.new
         ≡ take at list.old ++ items_of (T.holds set.now) (places_in 1 (bits_from start word)) }

@@ -15,7 +15,7 @@ use crate::util::Index;
 // writes garbage: no branch.
 #[inline]
 pub(crate) fn write_bit(buffer: &mut [Index], end: usize, start: Index, rest: usize) -> usize
-    requires room { end < length buffer.old }
+    requires long_enough { end < length buffer.old }
     requires aligned { start % 64 ≡ 0 }
     ensures { (at total : ℕ) (done : List ℕ) → IsWritten buffer.old at end total start rest done
         → IsWritten buffer.new at (end + 1) total start result done }
@@ -28,7 +28,7 @@ pub(crate) fn write_bit(buffer: &mut [Index], end: usize, start: Index, rest: us
 // fewer, and returns the word without them.
 #[inline]
 fn write_four(buffer: &mut [Index], at: usize, start: Index, word: usize) -> usize
-    requires room { at + 4 ≤ length buffer.old }
+    requires long_enough { at + 4 ≤ length buffer.old }
     requires aligned { start % 64 ≡ 0 }
     ensures { IsWritten buffer.new at (at + 4) (count_ones word) start result
         (take at buffer.old ++ bits_from start word) }
@@ -43,7 +43,7 @@ fn write_four(buffer: &mut [Index], at: usize, start: Index, word: usize) -> usi
 // Writes the indices of a word's bits into a buffer, from a place on. It goes by eights, so it may write past them.
 #[inline]
 fn write_by_eights(buffer: &mut [Index], at: usize, start: Index, word: usize)
-    requires room { at + 64 ≤ length buffer.old }
+    requires long_enough { at + 64 ≤ length buffer.old }
     requires aligned { start % 64 ≡ 0 }
     ensures { take (at + count_ones word) buffer.new ≡ take at buffer.old ++ bits_from start word }
 {
@@ -60,7 +60,7 @@ fn write_by_eights(buffer: &mut [Index], at: usize, start: Index, word: usize)
 // Writes the indices of a word with all bits set into a buffer, from a place on. The loop is vectorized.
 #[inline]
 fn write_all(buffer: &mut [Index], at: usize, start: Index)
-    requires room { at + 64 ≤ length buffer.old }
+    requires long_enough { at + 64 ≤ length buffer.old }
     requires within { start + 64 ≤ 2 ^ 32 }
     ensures { take (at + 64) buffer.new ≡ take at buffer.old ++ bits_from start (2 ^ 64 - 1) }
 {
@@ -74,10 +74,10 @@ fn write_all(buffer: &mut [Index], at: usize, start: Index)
 // row begins has as many bits as the byte, and is at hand.
 #[inline]
 pub(crate) fn write_byte(buffer: &mut [Index], at: usize, start: Index, byte: u8) -> usize
-    requires room { at + 8 ≤ length buffer.old }
+    requires long_enough { at + 8 ≤ length buffer.old }
     requires within { start + 8 ≤ 2 ^ 32 }
     ensures written { take result buffer.new ≡ take at buffer.old ++ bits_from start byte }
-    ensures few { result ≤ at + 8 }
+    ensures max { result ≤ at + 8 }
 {
     let row = 8 * byte as usize;
     'places: for place in 0..8usize {
@@ -90,10 +90,10 @@ pub(crate) fn write_byte(buffer: &mut [Index], at: usize, start: Index, byte: u8
 // It is called where it pays: in line it would take registers from the loop around it.
 #[inline(never)]
 fn write_by_bytes(buffer: &mut [Index], at: usize, start: Index, word: usize) -> usize
-    requires room { at + 64 ≤ length buffer.old }
+    requires long_enough { at + 64 ≤ length buffer.old }
     requires within { start + 64 ≤ 2 ^ 32 }
     ensures written { take result buffer.new ≡ take at buffer.old ++ bits_from start word }
-    ensures few { result ≤ at + 64 }
+    ensures max { result ≤ at + 64 }
 {
     let mut end = at;
     'bytes: for place in 0..8u32 {
@@ -115,11 +115,11 @@ pub(crate) const MAX_BITS_BY_EIGHTS: usize = 12;
 // sparse set have no more than four, and those of a dense one all. It may write past that place.
 #[inline]
 pub(crate) fn write_bits(buffer: &mut [Index], at: usize, start: Index, word: usize) -> usize
-    requires room { at + 68 ≤ length buffer.old }
+    requires long_enough { at + 68 ≤ length buffer.old }
     requires aligned { start % 64 ≡ 0 }
     requires within { start < MAX_EID }
     ensures written { take result buffer.new ≡ take at buffer.old ++ bits_from start word }
-    ensures few { result ≤ at + 64 }
+    ensures max { result ≤ at + 64 }
 {
     if word == usize::MAX {
         write_all(buffer, at, start);
@@ -142,13 +142,13 @@ pub(crate) fn write_bits(buffer: &mut [Index], at: usize, start: Index, word: us
 // one without a test, so that a loop has the place where it ends in a register.
 #[inline]
 fn push_first(list: Vec<Index>, start: Index, word: usize, count: usize) -> (Vec<Index>, usize)
-    requires room { length list.items + count ≤ vec_capacity list }
+    requires capacity { length list.items + count ≤ vec_capacity list }
     requires aligned { start % 64 ≡ 0 }
     ensures written { (at total : ℕ) (done : List ℕ)
         → IsWritten list.items at (length list.items) total start word done
         → IsWritten result.0.items at (length result.0.items) total start result.1 done }
     ensures longer { length result.0.items ≡ length list.items + count }
-    ensures room { vec_capacity result.0 ≡ vec_capacity list }
+    ensures same_capacity { vec_capacity result.0 ≡ vec_capacity list }
 {
     let mut list = list;
     let mut rest = word;
@@ -163,12 +163,12 @@ fn push_first(list: Vec<Index>, start: Index, word: usize, count: usize) -> (Vec
 // then by eight, and cuts what is too much. Most words of a sparse set have no more than four.
 #[inline]
 fn push_few(list: Vec<Index>, start: Index, word: usize, count: usize) -> Vec<Index>
-    requires room { length list.items + 12 ≤ vec_capacity list }
+    requires capacity { length list.items + 12 ≤ vec_capacity list }
     requires aligned { start % 64 ≡ 0 }
     requires count { count ≡ count_ones word }
-    requires few { count ≤ 12 }
+    requires max { count ≤ 12 }
     ensures pushed { result.items ≡ list.items ++ bits_from start word }
-    ensures room { vec_capacity result ≡ vec_capacity list }
+    ensures same_capacity { vec_capacity result ≡ vec_capacity list }
 {
     let end = list.len() + count;
     let (mut list, rest) = push_first(list, start, word, 4);
@@ -182,10 +182,10 @@ fn push_few(list: Vec<Index>, start: Index, word: usize, count: usize) -> Vec<In
 // Puts the indices of a word with all bits set at the end of a list. The loop is vectorized.
 #[inline]
 fn push_all(list: Vec<Index>, start: Index) -> Vec<Index>
-    requires room { length list.items + 64 ≤ vec_capacity list }
+    requires capacity { length list.items + 64 ≤ vec_capacity list }
     requires within { start + 64 ≤ 2 ^ 32 }
     ensures pushed { result.items ≡ list.items ++ bits_from start (2 ^ 64 - 1) }
-    ensures room { vec_capacity result ≡ vec_capacity list }
+    ensures same_capacity { vec_capacity result ≡ vec_capacity list }
 {
     let mut list = list;
     'bits: for bit in 0..64u32 {
@@ -199,11 +199,11 @@ fn push_all(list: Vec<Index>, start: Index) -> Vec<Index>
 // so that a loop has the place where it ends in a register.
 #[inline]
 pub(crate) fn push_byte(list: Vec<Index>, start: Index, byte: u8) -> Vec<Index>
-    requires room { length list.items + 8 ≤ vec_capacity list }
+    requires capacity { length list.items + 8 ≤ vec_capacity list }
     requires within { start + 8 ≤ 2 ^ 32 }
     ensures pushed { result.items ≡ list.items ++ bits_from start byte }
-    ensures few { length result.items ≤ length list.items + 8 }
-    ensures room { vec_capacity result ≡ vec_capacity list }
+    ensures len_max { length result.items ≤ length list.items + 8 }
+    ensures same_capacity { vec_capacity result ≡ vec_capacity list }
 {
     let row = 8 * byte as usize;
     let end = list.len() + row.count_ones() as usize;
@@ -218,10 +218,10 @@ pub(crate) fn push_byte(list: Vec<Index>, start: Index, byte: u8) -> Vec<Index>
 // Puts the indices of a word's bits at the end of a list, byte by byte.
 #[inline]
 fn push_by_bytes(list: Vec<Index>, start: Index, word: usize) -> Vec<Index>
-    requires room { length list.items + 64 ≤ vec_capacity list }
+    requires capacity { length list.items + 64 ≤ vec_capacity list }
     requires within { start + 64 ≤ 2 ^ 32 }
     ensures pushed { result.items ≡ list.items ++ bits_from start word }
-    ensures room { vec_capacity result ≡ vec_capacity list }
+    ensures same_capacity { vec_capacity result ≡ vec_capacity list }
 {
     let mut list = list;
     'bytes: for place in 0..8u32 {
@@ -233,11 +233,11 @@ fn push_by_bytes(list: Vec<Index>, start: Index, word: usize) -> Vec<Index>
 // Puts the indices of a word's bits at the end of a list that has room for a whole word.
 #[inline]
 pub(crate) fn push_word(list: Vec<Index>, start: Index, word: usize) -> Vec<Index>
-    requires room { length list.items + 64 ≤ vec_capacity list }
+    requires capacity { length list.items + 64 ≤ vec_capacity list }
     requires aligned { start % 64 ≡ 0 }
     requires within { start < MAX_EID }
     ensures pushed { result.items ≡ list.items ++ bits_from start word }
-    ensures room { vec_capacity result ≡ vec_capacity list }
+    ensures same_capacity { vec_capacity result ≡ vec_capacity list }
 {
     if word == usize::MAX {
         return push_all(list, start);

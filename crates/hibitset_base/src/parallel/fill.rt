@@ -44,7 +44,7 @@ pub(super) fn fill<R: Threads + Sync, T: BitSetLike + Sync>(
     list: &mut [Index],
 )
     requires counts { AreCounts (λ s. T.holds s.now) parts.now counts.now }
-    requires room { length list.old ≡ length
+    requires exact_length { length list.old ≡ length
         (flat_map (items_left (λ s. T.holds s.now)) parts.now) }
     ensures { list.new ≡ flat_map (items_left (λ s. T.holds s.now)) parts.now }
 {

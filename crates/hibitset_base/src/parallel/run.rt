@@ -55,7 +55,7 @@ fn split_each_once<'a, T: BitSetLike + Send + Sync>(
     ensures items { IfOk result (λ v. flat_map (items_left (λ s. T.holds s.now)) v.items
         ≡ flat_map (items_left (λ s. T.holds s.now)) parts.entry.items) }
     ensures grows { IfOk result (λ v. length parts.entry.items ≤ length v.items) }
-    ensures most { IfOk result (λ v. length v.items ≤ max (length parts.entry.items) max_parts) }
+    ensures len_max { IfOk result (λ v. length v.items ≤ max (length parts.entry.items) max_parts) }
 {
     let mut total = parts.len();
     let mut next = Vec::new(alloc);
@@ -187,7 +187,7 @@ pub(crate) fn count<R: Threads + Sync, T: BitSetLike + Send + Sync>(
     cuts: Cuts,
 ) -> Result<usize, AllocError>
     requires layers { cuts.layers < LAYERS }
-    requires few { length (items_left (λ s. T.holds s.now) whole) < 2 ^ 64 }
+    requires len_max { length (items_left (λ s. T.holds s.now) whole) < 2 ^ 64 }
     ensures { IfOk result (λ n. n ≡ length (items_left (λ s. T.holds s.now) whole.entry)) }
 {
     let parts = split_into_parts(alloc, whole, cuts.layers, cuts.max_parts)?;
@@ -204,7 +204,7 @@ pub(crate) fn collect<R: Threads + Sync, T: BitSetLike + Send + Sync>(
     is_large: bool,
 ) -> Result<Vec<Index>, AllocError>
     requires layers { cuts.layers < LAYERS }
-    requires few { length (items_left (λ s. T.holds s.now) whole) < 2 ^ 64 }
+    requires len_max { length (items_left (λ s. T.holds s.now) whole) < 2 ^ 64 }
     ensures { IfOk result (λ v. v.items ≡ items_left (λ s. T.holds s.now) whole.entry) }
 {
     let parts = split_into_parts(alloc, whole, cuts.layers, cuts.max_parts)?;

@@ -215,7 +215,7 @@ fn assert_meets(
     alloc: Global,
     layers: u8,
 ) -> Result<(), AllocError>
-    requires some { 0 < layers }
+    requires nonzero { 0 < layers }
     requires fits { layers < LAYERS }
 {
     let set = Meeting::of_run(alloc)?;

@@ -112,7 +112,7 @@ fn reset(column: &mut Column<u32>) -> Result<(), AllocError>
 
 // Changes the value of an index that has one.
 fn change<V: Drop>(column: &mut Column<V>, id: Index, value: V) -> bool
-    ensures was { result ≡ is_some (value_of column.old id) }
+    ensures old_value { result ≡ is_some (value_of column.old id) }
     ensures changed { result ≡ true → (i : ℕ)
         → value_of column.new i ≡ (if i == id then Some value else value_of column.old i) }
     ensures unchanged { result ≡ false → (i : ℕ) → value_of column.new i ≡ value_of column.old i }
@@ -194,7 +194,7 @@ fn put_far(column: &mut Column<u32>) -> bool
 fn fill(column: &mut Column<u32>, value: u32) -> bool
     requires { (i : ℕ) → i < PAGE → HasRoom column.old i }
     ensures result { result ≡ true }
-    ensures room { (i : ℕ) → i < PAGE → HasRoom column.new i }
+    ensures has_room { (i : ℕ) → i < PAGE → HasRoom column.new i }
 {
     for id in 0..PAGE as Index {
         if column.insert(id, value).is_err() {

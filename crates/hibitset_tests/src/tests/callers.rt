@@ -64,8 +64,8 @@ fn drained(alloc: Global, set: &mut BitSet) -> Result<Vec<Index>, AllocError>
 // One step of a walk, which reads at most a word of each layer below the top.
 fn step<'a>(walk: &mut BitIter<&'a BitSet>) -> Option<Index>
     requires { BitsAreFromSet (λ set. word_of set.now) walk.old }
-    ensures drawn { BitsAreFromSet (λ set. word_of set.now) walk.new }
-    ensures few { words_read walk.new ≤ words_read walk.old + (LAYERS - 1) }
+    ensures from_set { BitsAreFromSet (λ set. word_of set.now) walk.new }
+    ensures reads_max { words_read walk.new ≤ words_read walk.old + (LAYERS - 1) }
 {
     laws();
     walk.next()

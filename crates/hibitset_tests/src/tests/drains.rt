@@ -15,8 +15,8 @@ use std::alloc::{AllocError, Global};
 fn take_first(set: &mut BitSet) -> Option<Index>
     ensures gone { IfSome result (λ first. (i : ℕ)
         → has set.new i ≡ (has set.old i && not (i == first))) }
-    ensures none { IfNone result (set.new ≡ set.old) }
-    ensures room { slice_len set.new 0 ≡ slice_len set.old 0 }
+    ensures empty { IfNone result (set.new ≡ set.old) }
+    ensures capacity { slice_len set.new 0 ≡ slice_len set.old 0 }
 {
     set.drain().next()
 }
@@ -26,7 +26,7 @@ fn take_all(alloc: Global, set: &mut BitSet) -> Result<Vec<Index>, AllocError>
     ensures items { IfOk result (λ items. items.items ≡ members_below MAX_EID (has set.old)) }
     ensures gone { IfOk result (λ items. (i : ℕ)
         → has set.new i ≡ (has set.old i && not (list_any (λ x. i == x) items.items))) }
-    ensures room { slice_len set.new 0 ≡ slice_len set.old 0 }
+    ensures capacity { slice_len set.new 0 ≡ slice_len set.old 0 }
 {
     let mut items = Vec::new(alloc);
     for index in set.drain() {

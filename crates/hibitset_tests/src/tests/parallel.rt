@@ -110,7 +110,7 @@ fn is_listed_in_parts(
     layers: u8,
     ids: &[Index],
 ) -> Result<bool, AllocError>
-    requires some { 0 < layers }
+    requires nonzero { 0 < layers }
     requires fits { layers < LAYERS }
 {
     let all = set.par_iter().layers_split(layers).collect(rt, alloc)?;
@@ -159,7 +159,7 @@ fn pieces_of(
     set: &BitSet,
     layers: u8,
 ) -> Result<u64, AllocError>
-    requires some { 0 < layers }
+    requires nonzero { 0 < layers }
     requires fits { layers < LAYERS }
 {
     BitParIter::new(set).layers_split(layers).fold(

@@ -62,7 +62,7 @@ pub(super) fn stranger_of(alloc: Global, ids: &[Index]) -> Result<Everywhere<Bit
 
 // What a walk over a stranger gives, in parts that are cut in so many layers.
 fn in_parts(rt: &(impl Threads + Sync), alloc: Global, layers: u8) -> Result<Vec<Index>, AllocError>
-    requires some { 0 < layers }
+    requires nonzero { 0 < layers }
     requires fits { layers < LAYERS }
 {
     stranger_of(alloc, &[0, 4096])?

@@ -14,10 +14,10 @@ use std::test::Fail;
 // empty set.
 fn set_of(alloc: Global, list: &[Index]) -> Result<AtomicBitSet, BuildError>
     ensures members { IfOk result (λ set. (i : ℕ) → (has set i ≡ true) ↔ Contains list.now i) }
-    ensures place { IfErr result (λ error. (error ≡ Memory 0) ⊎ (place_of error < length list.now)) }
+    ensures error_place { IfErr result (λ error. (error ≡ Memory 0) ⊎ (place_of error < length list.now)) }
     ensures before { IfErr result (λ error. InRangeBefore ATOMIC_MAX_EID list.now
         (place_of error)) }
-    ensures why { IfErr result (λ error. (error ≡ Memory 0) ⊎ IsRefusalIn ATOMIC_MAX_EID list.now error) }
+    ensures reason { IfErr result (λ error. (error ≡ Memory 0) ⊎ IsRefusalIn ATOMIC_MAX_EID list.now error) }
     ensures apart { IfErr result (LiesApartIn (λ i j. i / 4096 ≢ j / 4096) list.now) }
 {
     AtomicBitSet::from_slice(alloc, list)
@@ -28,11 +28,11 @@ fn set_of(alloc: Global, list: &[Index]) -> Result<AtomicBitSet, BuildError>
 fn add_all(set: &mut AtomicBitSet, list: &[Index]) -> Result<(), BuildError>
     ensures added { OnOk result ((i : ℕ)
         → (has set.new i ≡ true) ↔ ((has set.old i ≡ true) ⊎ Contains list.now i)) }
-    ensures some { IfErr result (λ error. (i : ℕ)
+    ensures added_before { IfErr result (λ error. (i : ℕ)
         → (has set.new i ≡ true) ↔ ((has set.old i ≡ true)
         ⊎ Contains (take (place_of error) list.now) i)) }
-    ensures why { IfErr result (IsRefusalIn ATOMIC_MAX_EID list.now) }
-    ensures lacks { IfErr result (LacksRoom (NeedsAllocation set.new) list.now) }
+    ensures reason { IfErr result (IsRefusalIn ATOMIC_MAX_EID list.now) }
+    ensures lacks_room { IfErr result (LacksRoom (NeedsAllocation set.new) list.now) }
 {
     set.extend_from_slice(list)
 }

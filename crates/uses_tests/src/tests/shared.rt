@@ -31,7 +31,7 @@ fn on_two_threads<R: Threads + Wait + Sync>(
 ) -> Option<(Taken, Taken)>
     requires a { BelongsTo set.now a × (reports_of a ≡ []) }
     requires b { BelongsTo set.now b × (reports_of b ≡ []) }
-    ensures came { IfSome result (λ t. BelongsTo set.now t.0.seat × BelongsTo set.now t.1.seat) }
+    ensures belongs { IfSome result (λ t. BelongsTo set.now t.0.seat × BelongsTo set.now t.1.seat) }
     ensures taken { IfSome result (λ t. (reports_of t.0.seat ≡ reverse t.0.ids.items)
         × (reports_of t.1.seat ≡ reverse t.1.ids.items)) }
 {
@@ -41,7 +41,7 @@ fn on_two_threads<R: Threads + Wait + Sync>(
         |scope| -> Option<(Taken, Taken)>
             requires a { BelongsTo set.now a × (reports_of a ≡ []) }
             requires b { BelongsTo set.now b × (reports_of b ≡ []) }
-            ensures came { IfSome result (λ t. BelongsTo set.entry.now t.0.seat
+            ensures belongs { IfSome result (λ t. BelongsTo set.entry.now t.0.seat
                 × BelongsTo set.entry.now t.1.seat) }
             ensures taken { IfSome result (λ t. (reports_of t.0.seat ≡ reverse t.0.ids.items)
                 × (reports_of t.1.seat ≡ reverse t.1.ids.items)) }
@@ -84,8 +84,8 @@ fn take_by_two<R: Threads + Wait + Sync>(
     count: usize,
 ) -> Option<TakenByTwo>
     requires { BelongsTo set.now seat × (reports_of seat ≡ []) }
-    ensures came { IfSome result (λ r. BelongsTo set.now r.seat) }
-    ensures once { IfSome result (λ r. IsDistinct nat_eq
+    ensures belongs { IfSome result (λ r. BelongsTo set.now r.seat) }
+    ensures distinct { IfSome result (λ r. IsDistinct nat_eq
         (reverse r.one.items ++ reverse r.two.items)) }
 {
     let (a, b) = set.divide(seat);

@@ -68,7 +68,7 @@ pub fn ranges(world: &mut World, walk: u32) -> Result<usize, StepError>
 /// Reads the next word of a walk. After the first none is 0, and the word has the bit of each index that the walk gives
 /// by it.
 pub fn read_next(world: &mut World, walk: u32) -> Result<usize, StepError>
-    ensures some { IfOk result (λ word. 0 < reads_of world.old walk → 0 < word) }
+    ensures nonempty { IfOk result (λ word. 0 < reads_of world.old walk → 0 < word) }
     ensures holds { IfOk result (λ word. (i : ℕ) → Contains (given world.new walk) i
         → Contains (given world.old walk) i ⊎ (bit_at word (i % 64) ≡ 1)) }
 {
@@ -82,7 +82,7 @@ pub fn read_next(world: &mut World, walk: u32) -> Result<usize, StepError>
 /// Reads the next word of a walk that knows of a word of layer 0: that is read next, and gives an index at least.
 pub fn read_leaf(world: &mut World, walk: u32) -> Result<(), StepError>
     requires leaf { HasLeafAhead world.old walk }
-    requires begun { 0 < reads_of world.old walk }
+    requires read { 0 < reads_of world.old walk }
     ensures { OnOk result (length (given world.old walk) < length (given world.new walk)) }
 {
     world_laws();
@@ -98,7 +98,7 @@ pub fn read_all(world: &mut World, walk: u32) -> Result<(), StepError>
         → is_in world.new i ≡ true) }
     ensures all { OnOk result ((i : ℕ) → is_done world.old i ≡ true
         → Contains (given world.new walk) i) }
-    ensures few { OnOk result (reads_of world.new walk ≤ 3 * length (given world.new walk) + 1) }
+    ensures reads_max { OnOk result (reads_of world.new walk ≤ 3 * length (given world.new walk) + 1) }
 {
     world_laws();
     world.apply(Event::Open { walk })?;

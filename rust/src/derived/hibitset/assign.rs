@@ -48,44 +48,6 @@ impl BitSetLike for Empty {
     }
 }
 
-// Merges one of the first `len` words, and returns whether it is not 0 then.
-#[inline]
-fn merge_word<O: Operator, B: BitSetLike>(
-    words: &mut [usize],
-    len: usize,
-    other: &B,
-    place: usize,
-) -> bool {
-    if len <= place {
-        return false;
-    }
-    let word = O::merge(words[place], other.layer0(place));
-    words[place] = word;
-    word != 0
-}
-
-// Merges those of the first `len` words below word `place` of layer 1 whose bits are set in `bits`, and returns the
-// summary of all 64, which was `summary`.
-#[inline]
-pub(crate) fn merge_words<O: Operator, B: BitSetLike>(
-    words: &mut Vec<usize>,
-    len: usize,
-    other: &B,
-    place: usize,
-    bits: usize,
-    summary: usize,
-) -> usize {
-    let slice = words.as_mut_slice();
-    let mut above = summary;
-    let mut left = bits;
-    while left != 0 {
-        let bit = take_bit(&mut left);
-        let stands = merge_word::<O, B>(slice, len, other, 64 * place + bit);
-        above = with_bit(above, bit, stands);
-    }
-    above
-}
-
 // The other's word at place `64 * place + bit` of the layer below `layer`, which is read only where the word above,
 // `theirs`, has the bit.
 #[inline]
@@ -165,9 +127,7 @@ impl BitSet {
             .layers
             .merge::<O, B>(other, place, visited & theirs, kept);
         self.layers.store_word(1, place, word);
-        if self.layers.update_parent_bit(1, place, word != 0) {
-            self.layers.update_summaries(2, place / 64, word != 0);
-        }
+        self.layers.update_above(1, place, word != 0);
     }
 
     // Merges what lies under word `place` of a layer above 1, where the other has the word `theirs`. The blocks below

@@ -141,10 +141,10 @@ impl BitSet {
     /// ensures in_range { OnOk result (InRangeBefore MAX_EID indices.now (length indices.now)) }
     /// ensures added_before { IfErr result (λ error. AddsList (has self.old) (has self.new)
     ///     (take (place_of error) indices.now)) }
-    /// ensures place { IfErr result (λ error. place_of error < length indices.now) }
+    /// ensures error_place { IfErr result (λ error. place_of error < length indices.now) }
     /// ensures in_range_before { IfErr result (λ error. InRangeBefore MAX_EID indices.now
     ///     (place_of error)) }
-    /// ensures why { IfErr result (IsRefusalIn MAX_EID indices.now) }
+    /// ensures reason { IfErr result (IsRefusalIn MAX_EID indices.now) }
     /// ensures lacks_room { IfErr result (LacksRoom (λ i. slice_len self.new 0 ≤ i / 64)
     ///     indices.now) }
     /// ensures len_min { slice_len self.old 0 ≤ slice_len self.new 0 }
@@ -175,10 +175,10 @@ impl BitSet {
     ///     → slice_len set 0 ≤ end) }
     /// ensures upper_len_max { IfOk result (λ set. (l end : ℕ) → l < LAYERS - 1
     ///     → MembersEndBy (has set) (64 ^ l * end) → slice_len set l ≤ end) }
-    /// ensures place { IfErr result (λ error. place_of error < length indices.now) }
+    /// ensures error_place { IfErr result (λ error. place_of error < length indices.now) }
     /// ensures in_range_before { IfErr result (λ error. InRangeBefore MAX_EID indices.now
     ///     (place_of error)) }
-    /// ensures why { IfErr result (IsRefusalIn MAX_EID indices.now) }
+    /// ensures reason { IfErr result (IsRefusalIn MAX_EID indices.now) }
     /// ensures apart { IfErr result (LiesApartIn (λ i j. i / 64 < j / 64) indices.now) }
     /// ```
     pub fn from_slice(alloc: Global, indices: &[Index]) -> Result<BitSet, BuildError> {
@@ -225,7 +225,7 @@ impl BitSet {
     /// ```text
     /// requires { len ≤ 64 ^ (LAYERS - 1) }
     /// ensures empty { IfOk result (λ words. words.items ≡ []) }
-    /// ensures room { IfOk result (λ words. room_for len ≤ vec_capacity words) }
+    /// ensures capacity { IfOk result (λ words. room_for len ≤ vec_capacity words) }
     /// ```
     pub fn vec_with_room(alloc: Global, len: usize) -> Result<Vec<usize>, AllocError> {
         Layers::vec_with_room(alloc, len)
@@ -267,7 +267,7 @@ impl BitSet {
     /// # Contract
     ///
     /// ```text
-    /// requires short { length layer0.now ≤ 64 ^ (LAYERS - 1) }
+    /// requires len_max { length layer0.now ≤ 64 ^ (LAYERS - 1) }
     /// requires fitted { IsFitted LAYERS (piled layer0.now layer1.now layer2.now layer3.now top) }
     /// requires summed { SummariesExactEverywhere LAYERS
     ///     (word_at (piled layer0.now layer1.now layer2.now layer3.now top)) }

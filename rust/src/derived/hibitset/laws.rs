@@ -25,23 +25,23 @@ use crate::derived::hibitset_base::util::{LAYERS, MAX_EID};
 /// # Contract
 ///
 /// ```text
-/// ensures within { (set : BitSet) (i : ℕ) → has set i ≡ true → i < MAX_EID }
+/// ensures in_range { (set : BitSet) (i : ℕ) → has set i ≡ true → i < MAX_EID }
 /// ensures members { (set : BitSet) (i : ℕ) → is_member (has set) i ≡ has set i }
 /// ensures exact { (set : BitSet) → SummariesExact LAYERS (word_of set) × AreWords (word_of set) }
 /// ensures intersection { (a b : BitSet)
 ///     → CoversWords LAYERS (has a) (word_of a) (intersection_word a b)
 ///     × CoversWords LAYERS (has b) (word_of b) (intersection_word a b) }
-/// ensures beside { (a : BitSet) (word : ℕ → ℕ → ℕ)
+/// ensures intersection_covered { (a : BitSet) (word : ℕ → ℕ → ℕ)
 ///     → CoversWords LAYERS (has a) (word_of a) (λ l p. bit_and (word_of a l p) (word l p)) }
 /// ensures equivalence { IsEquivalence ⟦<BitSet as PartialEq>⟧.eq }
 /// ensures same_members { (a b : BitSet)
 ///     → (⟦<BitSet as PartialEq>⟧.eq a b ≡ true) ↔ HaveSameMembers a b }
 /// ensures both_contain { (a b : BitSet)
 ///     → (ContainsSet a b × ContainsSet b a) ↔ (⟦<BitSet as PartialEq>⟧.eq a b ≡ true) }
-/// ensures twice { (old middle new : BitSet) (other : ℕ → Bool)
+/// ensures symmetric_difference_twice { (old middle new : BitSet) (other : ℕ → Bool)
 ///     → IsSymmetricDifference (has old) other (has middle)
 ///     → IsSymmetricDifference (has middle) other (has new) → HaveSameMembers old new }
-/// ensures away { (old middle new : BitSet) (other : ℕ → Bool)
+/// ensures difference_twice { (old middle new : BitSet) (other : ℕ → Bool)
 ///     → IsDifference (has old) other (has middle) → IsDifference (has middle) other (has new)
 ///     → HaveSameMembers middle new }
 /// ensures apart { (a b both : BitSet) → AreDisjoint MAX_EID (has a) (has b)
@@ -68,7 +68,7 @@ pub fn laws() {}
 ///     → members_below MAX_EID holds ≡ members_below x holds ++ (x ∷ []) }
 /// ensures nth { (holds : ℕ → Bool) (k x : ℕ) → slice_get (members_below MAX_EID holds) k ≡ Some x
 ///     → IsNth MAX_EID k holds x }
-/// ensures place { (holds : ℕ → Bool) (x : ℕ) → x < MAX_EID → holds x ≡ true
+/// ensures position { (holds : ℕ → Bool) (x : ℕ) → x < MAX_EID → holds x ≡ true
 ///     → slice_get (members_below MAX_EID holds) (length (members_below x holds)) ≡ Some x }
 /// ensures parts { (holds : ℕ → Bool) (x : ℕ) → x < MAX_EID → holds x ≡ true
 ///     → members_below MAX_EID holds ≡ members_below x holds

@@ -44,9 +44,11 @@ mod growth;
 pub mod laws;
 mod layers;
 mod layout;
+mod merge;
 pub mod ops;
 mod range;
 pub mod set;
+mod summaries;
 pub mod util;
 mod word_op;
 

@@ -6,27 +6,10 @@ use crate::support::rattle_std::prelude::*;
 
 use crate::derived::hibitset::layers::Layers;
 use crate::derived::hibitset::set::BitSet;
+use crate::derived::hibitset_base::bits::bits_within;
 use crate::derived::hibitset_base::range::BitSetRange;
 use crate::derived::hibitset_base::util::{Index, LAYERS, MAX_EID};
 use crate::support::rattle_std::alloc::AllocError;
-
-// A word of so many ones, from its lowest bit on.
-#[inline]
-fn low_bits(count: usize) -> usize {
-    if count == 64 {
-        usize::MAX
-    } else {
-        (1 << count) - 1
-    }
-}
-
-// The bits of word `place` of layer 0 that stand for the indices of a range.
-#[inline]
-fn bits_within(place: usize, start: usize, end: usize) -> usize {
-    let first = 64 * place;
-    let before = low_bits(start.saturating_sub(first).min(64));
-    low_bits(end.saturating_sub(first).min(64)) & !before
-}
 
 // The word with some of its bits set or cleared.
 #[inline]
@@ -64,10 +47,10 @@ impl Layers {
     fn put_range(&mut self, layer: usize, from: usize, to: usize, stands: bool) {
         let first = from / 64;
         let last = (to - 1) / 64;
-        self.put_bits(layer, first, bits_within(first, from, to), stands);
+        self.put_bits(layer, first, bits_within(64 * first, from, to), stands);
         if first < last {
             self.put_words(layer, first + 1, last, whole_word(stands));
-            self.put_bits(layer, last, bits_within(last, from, to), stands);
+            self.put_bits(layer, last, bits_within(64 * last, from, to), stands);
         }
     }
 
@@ -152,7 +135,7 @@ impl BitSet {
     ///     → has self.new i ≡ (has self.old i || in_range start end i)) }
     /// ensures err { OnErr result ((i : ℕ) → has self.new i ≡ has self.old i) }
     /// ensures succeeds { end ≤ 64 * slice_len self.old 0 → IsOk result }
-    /// ensures none { end ≤ start → IsOk result }
+    /// ensures succeeds_empty { end ≤ start → IsOk result }
     /// ensures len_min { slice_len self.old 0 ≤ slice_len self.new 0 }
     /// ensures len_max { slice_len self.new 0 ≤ max (slice_len self.old 0) ((end - 1) / 64 + 1) }
     /// ensures upper_len_max { (l : ℕ) → l < LAYERS - 1
@@ -208,7 +191,7 @@ impl BitSet {
     ///     → has self.new i ≡ differ (has self.old i) (in_range start end i)) }
     /// ensures err { OnErr result ((i : ℕ) → has self.new i ≡ has self.old i) }
     /// ensures succeeds { end ≤ 64 * slice_len self.old 0 → IsOk result }
-    /// ensures none { end ≤ start → IsOk result }
+    /// ensures succeeds_empty { end ≤ start → IsOk result }
     /// ensures len_min { slice_len self.old 0 ≤ slice_len self.new 0 }
     /// ensures len_max { slice_len self.new 0 ≤ max (slice_len self.old 0) ((end - 1) / 64 + 1) }
     /// ensures upper_len_max { (l : ℕ) → l < LAYERS - 1

@@ -6,7 +6,6 @@ use crate::support::rattle_std::prelude::*;
 
 use crate::derived::hibitset::growth::{Adds, Growth};
 use crate::derived::hibitset::layers::Layers;
-use crate::derived::hibitset::layout::became_zero_or_nonzero;
 use crate::derived::hibitset_base::bits::with_bit;
 use crate::derived::hibitset_base::like::{BitSetLike, DrainableBitSet};
 use crate::derived::hibitset_base::util::{Index, LAYERS, MAX_EID};
@@ -66,7 +65,7 @@ impl BitSet {
     /// ```text
     /// requires { max ≤ MAX_EID }
     /// ensures empty { IfOk result (λ set. (i : ℕ) → has set i ≡ false) }
-    /// ensures room { IfOk result (λ set. (i : ℕ) → i < max → i / 64 < slice_len set 0) }
+    /// ensures capacity { IfOk result (λ set. (i : ℕ) → i < max → i / 64 < slice_len set 0) }
     /// ensures length { IfOk result (λ set. slice_len set 0 ≡ (max + 63) / 64) }
     /// ensures upper_len_max { IfOk result
     ///     (λ set. (l end : ℕ) → l < LAYERS - 1 → max ≤ 64 ^ (l + 1) * end
@@ -82,8 +81,8 @@ impl BitSet {
     #[inline(never)]
     pub(crate) fn ensure_word<G: Growth>(&mut self, id: Index) -> Result<(), AllocError> {
         let len = id as usize / 64 + 1;
-        let room = G::room(self.layers.room(), len);
-        self.layers.set_len(len, room)
+        let capacity = G::capacity(self.layers.capacity(), len);
+        self.layers.set_len(len, capacity)
     }
 
     // Makes room for the words over `id`, and changes no word.
@@ -95,18 +94,6 @@ impl BitSet {
         self.ensure_word::<Adds>(id)
     }
 
-    // Puts a word into layer 0 in the place of the word `before`, of which one bit was set or cleared, and sets the
-    // summaries over it right, as far up as one becomes zero or nonzero.
-    #[inline]
-    pub(crate) fn store_word(&mut self, place: usize, before: usize, word: usize, stands: bool) {
-        self.layers.store_word(0, place, word);
-        if became_zero_or_nonzero(before, word, stands)
-            && self.layers.update_parent_bit(0, place, stands)
-        {
-            self.layers.update_summaries(1, place / 64, stands);
-        }
-    }
-
     // Puts an index in or takes it out, where there is room for it, and returns whether it was there.
     #[inline]
     fn set_bit(&mut self, id: Index, stands: bool) -> bool {
@@ -116,7 +103,7 @@ impl BitSet {
         if word == before {
             return stands;
         }
-        self.store_word(place, before, word, stands);
+        self.layers.replace_word(place, before, word, stands);
         !stands
     }
 
@@ -137,7 +124,7 @@ impl BitSet {
     ///
     /// ```text
     /// requires { id < MAX_EID }
-    /// ensures was { IfOk result (λ was. was ≡ has self.old id) }
+    /// ensures was_member { IfOk result (λ was. was ≡ has self.old id) }
     /// ensures added { OnOk result ((i : ℕ) → has self.new i ≡ (has self.old i || i == id)) }
     /// ensures err { OnErr result ((i : ℕ) → has self.new i ≡ has self.old i) }
     /// ensures succeeds { id / 64 < slice_len self.old 0 → IsOk result }
@@ -158,7 +145,7 @@ impl BitSet {
     /// # Contract
     ///
     /// ```text
-    /// ensures was { result ≡ has self.old id }
+    /// ensures was_member { result ≡ has self.old id }
     /// ensures removed { (i : ℕ) → has self.new i ≡ (has self.old i && not (i == id)) }
     /// ensures length { slice_len self.new 0 ≡ slice_len self.old 0 }
     /// ```
@@ -193,7 +180,7 @@ impl BitSet {
     /// ```text
     /// ensures members { (i : ℕ) → has self.now i ≡ stands_in result.now i }
     /// ensures length { length result.now ≡ slice_len self.now 0 }
-    /// ensures short { length result.now ≤ 64 ^ (LAYERS - 1) }
+    /// ensures len_max { length result.now ≤ 64 ^ (LAYERS - 1) }
     /// ensures words { (p : ℕ) → slice_index_or result.now p 0 ≡ word_of self.now 0 p }
     /// ```
     #[inline]
@@ -207,7 +194,7 @@ impl BitSet {
     ///
     /// ```text
     /// ensures length { length result.now ≡ slice_len self.now 1 }
-    /// ensures short { length result.now ≤ 64 ^ (LAYERS - 2) }
+    /// ensures len_max { length result.now ≤ 64 ^ (LAYERS - 2) }
     /// ensures words { (p : ℕ) → slice_index_or result.now p 0 ≡ word_of self.now 1 p }
     /// ```
     #[inline]
@@ -221,7 +208,7 @@ impl BitSet {
     ///
     /// ```text
     /// ensures length { length result.now ≡ slice_len self.now 2 }
-    /// ensures short { length result.now ≤ 64 ^ (LAYERS - 3) }
+    /// ensures len_max { length result.now ≤ 64 ^ (LAYERS - 3) }
     /// ensures words { (p : ℕ) → slice_index_or result.now p 0 ≡ word_of self.now 2 p }
     /// ```
     #[inline]
@@ -235,7 +222,7 @@ impl BitSet {
     ///
     /// ```text
     /// ensures length { length result.now ≡ slice_len self.now 3 }
-    /// ensures short { length result.now ≤ 64 ^ (LAYERS - 4) }
+    /// ensures len_max { length result.now ≤ 64 ^ (LAYERS - 4) }
     /// ensures words { (p : ℕ) → slice_index_or result.now p 0 ≡ word_of self.now 3 p }
     /// ```
     #[inline]

@@ -34,7 +34,7 @@ impl AtomicBitSet {
     ///
     /// ```text
     /// ensures empty { IfOk result (λ set. (i : ℕ) → has set i ≡ false) }
-    /// ensures bare { IfOk result (λ set. (i : ℕ) → NeedsAllocation set i) }
+    /// ensures all_lack_room { IfOk result (λ set. (i : ℕ) → NeedsAllocation set i) }
     /// ```
     pub fn new(alloc: Global) -> Result<AtomicBitSet, AllocError> {
         let layers = Layers::new(alloc)?;
@@ -77,7 +77,7 @@ impl AtomicBitSet {
     ///
     /// ```text
     /// ensures zero { IfOk result (λ set. (l p : ℕ) → word_of set l p ≡ 0) }
-    /// ensures room { IfOk result (λ set. HasRoom set.layers.layer0) }
+    /// ensures has_room { IfOk result (λ set. HasRoom set.layers.layer0) }
     /// ```
     pub(crate) fn with_room(alloc: Global) -> Result<AtomicBitSet, AllocError> {
         let mut layers = Layers::new(alloc)?;
@@ -90,11 +90,11 @@ impl AtomicBitSet {
     /// # Contract
     ///
     /// ```text
-    /// requires place { place < 64 ^ (ATOMIC_LAYERS - 1) }
-    /// requires room { HasRoom self.old.layers.layer0 }
+    /// requires in_range { place < 64 ^ (ATOMIC_LAYERS - 1) }
+    /// requires has_room { HasRoom self.old.layers.layer0 }
     /// ensures here { word_of self.new 0 place ≡ word }
     /// ensures others { (p : ℕ) → p ≢ place → word_of self.new 0 p ≡ word_of self.old 0 p }
-    /// ensures room { HasRoom self.new.layers.layer0 }
+    /// ensures has_room { HasRoom self.new.layers.layer0 }
     /// ```
     #[inline]
     pub(crate) fn store_word(&mut self, place: usize, word: usize) {
@@ -134,17 +134,18 @@ impl AtomicBitSet {
     ///
     /// ```text
     /// requires { id < ATOMIC_MAX_EID }
-    /// ensures was { IfOk result (λ was. was ≡ has self.old id) }
+    /// ensures was_member { IfOk result (λ was. was ≡ has self.old id) }
     /// ensures added { OnOk result ((i : ℕ) → has self.new i ≡ (has self.old i || i == id)) }
     /// ensures err { OnErr result ((i : ℕ) → has self.new i ≡ has self.old i) }
-    /// ensures near { SharesBlockWithMember self.old id → IsOk result }
-    /// ensures lacking { OnErr result (NeedsAllocation self.old id) }
-    /// ensures keeps { (i : ℕ) → NeedsAllocation self.new i → NeedsAllocation self.old i }
-    /// ensures most { (i : ℕ) → i / 4096 ≢ id / 4096 → NeedsAllocation self.old i
+    /// ensures succeeds_near { SharesBlockWithMember self.old id → IsOk result }
+    /// ensures err_lacks_room { OnErr result (NeedsAllocation self.old id) }
+    /// ensures frees_none { (i : ℕ) → NeedsAllocation self.new i → NeedsAllocation self.old i }
+    /// ensures makes_no_more { (i : ℕ) → i / 4096 ≢ id / 4096 → NeedsAllocation self.old i
     ///     → NeedsAllocation self.new i }
-    /// ensures stays { OnErr result ((i : ℕ) → NeedsAllocation self.old i
+    /// ensures err_makes_none { OnErr result ((i : ℕ) → NeedsAllocation self.old i
     ///     → NeedsAllocation self.new i) }
-    /// ensures succeeds { AllBlocksReserved self.old → IsOk result × AllBlocksReserved self.new }
+    /// ensures succeeds { AllBlocksReserved self.old → IsOk result }
+    /// ensures all_reserved { AllBlocksReserved self.old → AllBlocksReserved self.new }
     /// ```
     #[inline]
     pub fn add(&mut self, id: Index) -> Result<bool, AllocError> {
@@ -157,11 +158,11 @@ impl AtomicBitSet {
     /// # Contract
     ///
     /// ```text
-    /// ensures was { result ≡ has self.old id }
+    /// ensures was_member { result ≡ has self.old id }
     /// ensures removed { (i : ℕ) → has self.new i ≡ (has self.old i && not (i == id)) }
-    /// ensures keeps { (i : ℕ) → NeedsAllocation self.new i → NeedsAllocation self.old i }
-    /// ensures most { (i : ℕ) → NeedsAllocation self.old i → NeedsAllocation self.new i }
-    /// ensures room { AllBlocksReserved self.old → AllBlocksReserved self.new }
+    /// ensures frees_none { (i : ℕ) → NeedsAllocation self.new i → NeedsAllocation self.old i }
+    /// ensures makes_no_more { (i : ℕ) → NeedsAllocation self.old i → NeedsAllocation self.new i }
+    /// ensures all_reserved { AllBlocksReserved self.old → AllBlocksReserved self.new }
     /// ```
     #[inline]
     pub fn remove(&mut self, id: Index) -> bool {
@@ -190,9 +191,9 @@ impl AtomicBitSet {
     ///
     /// ```text
     /// ensures empty { (i : ℕ) → has self.new i ≡ false }
-    /// ensures keeps { (i : ℕ) → NeedsAllocation self.new i → NeedsAllocation self.old i }
-    /// ensures most { (i : ℕ) → NeedsAllocation self.old i → NeedsAllocation self.new i }
-    /// ensures room { AllBlocksReserved self.old → AllBlocksReserved self.new }
+    /// ensures frees_none { (i : ℕ) → NeedsAllocation self.new i → NeedsAllocation self.old i }
+    /// ensures makes_no_more { (i : ℕ) → NeedsAllocation self.old i → NeedsAllocation self.new i }
+    /// ensures all_reserved { AllBlocksReserved self.old → AllBlocksReserved self.new }
     /// ```
     pub fn clear(&mut self) {
         self.layers.clear();

@@ -57,7 +57,7 @@ impl Blocks {
     ///
     /// ```text
     /// ensures same { (p : ℕ) → block_word self.new p ≡ block_word self.old p }
-    /// ensures room { OnOk result (HasRoom self.new) }
+    /// ensures has_room { OnOk result (HasRoom self.new) }
     /// ```
     pub(crate) fn make_room(&mut self) -> Result<(), AllocError> {
         self.words.reserve(64 * BLOCK_COUNT)
@@ -96,10 +96,10 @@ impl Blocks {
     /// requires { position < 64 ^ (ATOMIC_LAYERS - 1) }
     /// ensures same { (p : ℕ) → block_word self.new p ≡ block_word self.old p }
     /// ensures made { OnOk result (IsMade self.new position) }
-    /// ensures there { IsMade self.old position → IsOk result }
+    /// ensures succeeds_made { IsMade self.old position → IsOk result }
     /// ensures err { OnErr result (IsUnmade self.old (position / 64)
     ///     × (self.new.places.items ≡ self.old.places.items)) }
-    /// ensures keeps { (k : ℕ) → IsUnmade self.new k → IsUnmade self.old k }
+    /// ensures frees_none { (k : ℕ) → IsUnmade self.new k → IsUnmade self.old k }
     /// ensures others { (k : ℕ) → k ≢ position / 64 → IsUnmade self.old k → IsUnmade self.new k }
     /// ensures succeeds { HasRoom self.old → IsOk result × HasRoom self.new }
     /// ```
@@ -120,7 +120,7 @@ impl Blocks {
     /// ensures here { block_word self.new position ≡ word }
     /// ensures others { (p : ℕ) → p ≢ position → block_word self.new p ≡ block_word self.old p }
     /// ensures made { self.new.places.items ≡ self.old.places.items }
-    /// ensures room { vec_capacity self.new.words ≡ vec_capacity self.old.words }
+    /// ensures same_capacity { vec_capacity self.new.words ≡ vec_capacity self.old.words }
     /// ```
     #[inline]
     pub(crate) fn store_word(&mut self, position: usize, word: usize) {
@@ -157,7 +157,7 @@ impl Blocks {
     /// ensures inside { (p : ℕ) → p / 64 ≡ block → block_word self.new p ≡ 0 }
     /// ensures outside { (p : ℕ) → p / 64 ≢ block → block_word self.new p ≡ block_word self.old p }
     /// ensures made { self.new.places.items ≡ self.old.places.items }
-    /// ensures room { vec_capacity self.new.words ≡ vec_capacity self.old.words }
+    /// ensures same_capacity { vec_capacity self.new.words ≡ vec_capacity self.old.words }
     /// ```
     pub(crate) fn clear_block(&mut self, block: usize) {
         let place = self.places[block];

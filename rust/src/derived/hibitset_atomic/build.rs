@@ -36,8 +36,8 @@ impl AtomicBitSet {
     ///     (has self.old) (has self.new)) }
     /// ensures stops { IfErr result (StopsAtRefused U.into_iter_gives U.IntoIter.next_gives
     ///     (λ i. i) iter (has self.old) (has self.new) (NeedsAllocation self.new)) }
-    /// ensures keeps { (i : ℕ) → NeedsAllocation self.new i → NeedsAllocation self.old i }
-    /// ensures most { (i : ℕ) → NeedsAllocation self.old i → SharesBlockWithNone self.new i
+    /// ensures frees_none { (i : ℕ) → NeedsAllocation self.new i → NeedsAllocation self.old i }
+    /// ensures makes_no_more { (i : ℕ) → NeedsAllocation self.old i → SharesBlockWithNone self.new i
     ///     → NeedsAllocation self.new i }
     /// ```
     pub fn extend_indices<U: IntoIterator<Item = Index>>(
@@ -58,8 +58,8 @@ impl AtomicBitSet {
     ///     iter (has self.old) (has self.new)) }
     /// ensures stops { IfErr result (StopsAtRefused U.into_iter_gives U.IntoIter.next_gives
     ///     (λ i. i.now) iter (has self.old) (has self.new) (NeedsAllocation self.new)) }
-    /// ensures keeps { (i : ℕ) → NeedsAllocation self.new i → NeedsAllocation self.old i }
-    /// ensures most { (i : ℕ) → NeedsAllocation self.old i → SharesBlockWithNone self.new i
+    /// ensures frees_none { (i : ℕ) → NeedsAllocation self.new i → NeedsAllocation self.old i }
+    /// ensures makes_no_more { (i : ℕ) → NeedsAllocation self.old i → SharesBlockWithNone self.new i
     ///     → NeedsAllocation self.new i }
     /// ```
     pub fn extend_index_refs<'a, U: IntoIterator<Item = &'a Index>>(
@@ -85,7 +85,7 @@ impl AtomicBitSet {
     ///     iter }
     /// ensures all { IfOk result (λ set. TakesAll U.into_iter_gives U.IntoIter.next_gives (λ i. i)
     ///     iter (λ _. false) (has set)) }
-    /// ensures most { IfOk result (λ set. (i : ℕ) → SharesBlockWithNone set i
+    /// ensures makes_no_more { IfOk result (λ set. (i : ℕ) → SharesBlockWithNone set i
     ///     → NeedsAllocation set i) }
     /// ensures stops { IfErr result (λ error. (error ≡ Memory 0)
     ///     ⊎ Refuses U.into_iter_gives U.IntoIter.next_gives (λ i. i) iter error) }
@@ -112,7 +112,7 @@ impl AtomicBitSet {
     ///     iter }
     /// ensures all { IfOk result (λ set. TakesAll U.into_iter_gives U.IntoIter.next_gives
     ///     (λ i. i.now) iter (λ _. false) (has set)) }
-    /// ensures most { IfOk result (λ set. (i : ℕ) → SharesBlockWithNone set i
+    /// ensures makes_no_more { IfOk result (λ set. (i : ℕ) → SharesBlockWithNone set i
     ///     → NeedsAllocation set i) }
     /// ensures stops { IfErr result (λ error. (error ≡ Memory 0)
     ///     ⊎ Refuses U.into_iter_gives U.IntoIter.next_gives (λ i. i.now) iter error) }
@@ -146,13 +146,13 @@ impl AtomicBitSet {
     ///     (length indices.now)) }
     /// ensures added_before { IfErr result (λ error. AddsList (has self.old) (has self.new)
     ///     (take (place_of error) indices.now)) }
-    /// ensures place { IfErr result (λ error. place_of error < length indices.now) }
+    /// ensures error_place { IfErr result (λ error. place_of error < length indices.now) }
     /// ensures in_range_before { IfErr result (λ error. InRangeBefore ATOMIC_MAX_EID indices.now
     ///     (place_of error)) }
-    /// ensures why { IfErr result (IsRefusalIn ATOMIC_MAX_EID indices.now) }
+    /// ensures reason { IfErr result (IsRefusalIn ATOMIC_MAX_EID indices.now) }
     /// ensures lacks_room { IfErr result (LacksRoom (NeedsAllocation self.new) indices.now) }
-    /// ensures keeps { (i : ℕ) → NeedsAllocation self.new i → NeedsAllocation self.old i }
-    /// ensures most { (i : ℕ) → NeedsAllocation self.old i → SharesBlockWithNone self.new i
+    /// ensures frees_none { (i : ℕ) → NeedsAllocation self.new i → NeedsAllocation self.old i }
+    /// ensures makes_no_more { (i : ℕ) → NeedsAllocation self.old i → SharesBlockWithNone self.new i
     ///     → NeedsAllocation self.new i }
     /// ```
     pub fn extend_from_slice(&mut self, indices: &[Index]) -> Result<(), BuildError> {
@@ -174,13 +174,13 @@ impl AtomicBitSet {
     ///     → (has set i ≡ true) ↔ Contains indices.now i) }
     /// ensures in_range { IfOk result (λ _. InRangeBefore ATOMIC_MAX_EID indices.now
     ///     (length indices.now)) }
-    /// ensures most { IfOk result (λ set. (i : ℕ) → SharesBlockWithNone set i
+    /// ensures makes_no_more { IfOk result (λ set. (i : ℕ) → SharesBlockWithNone set i
     ///     → NeedsAllocation set i) }
-    /// ensures place { IfErr result (λ error. (error ≡ Memory 0)
+    /// ensures error_place { IfErr result (λ error. (error ≡ Memory 0)
     ///     ⊎ (place_of error < length indices.now)) }
     /// ensures in_range_before { IfErr result (λ error. InRangeBefore ATOMIC_MAX_EID indices.now
     ///     (place_of error)) }
-    /// ensures why { IfErr result (λ error. (error ≡ Memory 0)
+    /// ensures reason { IfErr result (λ error. (error ≡ Memory 0)
     ///     ⊎ IsRefusalIn ATOMIC_MAX_EID indices.now error) }
     /// ensures apart { IfErr result (LiesApartIn (λ i j. i / 4096 ≢ j / 4096) indices.now) }
     /// ```

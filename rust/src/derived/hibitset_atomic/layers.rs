@@ -5,7 +5,7 @@
 use crate::support::rattle_std::prelude::*;
 
 use crate::derived::hibitset_atomic::blocks::{Blocks, zeros};
-use crate::derived::hibitset_base::bits::{replace, take_bit, with_bit};
+use crate::derived::hibitset_base::bits::{replace, take_bit, with_bit, word_or_zero};
 use crate::support::rattle_std::alloc::{AllocError, Global};
 
 /// Number of layers of an atomic set.
@@ -62,7 +62,7 @@ impl Layers {
     ///
     /// ```text
     /// ensures same { (l p : ℕ) → layer_word self.new l p ≡ layer_word self.old l p }
-    /// ensures room { OnOk result (HasRoom self.new.layer0) }
+    /// ensures has_room { OnOk result (HasRoom self.new.layer0) }
     /// ```
     pub(crate) fn make_room(&mut self) -> Result<(), AllocError> {
         self.layer0.make_room()
@@ -87,7 +87,7 @@ impl Layers {
     /// requires { SummariesExactEverywhere ATOMIC_LAYERS (layer_word self.old) }
     /// ensures zero { (l p : ℕ) → layer_word self.new l p ≡ 0 }
     /// ensures blocks { self.new.layer0.places.items ≡ self.old.layer0.places.items }
-    /// ensures room { vec_capacity self.new.layer0.words ≡ vec_capacity self.old.layer0.words }
+    /// ensures same_capacity { vec_capacity self.new.layer0.words ≡ vec_capacity self.old.layer0.words }
     /// ```
     pub(crate) fn clear(&mut self) {
         let mut left = self.layer3;
@@ -118,7 +118,7 @@ impl Layers {
     /// ```
     #[inline]
     pub(crate) fn layer2(&self, position: usize) -> usize {
-        self.layer2.get(position).copied().unwrap_or(0)
+        word_or_zero(&self.layer2, position)
     }
 
     /// The word of layer 1 at a position.
@@ -130,7 +130,7 @@ impl Layers {
     /// ```
     #[inline]
     pub(crate) fn layer1(&self, position: usize) -> usize {
-        self.layer1.get(position).copied().unwrap_or(0)
+        word_or_zero(&self.layer1, position)
     }
 
     /// The word of layer 0 at a position.
@@ -153,10 +153,10 @@ impl Layers {
     /// requires { place < 64 ^ (ATOMIC_LAYERS - 1) }
     /// ensures same { (l p : ℕ) → layer_word self.new l p ≡ layer_word self.old l p }
     /// ensures made { OnOk result (IsMade self.new.layer0 place) }
-    /// ensures there { IsMade self.old.layer0 place → IsOk result }
+    /// ensures succeeds_made { IsMade self.old.layer0 place → IsOk result }
     /// ensures err { OnErr result (IsUnmade self.old.layer0 (place / 64)
     ///     × (self.new.layer0.places.items ≡ self.old.layer0.places.items)) }
-    /// ensures keeps { (k : ℕ) → IsUnmade self.new.layer0 k → IsUnmade self.old.layer0 k }
+    /// ensures frees_none { (k : ℕ) → IsUnmade self.new.layer0 k → IsUnmade self.old.layer0 k }
     /// ensures others { (k : ℕ) → k ≢ place / 64 → IsUnmade self.old.layer0 k
     ///     → IsUnmade self.new.layer0 k }
     /// ensures succeeds { HasRoom self.old.layer0 → IsOk result × HasRoom self.new.layer0 }
@@ -178,7 +178,7 @@ impl Layers {
     /// ensures here { layer_word self.new 0 place ≡ word }
     /// ensures others { (p : ℕ) → p ≢ place → layer_word self.new 0 p ≡ layer_word self.old 0 p }
     /// ensures summed { SummariesExactEverywhere ATOMIC_LAYERS (layer_word self.new) }
-    /// ensures room { HasRoom self.old.layer0 → HasRoom self.new.layer0 }
+    /// ensures keeps_room { HasRoom self.old.layer0 → HasRoom self.new.layer0 }
     /// ensures blocks { self.new.layer0.places.items ≡ self.old.layer0.places.items }
     /// ```
     #[inline]

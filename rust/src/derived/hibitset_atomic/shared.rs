@@ -87,7 +87,7 @@ impl AtomicBitSet {
     ///
     /// ```text
     /// ensures value_returned { IfErr result (λ set. set ≡ self) }
-    /// ensures came { IfOk result (λ r. BelongsTo r.0 r.1) }
+    /// ensures belongs { IfOk result (λ r. BelongsTo r.0 r.1) }
     /// ensures opening { IfOk result (λ r. (weight_of r.1 ≡ SHARES) × (reports_of r.1 ≡ [])
     ///     × ((i : ℕ) → ¬ IsKnown r.1 i)) }
     /// ensures steps { IfOk result (λ r. (loads_by r.1 ≡ 0) × (exchanges_by r.1 ≡ 0)) }
@@ -134,19 +134,21 @@ impl SharedBitSet {
     ///
     /// ```text
     /// requires id { id < ATOMIC_MAX_EID }
-    /// requires came { BelongsTo self.now seat.old }
-    /// ensures came { BelongsTo self.now seat.new × (weight_of seat.new ≡ weight_of seat.old) }
-    /// ensures known { IsKnown seat.new id × ((i : ℕ) → IsKnown seat.old i → IsKnown seat.new i) }
-    /// ensures there { result ≡ true → reports_of seat.new ≡ reports_of seat.old }
+    /// requires belongs { BelongsTo self.now seat.old }
+    /// ensures belongs { BelongsTo self.now seat.new }
+    /// ensures weight { weight_of seat.new ≡ weight_of seat.old }
+    /// ensures known { IsKnown seat.new id }
+    /// ensures keeps_known { (i : ℕ) → IsKnown seat.old i → IsKnown seat.new i }
+    /// ensures no_report { result ≡ true → reports_of seat.new ≡ reports_of seat.old }
     /// ensures new { result ≡ false → (reports_of seat.new ≡ id ∷ reports_of seat.old)
     ///     × ¬ IsOld self.now id × ¬ IsKnown seat.old id }
-    /// ensures once { result ≡ false → ¬ Contains (reports_of seat.old) id }
+    /// ensures not_reported { result ≡ false → ¬ Contains (reports_of seat.old) id }
     /// ensures loads { loads_by seat.new ≤ loads_by seat.old + (2 * ATOMIC_LAYERS - 1) }
     /// ensures exchanges { exchanges_by seat.new ≤ exchanges_by seat.old + ATOMIC_LAYERS }
-    /// ensures still { IsOld self.now id ⊎ IsKnown seat.old id
+    /// ensures known_cost { IsOld self.now id ⊎ IsKnown seat.old id
     ///     → (loads_by seat.new ≤ loads_by seat.old + ATOMIC_LAYERS)
     ///     × (exchanges_by seat.new ≡ exchanges_by seat.old) }
-    /// ensures spared { SparesSharedBits self.now seat.old seat.new id }
+    /// ensures spares_shared { SparesSharedBits self.now seat.old seat.new id }
     /// ```
     #[inline]
     pub fn add_atomic(&self, seat: &mut Seat, id: Index) -> bool {
@@ -178,12 +180,13 @@ impl SharedBitSet {
     /// # Contract
     ///
     /// ```text
-    /// requires came { BelongsTo self.now seat.old }
-    /// ensures came { BelongsTo self.now seat.new × (weight_of seat.new ≡ weight_of seat.old)
-    ///     × (reports_of seat.new ≡ reports_of seat.old) }
-    /// ensures known { (i : ℕ) → IsKnown seat.old i → IsKnown seat.new i }
-    /// ensures yes { result ≡ true → (id < ATOMIC_MAX_EID) × IsKnown seat.new id }
-    /// ensures no { result ≡ false → ¬ IsOld self.now id × ¬ IsKnown seat.new id }
+    /// requires belongs { BelongsTo self.now seat.old }
+    /// ensures belongs { BelongsTo self.now seat.new }
+    /// ensures weight { weight_of seat.new ≡ weight_of seat.old }
+    /// ensures reports { reports_of seat.new ≡ reports_of seat.old }
+    /// ensures keeps_known { (i : ℕ) → IsKnown seat.old i → IsKnown seat.new i }
+    /// ensures if_true { result ≡ true → (id < ATOMIC_MAX_EID) × IsKnown seat.new id }
+    /// ensures if_false { result ≡ false → ¬ IsOld self.now id × ¬ IsKnown seat.new id }
     /// ensures steps { (loads_by seat.new ≤ loads_by seat.old + ATOMIC_LAYERS)
     ///     × (exchanges_by seat.new ≡ exchanges_by seat.old) }
     /// ```
@@ -208,7 +211,7 @@ impl SharedBitSet {
     ///
     /// ```text
     /// requires { BelongsTo self.now seat }
-    /// ensures came { BelongsTo self.now result.0
+    /// ensures belongs { BelongsTo self.now result.0
     ///     × IfSome result.1 (λ second. BelongsTo self.now second) }
     /// ensures weights { (weight_of result.0 ≡ weight_of seat - weight_of seat / 2)
     ///     × IfSome result.1 (λ second. weight_of second ≡ weight_of seat / 2) }
@@ -216,7 +219,7 @@ impl SharedBitSet {
     ///     × IfSome result.1 (λ second. reports_of second ≡ []) }
     /// ensures known { (i : ℕ) → IsKnown seat i
     ///     → IsKnown result.0 i × IfSome result.1 (λ second. IsKnown second i) }
-    /// ensures one { IsNone result.1 ↔ (weight_of seat ≡ 1) }
+    /// ensures one_share { IsNone result.1 ↔ (weight_of seat ≡ 1) }
     /// ensures steps { (loads_by result.0 ≡ loads_by seat)
     ///     × (exchanges_by result.0 ≡ exchanges_by seat)
     ///     × IfSome result.1 (λ second. (loads_by second ≡ 0) × (exchanges_by second ≡ 0)) }
@@ -249,12 +252,12 @@ impl SharedBitSet {
     ///
     /// ```text
     /// requires { BelongsTo self.now a × BelongsTo self.now b }
-    /// ensures came { BelongsTo self.now result }
+    /// ensures belongs { BelongsTo self.now result }
     /// ensures weight { (weight_of result ≡ weight_of a + weight_of b)
     ///     × (weight_of a + weight_of b ≤ SHARES) }
     /// ensures reports { reports_of result ≡ reports_of a ++ reports_of b }
     /// ensures apart { (i : ℕ) → Contains (reports_of a) i → ¬ Contains (reports_of b) i }
-    /// ensures once { IsDistinct nat_eq (reports_of result) }
+    /// ensures distinct { IsDistinct nat_eq (reports_of result) }
     /// ensures honest { (i : ℕ) → Contains (reports_of result) i → ¬ IsOld self.now i }
     /// ensures known { (i : ℕ) → IsKnown a i ⊎ IsKnown b i → IsKnown result i }
     /// ensures steps { (loads_by result ≡ loads_by a + loads_by b + 1)
@@ -303,11 +306,11 @@ impl SharedBitSet {
     /// ensures reported { IfOk result (λ set. (i : ℕ) → Contains (reports_of seat) i
     ///     → has set i ≡ true) }
     /// ensures all { IfOk result (λ set. HasAllReports self seat (has set)) }
-    /// ensures whole { IfOk result (λ set. weight_of seat ≡ SHARES → (i : ℕ) → has set i ≡ true
+    /// ensures complete { IfOk result (λ set. weight_of seat ≡ SHARES → (i : ℕ) → has set i ≡ true
     ///     → IsOld self i ⊎ Contains (reports_of seat) i) }
-    /// ensures once { IsOk result → IsDistinct nat_eq (reports_of seat)
+    /// ensures distinct { IsOk result → IsDistinct nat_eq (reports_of seat)
     ///     × ((i : ℕ) → Contains (reports_of seat) i → ¬ IsOld self i) }
-    /// ensures room { IfOk result (λ set. AllBlocksReserved set) }
+    /// ensures all_reserved { IfOk result (λ set. AllBlocksReserved set) }
     /// ```
     pub fn settle(self, seat: Seat) -> Result<AtomicBitSet, (SharedBitSet, Seat)> {
         let Ok(mut set) = AtomicBitSet::with_room(self.alloc) else {
@@ -329,7 +332,7 @@ impl Seat {
     ///
     /// ```text
     /// ensures weight { result ≡ weight_of self.now }
-    /// ensures some { (0 < result) × (result ≤ SHARES) }
+    /// ensures in_range { (0 < result) × (result ≤ SHARES) }
     /// ```
     pub fn weight(&self) -> u32 {
         self.weight
@@ -341,8 +344,8 @@ impl Seat {
     /// # Contract
     ///
     /// ```text
-    /// ensures yes { result ≡ true → weight_of self.now ≡ SHARES }
-    /// ensures no { result ≡ false → weight_of self.now ≢ SHARES }
+    /// ensures if_true { result ≡ true → weight_of self.now ≡ SHARES }
+    /// ensures if_false { result ≡ false → weight_of self.now ≢ SHARES }
     /// ```
     pub fn is_whole(&self) -> bool {
         self.weight == SHARES

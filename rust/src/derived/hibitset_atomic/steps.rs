@@ -65,7 +65,7 @@ impl World {
     ///
     /// ```text
     /// ensures old { old_of result ≡ has set }
-    /// ensures past { past_of result ≡ [] }
+    /// ensures no_history { past_of result ≡ [] }
     /// ```
     pub fn new(alloc: Global, set: AtomicBitSet) -> World {
         World {

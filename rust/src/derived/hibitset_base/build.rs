@@ -49,11 +49,11 @@ pub trait FallibleInsert: BitSetLike {
     /// ensures added { OnOk result ((i : ℕ)
     ///     → Self.holds self.new i ≡ (Self.holds self.old i || i == index)) }
     /// ensures err { OnErr result ((i : ℕ) → Self.holds self.new i ≡ Self.holds self.old i) }
-    /// ensures lacking { OnErr result (needs_allocation self.old index) }
-    /// ensures keeps { (j : ℕ) → needs_allocation self.new j → needs_allocation self.old j }
-    /// ensures most { OnOk result ((j : ℕ) → needs_allocation self.old j
+    /// ensures err_lacks_room { OnErr result (needs_allocation self.old index) }
+    /// ensures frees_none { (j : ℕ) → needs_allocation self.new j → needs_allocation self.old j }
+    /// ensures makes_no_more { OnOk result ((j : ℕ) → needs_allocation self.old j
     ///     → need_separate_room index j → needs_allocation self.new j) }
-    /// ensures stays { OnErr result ((j : ℕ) → needs_allocation self.old j
+    /// ensures err_makes_none { OnErr result ((j : ℕ) → needs_allocation self.old j
     ///     → needs_allocation self.new j) }
     /// ```
     fn add_index(&mut self, index: Index) -> Result<bool, AllocError>;
@@ -82,8 +82,8 @@ fn add_item<T: FallibleInsert>(set: &mut T, place: usize, index: Index) -> Resul
 /// ensures stops { IfErr result (StopsAtRefusedBelow T.RANGE U.into_iter_gives
 ///     U.IntoIter.next_gives (λ i. i) iter (T.holds set.old) (T.holds set.new)
 ///     (T.needs_allocation set.new)) }
-/// ensures keeps { (j : ℕ) → T.needs_allocation set.new j → T.needs_allocation set.old j }
-/// ensures most { (j : ℕ) → T.needs_allocation set.old j
+/// ensures frees_none { (j : ℕ) → T.needs_allocation set.new j → T.needs_allocation set.old j }
+/// ensures makes_no_more { (j : ℕ) → T.needs_allocation set.old j
 ///     → LiesApart T.need_separate_room (T.holds set.new) j → T.needs_allocation set.new j }
 /// ```
 #[doc(hidden)]
@@ -110,8 +110,8 @@ pub fn extend_indices<T: FallibleInsert, U: IntoIterator<Item = Index>>(
 /// ensures stops { IfErr result (StopsAtRefusedBelow T.RANGE U.into_iter_gives
 ///     U.IntoIter.next_gives (λ i. i.now) iter (T.holds set.old) (T.holds set.new)
 ///     (T.needs_allocation set.new)) }
-/// ensures keeps { (j : ℕ) → T.needs_allocation set.new j → T.needs_allocation set.old j }
-/// ensures most { (j : ℕ) → T.needs_allocation set.old j
+/// ensures frees_none { (j : ℕ) → T.needs_allocation set.new j → T.needs_allocation set.old j }
+/// ensures makes_no_more { (j : ℕ) → T.needs_allocation set.old j
 ///     → LiesApart T.need_separate_room (T.holds set.new) j → T.needs_allocation set.new j }
 /// ```
 #[doc(hidden)]
@@ -135,10 +135,10 @@ pub fn extend_index_refs<'a, T: FallibleInsert, U: IntoIterator<Item = &'a Index
 /// requires finite { IsFiniteIterable U.into_iter_gives U.IntoIter.can_next U.IntoIter.remaining
 ///     iter }
 /// requires empty { (i : ℕ) → T.holds set i ≡ false }
-/// requires bare { (j : ℕ) → T.needs_allocation set j }
+/// requires all_lack_room { (j : ℕ) → T.needs_allocation set j }
 /// ensures all { IfOk result (λ made. TakesAllBelow T.RANGE U.into_iter_gives U.IntoIter.next_gives
 ///     (λ i. i) iter (λ _. false) (T.holds made)) }
-/// ensures most { IfOk result (λ made. (j : ℕ) → LiesApart T.need_separate_room (T.holds made) j
+/// ensures makes_no_more { IfOk result (λ made. (j : ℕ) → LiesApart T.need_separate_room (T.holds made) j
 ///     → T.needs_allocation made j) }
 /// ensures stops { IfErr result (RefusesBelow T.RANGE U.into_iter_gives U.IntoIter.next_gives
 ///     (λ i. i) iter T.need_separate_room) }
@@ -160,10 +160,10 @@ pub fn from_indices<T: FallibleInsert, U: IntoIterator<Item = Index>>(
 /// requires finite { IsFiniteIterable U.into_iter_gives U.IntoIter.can_next U.IntoIter.remaining
 ///     iter }
 /// requires empty { (i : ℕ) → T.holds set i ≡ false }
-/// requires bare { (j : ℕ) → T.needs_allocation set j }
+/// requires all_lack_room { (j : ℕ) → T.needs_allocation set j }
 /// ensures all { IfOk result (λ made. TakesAllBelow T.RANGE U.into_iter_gives U.IntoIter.next_gives
 ///     (λ i. i.now) iter (λ _. false) (T.holds made)) }
-/// ensures most { IfOk result (λ made. (j : ℕ) → LiesApart T.need_separate_room (T.holds made) j
+/// ensures makes_no_more { IfOk result (λ made. (j : ℕ) → LiesApart T.need_separate_room (T.holds made) j
 ///     → T.needs_allocation made j) }
 /// ensures stops { IfErr result (RefusesBelow T.RANGE U.into_iter_gives U.IntoIter.next_gives
 ///     (λ i. i.now) iter T.need_separate_room) }
@@ -186,13 +186,13 @@ pub fn from_index_refs<'a, T: FallibleInsert, U: IntoIterator<Item = &'a Index>>
 /// ensures in_range { OnOk result (InRangeBefore T.RANGE indices.now (length indices.now)) }
 /// ensures added_before { IfErr result (λ error. AddsList (T.holds set.old) (T.holds set.new)
 ///     (take (place_of error) indices.now)) }
-/// ensures place { IfErr result (λ error. place_of error < length indices.now) }
+/// ensures error_place { IfErr result (λ error. place_of error < length indices.now) }
 /// ensures in_range_before { IfErr result (λ error. InRangeBefore T.RANGE indices.now
 ///     (place_of error)) }
-/// ensures why { IfErr result (IsRefusalIn T.RANGE indices.now) }
+/// ensures reason { IfErr result (IsRefusalIn T.RANGE indices.now) }
 /// ensures lacks_room { IfErr result (LacksRoom (T.needs_allocation set.new) indices.now) }
-/// ensures keeps { (j : ℕ) → T.needs_allocation set.new j → T.needs_allocation set.old j }
-/// ensures most { (j : ℕ) → T.needs_allocation set.old j
+/// ensures frees_none { (j : ℕ) → T.needs_allocation set.new j → T.needs_allocation set.old j }
+/// ensures makes_no_more { (j : ℕ) → T.needs_allocation set.old j
 ///     → LiesApart T.need_separate_room (T.holds set.new) j → T.needs_allocation set.new j }
 /// ```
 #[doc(hidden)]
@@ -209,16 +209,16 @@ pub fn extend_from_slice<T: FallibleInsert>(
 ///
 /// ```text
 /// requires empty { (i : ℕ) → T.holds set i ≡ false }
-/// requires bare { (j : ℕ) → T.needs_allocation set j }
+/// requires all_lack_room { (j : ℕ) → T.needs_allocation set j }
 /// ensures members { IfOk result (λ made. (i : ℕ)
 ///     → (T.holds made i ≡ true) ↔ Contains indices.now i) }
 /// ensures in_range { IfOk result (λ _. InRangeBefore T.RANGE indices.now (length indices.now)) }
-/// ensures most { IfOk result (λ made. (j : ℕ) → LiesApart T.need_separate_room (T.holds made) j
+/// ensures makes_no_more { IfOk result (λ made. (j : ℕ) → LiesApart T.need_separate_room (T.holds made) j
 ///     → T.needs_allocation made j) }
-/// ensures place { IfErr result (λ error. place_of error < length indices.now) }
+/// ensures error_place { IfErr result (λ error. place_of error < length indices.now) }
 /// ensures in_range_before { IfErr result (λ error. InRangeBefore T.RANGE indices.now
 ///     (place_of error)) }
-/// ensures why { IfErr result (IsRefusalIn T.RANGE indices.now) }
+/// ensures reason { IfErr result (IsRefusalIn T.RANGE indices.now) }
 /// ensures apart { IfErr result (LiesApartIn T.need_separate_room indices.now) }
 /// ```
 #[doc(hidden)]

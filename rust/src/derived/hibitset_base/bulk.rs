@@ -69,7 +69,7 @@ pub(crate) fn take_lowest_word(cursor: &mut Cursor<LAYERS>) -> (Index, usize) {
 
 // Takes the first bit of a word whose own first bit is at `start`, and returns its index.
 #[inline]
-pub(crate) fn take_bit(start: Index, rest: &mut usize) -> Index {
+pub(crate) fn take_index(start: Index, rest: &mut usize) -> Index {
     let index = start | rest.trailing_zeros();
     *rest &= *rest - 1;
     index

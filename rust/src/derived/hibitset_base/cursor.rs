@@ -55,7 +55,7 @@ impl<const N: usize> Cursor<N> {
     /// requires positions_fit { 64 ^ N ≤ 2 ^ 32 }
     /// ensures left { cursor_places result ≡ places_in (N - 1) (bits_from 0 word) }
     /// ensures one_mask { HasOneMask N (masks_of result) }
-    /// ensures below { IsEmptyBelow result (N - 1) }
+    /// ensures empty_below { IsEmptyBelow result (N - 1) }
     /// ```
     #[inline]
     pub fn at_top(word: usize) -> Self {
@@ -94,7 +94,7 @@ impl<const N: usize> Cursor<N> {
     /// ```text
     /// requires { layer < N }
     /// ensures empty { result ≡ true → mask self.now layer ≡ 0 }
-    /// ensures some { result ≡ false → 0 < mask self.now layer }
+    /// ensures nonempty { result ≡ false → 0 < mask self.now layer }
     /// ```
     #[inline]
     pub(crate) fn is_empty(&self, layer: usize) -> bool {
@@ -116,7 +116,7 @@ impl<const N: usize> Cursor<N> {
     ///
     /// ```text
     /// requires layer { layer < N }
-    /// requires some { 0 < mask self.old layer }
+    /// requires nonempty { 0 < mask self.old layer }
     /// requires lowest { IsEmptyBelow self.old layer }
     /// ensures taken { cursor_places self.old
     ///     ≡ (record { layer = layer; position = result }) ∷ cursor_places self.new }
@@ -147,7 +147,7 @@ impl<const N: usize> Cursor<N> {
     /// ensures taken { MatchOption result (cursor_places self.old ≡ [])
     ///     (λ place. cursor_places self.old
     ///     ≡ (record { layer = place.0; position = place.1 }) ∷ cursor_places self.new) }
-    /// ensures ended { IfNone result (cursor_places self.new ≡ []) }
+    /// ensures end { IfNone result (cursor_places self.new ≡ []) }
     /// ensures rest { MatchOption result (cursor_places self.new ≡ [])
     ///     (λ place. (place.0 < N) × CanContinueAt self.new place.0 place.1) }
     /// ```
@@ -167,14 +167,14 @@ impl<const N: usize> Cursor<N> {
     ///
     /// ```text
     /// requires layer { layer < N }
-    /// requires some { 0 < mask self.old layer }
+    /// requires nonempty { 0 < mask self.old layer }
     /// requires lowest { IsEmptyBelow self.old layer }
     /// ensures taken { cursor_places self.old
     ///     ≡ places_in layer (bits_from result.0 result.1) ++ cursor_places self.new }
     /// ensures word { result.1 ≡ mask self.old layer }
     /// ensures aligned { result.0 % 64 ≡ 0 }
     /// ensures within { result.0 < 64 ^ (N - layer) }
-    /// ensures below { IsEmptyBelow self.new (layer + 1) }
+    /// ensures empty_below { IsEmptyBelow self.new (layer + 1) }
     /// ```
     #[inline]
     pub(crate) fn take_word(&mut self, layer: usize) -> (u32, usize) {

@@ -37,7 +37,7 @@ impl<T> BitIter<T> {
     /// ensures set { set_of result ≡ set }
     /// ensures items { (holds : T → ℕ → Bool)
     ///     → items_left holds result ≡ items_of (holds set) (places_left 0 masks prefix) }
-    /// ensures drawn { (word : T → ℕ → ℕ → ℕ) → AllAreSet (word set) (places_left 0 masks prefix)
+    /// ensures from_set { (word : T → ℕ → ℕ → ℕ) → AllAreSet (word set) (places_left 0 masks prefix)
     ///     → BitsAreFromSet word result }
     /// ensures read { words_read result ≡ 0 }
     /// ensures masks { masks_left result ≡ masks }
@@ -191,7 +191,7 @@ impl<T: BitSetLike> BitIter<T> {
     /// ensures masks { IfOk result (λ copy. masks_left copy ≡ masks_left self.now) }
     /// ensures ahead { IfOk result (λ copy. SameWords (T.word (set_of self.now))
     ///     (T.word (set_of copy)) → words_ahead T.word copy ≡ words_ahead T.word self.now) }
-    /// ensures drawn { IfOk result (λ copy. SameWords (T.word (set_of self.now))
+    /// ensures from_set { IfOk result (λ copy. SameWords (T.word (set_of self.now))
     ///     (T.word (set_of copy)) → BitsAreFromSet T.word self.now → BitsAreFromSet T.word copy) }
     /// ensures read { IfOk result (λ copy. words_read copy ≡ 0) }
     /// ensures succeeds { T.is_infallible (set_of self.now) → IsOk result }

@@ -4,23 +4,12 @@
 
 use crate::support::rattle_std::prelude::*;
 
+use crate::derived::hibitset_base::bits::{tail, tail_after};
 use crate::derived::hibitset_base::cursor::Cursor;
 use crate::derived::hibitset_base::iter::{BitIter, read};
 use crate::derived::hibitset_base::like::BitSetLike;
 use crate::derived::hibitset_base::read_count::Reads;
 use crate::derived::hibitset_base::util::{BITS, Index, LAYERS, MAX_EID};
-
-// The bits of a word from a bit on.
-#[inline]
-fn tail(word: usize, bit: u32) -> usize {
-    word & !((1usize << bit) - 1)
-}
-
-// The bits of a word after a bit.
-#[inline]
-fn tail_after(word: usize, bit: u32) -> usize {
-    word & (!1usize << bit)
-}
 
 // The bits of a word that an iteration from an index still visits: from the index's own bit on in layer 0, strictly
 // after it above.

@@ -33,7 +33,7 @@ pub trait BitSetLike {
     ///
     /// ```text
     /// requires { layer < LAYERS }
-    /// ensures below { layer + 1 < LAYERS → result ≡ word self.now layer idx }
+    /// ensures below_top { layer + 1 < LAYERS → result ≡ word self.now layer idx }
     /// ensures top { layer + 1 ≡ LAYERS → result ≡ word self.now layer 0 }
     /// ```
     #[inline]
@@ -364,17 +364,7 @@ pub trait BitSetLike {
     /// # Contract
     ///
     /// ```text
-    /// ensures set { set_of result ≡ self }
-    /// ensures items { items_left holds result ≡ members_below MAX_EID (holds self) }
-    /// ensures drawn { BitsAreFromSet word result }
-    /// ensures read { words_read result ≡ 1 }
-    /// ensures one_mask { HasOneMask LAYERS (masks_left result) }
-    /// ensures bound { (p : ℕ → Bool) (a : ℕ → ℕ → ℕ) → CoversWords LAYERS p a (word self)
-    ///     → AreBoundByMembers LAYERS p (words_ahead word result) }
-    /// ensures ahead { words_under (word self) LAYERS 0
-    ///     ≡ (record { layer = LAYERS - 1; position = 0 }) ∷ words_ahead word result }
-    /// ensures runs { YieldsInOrder (WalkSteps holds word) (items_left holds) }
-    /// ensures fits { length (items_left holds result) ≤ MAX_EID }
+    /// ensures { StartsAtTop holds word self result }
     /// ```
     #[inline]
     fn iter(self) -> BitIter<Self>
@@ -399,16 +389,7 @@ pub trait BitSetLike {
     /// # Contract
     ///
     /// ```text
-    /// ensures set { set_of result ≡ self }
-    /// ensures items { items_left holds result ≡ members (holds self) start (MAX_EID - start) }
-    /// ensures drawn { BitsAreFromSet word result }
-    /// ensures read { words_read result ≤ LAYERS }
-    /// ensures bound { (p : ℕ → Bool) (a : ℕ → ℕ → ℕ) → CoversWords LAYERS p a (word self)
-    ///     → AreBoundByMembers LAYERS p (words_ahead word result) }
-    /// ensures ahead { IsAheadFrom start (words_read result) (words_under (word self) LAYERS 0)
-    ///     (words_ahead word result) }
-    /// ensures runs { YieldsInOrder (WalkSteps holds word) (items_left holds) }
-    /// ensures fits { length (items_left holds result) ≤ MAX_EID - start }
+    /// ensures { StartsAt holds word self start result }
     /// ```
     #[inline]
     fn iter_from(self, start: Index) -> BitIter<Self>
@@ -426,16 +407,7 @@ pub trait BitSetLike {
     /// # Contract
     ///
     /// ```text
-    /// ensures set { rev_set_of result ≡ self }
-    /// ensures items { rev_items_left holds result ≡ reverse (members_below MAX_EID (holds self)) }
-    /// ensures drawn { RevBitsAreFromSet word result }
-    /// ensures read { rev_words_read result ≡ 1 }
-    /// ensures bound { (p : ℕ → Bool) (a : ℕ → ℕ → ℕ) → CoversWords LAYERS p a (word self)
-    ///     → AreBoundByMembers LAYERS p (rev_words_ahead word result) }
-    /// ensures ahead { words_under (word self) LAYERS 0
-    ///     ≡ (record { layer = LAYERS - 1; position = 0 }) ∷ rev_words_ahead word result }
-    /// ensures runs { YieldsInOrder (RevWalkSteps holds word) (rev_items_left holds) }
-    /// ensures fits { length (rev_items_left holds result) ≤ MAX_EID }
+    /// ensures { StartsAtEnd holds word self result }
     /// ```
     #[inline]
     fn iter_rev(self) -> BitRevIter<Self>
@@ -453,13 +425,7 @@ pub trait BitSetLike {
     /// # Contract
     ///
     /// ```text
-    /// ensures set { rev_set_of result ≡ self }
-    /// ensures items { rev_items_left holds result
-    ///     ≡ reverse (members_below (min end MAX_EID) (holds self)) }
-    /// ensures drawn { RevBitsAreFromSet word result }
-    /// ensures read { rev_words_read result ≤ LAYERS }
-    /// ensures runs { YieldsInOrder (RevWalkSteps holds word) (rev_items_left holds) }
-    /// ensures fits { length (rev_items_left holds result) ≤ min end MAX_EID }
+    /// ensures { StartsBefore holds word self end result }
     /// ```
     #[inline]
     fn iter_rev_before(self, end: Index) -> BitRevIter<Self>
@@ -477,8 +443,8 @@ pub trait DrainableBitSet: BitSetLike {
     /// # Contract
     ///
     /// ```text
-    /// ensures was { result ≡ Self.holds self.old i }
-    /// ensures room { keeps_room self.old self.new }
+    /// ensures was_member { result ≡ Self.holds self.old i }
+    /// ensures keeps_room { keeps_room self.old self.new }
     /// ensures removed { (j : ℕ) → Self.holds self.new j
     ///     ≡ (Self.holds self.old j && not (j == i)) }
     /// ```
@@ -529,7 +495,7 @@ pub trait DrainableBitSet: BitSetLike {
     ///     → F.post keep i (Self.holds self.new i) }
     /// ensures others { (i : ℕ) → is_member (Self.holds self.old) i ≡ false
     ///     → Self.holds self.new i ≡ Self.holds self.old i }
-    /// ensures room { keeps_room self.old self.new }
+    /// ensures keeps_room { keeps_room self.old self.new }
     /// ```
     #[inline]
     fn retain<F: Fn(Index) -> bool>(&mut self, keep: F)
@@ -547,7 +513,7 @@ pub trait DrainableBitSet: BitSetLike {
     /// ensures first { MatchOption result (HasNone MAX_EID (Self.holds self.old))
     ///     (IsFirst MAX_EID (Self.holds self.old)) }
     /// ensures without { IsWithout Self.holds self.old result self.new }
-    /// ensures room { keeps_room self.old self.new }
+    /// ensures keeps_room { keeps_room self.old self.new }
     /// ```
     #[inline]
     fn pop_first(&mut self) -> Option<Index>
@@ -567,7 +533,7 @@ pub trait DrainableBitSet: BitSetLike {
     /// ensures last { MatchOption result (HasNone MAX_EID (Self.holds self.old))
     ///     (IsLast MAX_EID (Self.holds self.old)) }
     /// ensures without { IsWithout Self.holds self.old result self.new }
-    /// ensures room { keeps_room self.old self.new }
+    /// ensures keeps_room { keeps_room self.old self.new }
     /// ```
     #[inline]
     fn pop_last(&mut self) -> Option<Index>

@@ -67,18 +67,18 @@ impl<'a, T: BitSetLike + Send + Sync> BitProducer<'a, T> {
     ///     ≡ part_items T.holds result.0 ++ items_of_second T.holds result.1 }
     /// ensures more_masks { ¬ PartHasOneMask LAYERS self.entry
     ///     → (result.0 ≡ self.entry) × (result.1 ≡ None) }
-    /// ensures none { PartHasOneMask LAYERS self.entry → result.1 ≡ None
+    /// ensures indivisible { PartHasOneMask LAYERS self.entry → result.1 ≡ None
     ///     → LieInOneRange (range_size LAYERS self.entry.1) (part_items T.holds self.entry) }
     /// ensures apart { IfSome result.1 (λ other. ShareNoRange (range_size LAYERS self.entry.1)
     ///     (part_items T.holds result.0) (part_items T.holds other)) }
-    /// ensures half { IfSome result.1 (DifferByAtMostOne result.0) }
-    /// ensures some { SummariesExact LAYERS (T.word (part_set self.entry))
+    /// ensures balanced { IfSome result.1 (DifferByAtMostOne result.0) }
+    /// ensures nonempty { SummariesExact LAYERS (T.word (part_set self.entry))
     ///     → AreWords (T.word (part_set self.entry)) → PartBitsAreFromSet T.word self.entry
     ///     → IfSome result.1 (λ other. (0 < length (part_items T.holds result.0))
     ///     × (0 < length (part_items T.holds other))) }
     /// ensures same { SameSetAndLayers self.entry result.0
     ///     × IfSome result.1 (SameSetAndLayers self.entry) }
-    /// ensures drawn { PartBitsAreFromSet T.word self.entry
+    /// ensures from_set { PartBitsAreFromSet T.word self.entry
     ///     → PartBitsAreFromSet T.word result.0 × IfSome result.1 (PartBitsAreFromSet T.word) }
     /// ensures one_mask { PartHasOneMask LAYERS self.entry
     ///     → PartHasOneMask LAYERS result.0 × IfSome result.1 (PartHasOneMask LAYERS) }

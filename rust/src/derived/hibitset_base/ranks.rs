@@ -4,29 +4,14 @@
 
 use crate::support::rattle_std::prelude::*;
 
+use crate::derived::hibitset_base::bits::part;
 use crate::derived::hibitset_base::bulk::count::{count_left, count_subtree};
-use crate::derived::hibitset_base::bulk::{take_bit, take_child, take_next_block};
+use crate::derived::hibitset_base::bulk::{take_child, take_index, take_next_block};
 use crate::derived::hibitset_base::cursor::Cursor;
 use crate::derived::hibitset_base::iter::{read, root_cursor};
 use crate::derived::hibitset_base::like::BitSetLike;
-use crate::derived::hibitset_base::range::low_ones;
 use crate::derived::hibitset_base::read_count::Reads;
 use crate::derived::hibitset_base::util::{Index, LAYERS};
-
-// The bits of a word before a bit.
-#[inline]
-pub(crate) fn head(word: usize, bit: u32) -> usize {
-    word & ((1usize << bit) - 1)
-}
-
-// The bits of a word from one bit on before another.
-#[inline]
-fn part(word: usize, from: u32, to: u32) -> usize {
-    let upto = low_ones(to as usize);
-    let before = low_ones(from as usize);
-    let ones = upto - before;
-    word & ones
-}
 
 // How many members lie under the bits of a word of a layer, where the first bit lies at `start`.
 #[inline]
@@ -84,7 +69,7 @@ fn nth_bit(start: Index, word: usize, at: usize) -> Option<Index> {
     let mut rest = word;
     let mut left = at;
     'bits: while rest != 0 {
-        let index = take_bit(start, &mut rest);
+        let index = take_index(start, &mut rest);
         if left == 0 {
             return Some(index);
         }

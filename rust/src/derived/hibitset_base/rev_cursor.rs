@@ -21,7 +21,7 @@ impl<const N: usize> RevCursor<N> {
     /// ```text
     /// requires { 64 ^ N ≤ 2 ^ 32 }
     /// ensures left { rev_left result ≡ [] }
-    /// ensures below { IsRevEmptyBelow result N }
+    /// ensures empty_below { IsRevEmptyBelow result N }
     /// ```
     #[inline]
     pub(crate) fn empty() -> Self {
@@ -38,7 +38,7 @@ impl<const N: usize> RevCursor<N> {
     /// ```text
     /// requires { layer < N }
     /// ensures empty { result ≡ true → rev_mask self.now layer ≡ 0 }
-    /// ensures some { result ≡ false → 0 < rev_mask self.now layer }
+    /// ensures nonempty { result ≡ false → 0 < rev_mask self.now layer }
     /// ```
     #[inline]
     pub(crate) fn is_empty(&self, layer: usize) -> bool {
@@ -51,7 +51,7 @@ impl<const N: usize> RevCursor<N> {
     ///
     /// ```text
     /// requires layer { layer < N }
-    /// requires some { 0 < rev_mask self.old layer }
+    /// requires nonempty { 0 < rev_mask self.old layer }
     /// requires lowest { IsRevEmptyBelow self.old layer }
     /// ensures taken { rev_left self.old
     ///     ≡ rev_left self.new ++ ((record { layer = layer; position = result }) ∷ []) }

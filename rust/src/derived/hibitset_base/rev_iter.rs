@@ -4,9 +4,9 @@
 
 use crate::support::rattle_std::prelude::*;
 
+use crate::derived::hibitset_base::bits::head;
 use crate::derived::hibitset_base::iter::read;
 use crate::derived::hibitset_base::like::BitSetLike;
-use crate::derived::hibitset_base::ranks::head;
 use crate::derived::hibitset_base::read_count::Reads;
 use crate::derived::hibitset_base::rev_cursor::RevCursor;
 use crate::derived::hibitset_base::util::{BITS, Index, LAYERS, MAX_EID};

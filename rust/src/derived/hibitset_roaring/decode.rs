@@ -57,10 +57,10 @@ pub(crate) fn check_stream(bytes: &[u8], end: usize) -> Result<(Header, usize), 
 /// ```text
 /// requires { end ≤ KEYS }
 /// ensures stream { OnOk result (IsStream bytes.now) }
-/// ensures below { OnOk result (HasKeysBelow bytes.now end) }
+/// ensures keys_below { OnOk result (HasKeysBelow bytes.now end) }
 /// ensures members { IfOk result (λ set. (i : ℕ) → has set i ≡ holds bytes.now i) }
 /// ensures length { IfOk result (λ set. slice_len set 0 ≤ CONTAINER_WORDS * end) }
-/// ensures least { IfOk result (λ set. (bound : ℕ) → HasKeysBelow bytes.now bound
+/// ensures least_bound { IfOk result (λ set. (bound : ℕ) → HasKeysBelow bytes.now bound
 ///     → slice_len set 0 ≤ CONTAINER_WORDS * bound) }
 /// ensures reason { IfErr result (λ error. IsReason bytes.now end error) }
 /// ensures accepts { IsStream bytes.now → HasKeysBelow bytes.now end
@@ -80,9 +80,9 @@ pub fn read_below(alloc: Global, bytes: &[u8], end: usize) -> Result<BitSet, Rea
 ///
 /// ```text
 /// ensures stream { OnOk result (IsStream bytes.now) }
-/// ensures below { OnOk result (HasKeysBelow bytes.now KEYS) }
+/// ensures keys_below { OnOk result (HasKeysBelow bytes.now KEYS) }
 /// ensures members { IfOk result (λ set. (i : ℕ) → has set i ≡ holds bytes.now i) }
-/// ensures least { IfOk result (λ set. (bound : ℕ) → HasKeysBelow bytes.now bound
+/// ensures least_bound { IfOk result (λ set. (bound : ℕ) → HasKeysBelow bytes.now bound
 ///     → slice_len set 0 ≤ CONTAINER_WORDS * bound) }
 /// ensures reason { IfErr result (λ error. IsReason bytes.now KEYS error) }
 /// ensures accepts { IsStream bytes.now → HasKeysBelow bytes.now KEYS

@@ -7,12 +7,11 @@ use crate::support::rattle_std::prelude::*;
 use crate::derived::hibitset_roaring::encode_container::container_size;
 use crate::derived::hibitset_roaring::header::{KEYS, NO_RUNS, RUNS, first_after, keys_after, offsets_are};
 use crate::derived::hibitset_roaring::key_counts::Heads;
-use crate::derived::hibitset_roaring::nonzero_words::word_of;
 use crate::derived::hibitset_roaring::number::{put_u8, put_u16, put_u32};
 use crate::derived::hibitset_roaring::runs::are_shorter;
 use crate::derived::hibitset_roaring::source::{ContainerSource, WordSource};
 use crate::derived::hibitset::BitSet;
-use crate::derived::hibitset_base::bits::with_bit;
+use crate::derived::hibitset_base::bits::{with_bit, word_or_zero};
 use crate::support::rattle_std::alloc::{AllocError, Global};
 
 // The number of runs that a container is written as; or as many as its members, if it is not to be runs.
@@ -92,7 +91,10 @@ fn len_of(some: bool, counts: &[usize], runs: &[usize]) -> usize {
 fn flags_from(counts: &[usize], runs: &[usize], first: usize) -> usize {
     let mut byte = 0;
     'flags: for b in 0..8 {
-        let flag = are_shorter(word_of(runs, first + b), word_of(counts, first + b));
+        let flag = are_shorter(
+            word_or_zero(runs, first + b),
+            word_or_zero(counts, first + b),
+        );
         byte = with_bit(byte, b, flag);
     }
     byte % 256
@@ -267,8 +269,8 @@ pub(crate) fn len_of_source<S: ContainerSource>(source: &S, optimized: bool) -> 
 /// # Contract
 ///
 /// ```text
-/// requires short { length words.now ≤ 16777216 }
-/// requires above { AreSummaries words.now above.now }
+/// requires len_max { length words.now ≤ 16777216 }
+/// requires summaries { AreSummaries words.now above.now }
 /// ensures { (bytes : List ℕ) → IsPlainStream (stands_in words.now) bytes → length bytes ≡ result }
 /// ```
 pub fn len_of_words(words: &[usize], above: &[usize]) -> usize {
@@ -289,16 +291,16 @@ pub fn len_of_words(words: &[usize], above: &[usize]) -> usize {
 /// # Contract
 ///
 /// ```text
-/// requires short { length words.now ≤ 16777216 }
-/// requires above { AreSummaries words.now above.now }
+/// requires len_max { length words.now ≤ 16777216 }
+/// requires summaries { AreSummaries words.now above.now }
 /// ensures len { IfOk result (λ len. (bytes : List ℕ) → IsPlainStream (stands_in words.now) bytes
 ///     → length bytes ≡ len) }
 /// ensures stream { IfOk result (λ len. len ≤ length out.old
 ///     → IsCanonicalStream (stands_in words.now) (take len out.new)) }
-/// ensures below { IfOk result (λ len. len ≤ length out.old
+/// ensures keys_below { IfOk result (λ len. len ≤ length out.old
 ///     → HasKeysBelow (take len out.new) KEYS) }
 /// ensures rest { IfOk result (λ len. drop len out.new ≡ drop len out.old) }
-/// ensures few { IfOk result (λ len. length out.old < len → out.new ≡ out.old) }
+/// ensures too_short { IfOk result (λ len. length out.old < len → out.new ≡ out.old) }
 /// ensures err { OnErr result (out.new ≡ out.old) }
 /// ```
 pub fn write_words(
@@ -343,7 +345,7 @@ pub fn serialized_len(set: &BitSet) -> usize {
 /// ```text
 /// ensures stream { OnOk result (Appends (IsCanonicalStream (has set.now)) out.old.items
 ///     out.new.items) }
-/// ensures below { OnOk result (HasKeysBelow (drop (vec_len out.old) out.new.items) KEYS) }
+/// ensures keys_below { OnOk result (HasKeysBelow (drop (vec_len out.old) out.new.items) KEYS) }
 /// ensures err { OnErr result (out.new.items ≡ out.old.items) }
 /// ```
 pub fn write_to(alloc: Global, set: &BitSet, out: &mut Vec<u8>) -> Result<(), AllocError> {
@@ -356,7 +358,7 @@ pub fn write_to(alloc: Global, set: &BitSet, out: &mut Vec<u8>) -> Result<(), Al
 ///
 /// ```text
 /// ensures stream { IfOk result (λ out. IsCanonicalStream (has set.now) out.items) }
-/// ensures below { IfOk result (λ out. HasKeysBelow out.items KEYS) }
+/// ensures keys_below { IfOk result (λ out. HasKeysBelow out.items KEYS) }
 /// ```
 pub fn write(alloc: Global, set: &BitSet) -> Result<Vec<u8>, AllocError> {
     let mut out = Vec::new(alloc);
@@ -392,7 +394,7 @@ pub fn run_optimized_len(set: &BitSet) -> usize {
 /// ```text
 /// ensures stream { OnOk result
 ///     (Appends (IsCanonicalRunStream (has set.now)) out.old.items out.new.items) }
-/// ensures below { OnOk result (HasKeysBelow (drop (vec_len out.old) out.new.items) KEYS) }
+/// ensures keys_below { OnOk result (HasKeysBelow (drop (vec_len out.old) out.new.items) KEYS) }
 /// ensures err { OnErr result (out.new.items ≡ out.old.items) }
 /// ```
 pub fn write_run_optimized_to(
@@ -414,7 +416,7 @@ pub fn write_run_optimized_to(
 ///
 /// ```text
 /// ensures stream { IfOk result (λ out. IsCanonicalRunStream (has set.now) out.items) }
-/// ensures below { IfOk result (λ out. HasKeysBelow out.items KEYS) }
+/// ensures keys_below { IfOk result (λ out. HasKeysBelow out.items KEYS) }
 /// ```
 pub fn write_run_optimized(alloc: Global, set: &BitSet) -> Result<Vec<u8>, AllocError> {
     let mut out = Vec::new(alloc);

@@ -9,10 +9,11 @@ use crate::derived::hibitset_roaring::encode_container::write_kind;
 use crate::derived::hibitset_roaring::header::KEYS;
 use crate::derived::hibitset_roaring::key_counts::count_members;
 use crate::derived::hibitset_roaring::layout::CONTAINER_WORDS;
-use crate::derived::hibitset_roaring::nonzero_words::{CONTAINER_BLOCKS, next_bit, take_lowest};
+use crate::derived::hibitset_roaring::nonzero_words::CONTAINER_BLOCKS;
 use crate::derived::hibitset_roaring::runs::count_runs;
 use crate::derived::hibitset_roaring::source::ContainerSource;
 use crate::derived::hibitset::BitSetLike;
+use crate::derived::hibitset_base::bits::{next_bit, take_bit};
 use crate::support::rattle_std::alloc::{AllocError, Global};
 
 // How many words layer 2 has, each over four containers.
@@ -52,7 +53,7 @@ fn next_key_of<T: BitSetLike>(set: &T, from: usize) -> usize {
 fn gather_block<T: BitSetLike>(set: &T, position: usize, words: &mut [usize], base: usize) {
     let mut places = set.layer1(position);
     'places: while places != 0 {
-        let bit = take_lowest(&mut places);
+        let bit = take_bit(&mut places);
         words[base + bit] = set.layer0(64 * position + bit);
     }
 }
@@ -114,7 +115,7 @@ impl<T: BitSetLike> ContainerSource for LikeSource<'_, T> {
 /// ```text
 /// ensures stream { IfOk result (λ out. IsCanonicalStream (is_member (T.holds set.now))
 ///     out.items) }
-/// ensures below { IfOk result (λ out. HasKeysBelow out.items KEYS) }
+/// ensures keys_below { IfOk result (λ out. HasKeysBelow out.items KEYS) }
 /// ```
 pub fn write_like<T: BitSetLike>(alloc: Global, set: &T) -> Result<Vec<u8>, AllocError> {
     write_source(alloc, &LikeSource(set))

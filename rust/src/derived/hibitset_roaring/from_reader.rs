@@ -43,7 +43,7 @@ const CHUNK: usize = 8192;
 /// ```text
 /// requires { end ≤ KEYS }
 /// ensures stream { OnOk result (IfSome (R.remaining reader.old) IsStream) }
-/// ensures below { OnOk result (IfSome (R.remaining reader.old)
+/// ensures keys_below { OnOk result (IfSome (R.remaining reader.old)
 ///     (λ bytes. HasKeysBelow bytes end)) }
 /// ensures members { IfOk result (λ set. IfSome (R.remaining reader.old)
 ///     (λ bytes. (i : ℕ) → has set i ≡ holds bytes i)) }
@@ -53,7 +53,7 @@ const CHUNK: usize = 8192;
 ///     (λ bytes. IsFromReason bytes end error)) }
 /// ensures accepts { IfErr result (λ error. IfSome (R.remaining reader.old)
 ///     (λ bytes. IsStream bytes → HasKeysBelow bytes end → IsOutside error)) }
-/// ensures front { GivesFront (longest_below end + CHUNK) (R.remaining reader.old)
+/// ensures reads_front { GivesFront (longest_below end + CHUNK) (R.remaining reader.old)
 ///     (R.remaining reader.new) }
 /// ensures not_interrupted { IfErr result IsNoInterruption }
 /// ```

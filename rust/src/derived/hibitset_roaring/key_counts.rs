@@ -6,8 +6,9 @@ use crate::support::rattle_std::prelude::*;
 
 use crate::derived::hibitset_roaring::header::KEYS;
 use crate::derived::hibitset_roaring::layout::CONTAINER_WORDS;
-use crate::derived::hibitset_roaring::nonzero_words::{CONTAINER_BLOCKS, blocks_over, slot_after, slot_from, word_of};
+use crate::derived::hibitset_roaring::nonzero_words::{CONTAINER_BLOCKS, blocks_over, slot_after, slot_from};
 use crate::derived::hibitset_roaring::source::ContainerSource;
+use crate::derived::hibitset_base::bits::word_or_zero;
 use crate::support::rattle_std::alloc::{AllocError, Global};
 
 // From this many nonzero words on, all words of a container are counted.
@@ -26,7 +27,7 @@ pub(crate) struct Heads {
 fn count_slots(above: &[usize], key: usize) -> usize {
     let mut slots = 0;
     'summaries: for block in 0..CONTAINER_BLOCKS {
-        slots += word_of(above, CONTAINER_BLOCKS * key + block).count_ones() as usize;
+        slots += word_or_zero(above, CONTAINER_BLOCKS * key + block).count_ones() as usize;
     }
     slots
 }
@@ -47,7 +48,7 @@ fn count_some(words: &[usize], above: &[usize], key: usize, blocks: usize) -> us
     let mut rest = 0;
     let mut slot = slot_from(above, key, blocks, 0, &mut rest);
     'slots: while slot < CONTAINER_WORDS {
-        ones += word_of(words, base + slot).count_ones() as usize;
+        ones += word_or_zero(words, base + slot).count_ones() as usize;
         slot = slot_after(above, key, blocks, slot, &mut rest);
     }
     ones

@@ -5,35 +5,10 @@
 use crate::support::rattle_std::prelude::*;
 
 use crate::derived::hibitset_roaring::layout::CONTAINER_WORDS;
-use crate::derived::hibitset_base::bits::with_bit;
+use crate::derived::hibitset_base::bits::{next_bit, take_bit, with_bit, word_or_zero};
 
 // How many words of layer 1 lie over a container.
 pub(crate) const CONTAINER_BLOCKS: usize = 16;
-
-// The word at a slot, which is 0 past the end.
-#[inline]
-pub(crate) fn word_of(words: &[usize], slot: usize) -> usize {
-    if slot < words.len() { words[slot] } else { 0 }
-}
-
-// Takes the lowest bit out of a word, and returns its number.
-#[inline]
-pub(crate) fn take_lowest(word: &mut usize) -> usize {
-    let bit = word.trailing_zeros();
-    *word &= *word - 1;
-    bit as usize
-}
-
-// The lowest bit that is set in a word, from one on; or 64.
-#[inline]
-pub(crate) fn next_bit(word: usize, from: usize) -> usize {
-    let rest = word >> from;
-    if rest == 0 {
-        64
-    } else {
-        from + rest.trailing_zeros() as usize
-    }
-}
 
 // The next slot of a container, from one on, over which the bit of layer 1 is set; or 1,024. All words between are 0.
 #[inline]
@@ -41,7 +16,10 @@ pub(crate) fn next_slot(above: &[usize], key: usize, from: usize) -> usize {
     let mut slot = from;
     'slots: while slot < CONTAINER_WORDS {
         let block = slot / 64;
-        let bit = next_bit(word_of(above, CONTAINER_BLOCKS * key + block), slot % 64);
+        let bit = next_bit(
+            word_or_zero(above, CONTAINER_BLOCKS * key + block),
+            slot % 64,
+        );
         slot = 64 * block + bit;
         if bit < 64 {
             return slot;
@@ -65,7 +43,11 @@ fn whole_blocks(above: &[usize], key: usize) -> usize {
 fn last_blocks(above: &[usize], key: usize) -> usize {
     let mut blocks = 0;
     'words: for b in 0..CONTAINER_BLOCKS {
-        blocks = with_bit(blocks, b, word_of(above, CONTAINER_BLOCKS * key + b) != 0);
+        blocks = with_bit(
+            blocks,
+            b,
+            word_or_zero(above, CONTAINER_BLOCKS * key + b) != 0,
+        );
     }
     blocks
 }
@@ -94,8 +76,8 @@ pub(crate) fn slot_from(
     if block == 64 {
         return CONTAINER_WORDS;
     }
-    *rest = word_of(above, CONTAINER_BLOCKS * key + block);
-    64 * block + take_lowest(rest)
+    *rest = word_or_zero(above, CONTAINER_BLOCKS * key + block);
+    64 * block + take_bit(rest)
 }
 
 // The next slot behind one over which the bit of layer 1 is set, or 1,024. All words between are 0. `rest` has the bits
@@ -110,7 +92,7 @@ pub(crate) fn slot_after(
 ) -> usize {
     let block = slot / 64;
     if *rest != 0 {
-        return 64 * block + take_lowest(rest);
+        return 64 * block + take_bit(rest);
     }
     slot_from(above, key, blocks, block + 1, rest)
 }

@@ -6,8 +6,9 @@ use crate::support::rattle_std::prelude::*;
 
 use crate::derived::hibitset_roaring::header::CONTAINER_NUMBERS;
 use crate::derived::hibitset_roaring::layout::{CONTAINER_WORDS, MAX_ARRAY_LEN};
-use crate::derived::hibitset_roaring::nonzero_words::{next_bit, next_slot, word_of};
+use crate::derived::hibitset_roaring::nonzero_words::next_slot;
 use crate::derived::hibitset_roaring::number::put_u16;
+use crate::derived::hibitset_base::bits::{next_bit, word_or_zero};
 
 // From this many runs on, bits take no more bytes.
 const RUNS_OF_BITS: usize = 2048;
@@ -27,7 +28,10 @@ fn next_member(words: &[usize], above: &[usize], key: usize, from: usize) -> usi
     let mut number = from;
     'numbers: while number < CONTAINER_NUMBERS {
         let slot = number / 64;
-        let bit = next_bit(word_of(words, CONTAINER_WORDS * key + slot), number % 64);
+        let bit = next_bit(
+            word_or_zero(words, CONTAINER_WORDS * key + slot),
+            number % 64,
+        );
         if bit < 64 {
             return 64 * slot + bit;
         }
@@ -41,7 +45,10 @@ fn next_gap(words: &[usize], key: usize, from: usize) -> usize {
     let mut number = from;
     'numbers: while number < CONTAINER_NUMBERS {
         let slot = number / 64;
-        let bit = next_bit(!word_of(words, CONTAINER_WORDS * key + slot), number % 64);
+        let bit = next_bit(
+            !word_or_zero(words, CONTAINER_WORDS * key + slot),
+            number % 64,
+        );
         if bit < 64 {
             return 64 * slot + bit;
         }

@@ -33,7 +33,7 @@ pub(crate) trait ContainerSource {
     /// ```text
     /// requires { key < KEYS }
     /// ensures count { result ≡ ones_under (words self.now) key }
-    /// ensures few { result ≤ 65536 }
+    /// ensures max { result ≤ 65536 }
     /// ```
     fn count_under(&self, key: usize) -> usize;
 
@@ -52,7 +52,7 @@ pub(crate) trait ContainerSource {
     /// # Contract
     ///
     /// ```text
-    /// requires room { at + container_bytes count runs ≤ length out.old }
+    /// requires long_enough { at + container_bytes count runs ≤ length out.old }
     /// requires key { key < KEYS }
     /// requires count { count ≡ ones_under (words self.now) key }
     /// requires runs { are_runs_shorter runs count ≡ true
@@ -76,8 +76,8 @@ impl<'a> WordSource<'a> {
     /// # Contract
     ///
     /// ```text
-    /// requires short { length words.now ≤ 16777216 }
-    /// requires above { AreSummaries words.now above.now }
+    /// requires len_max { length words.now ≤ 16777216 }
+    /// requires summaries { AreSummaries words.now above.now }
     /// ensures { result.words.now ≡ words.now }
     /// ```
     #[inline]

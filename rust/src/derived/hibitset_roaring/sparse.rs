@@ -31,7 +31,7 @@ use crate::support::rattle_std::io::Read;
 /// ```text
 /// requires { end ≤ KEYS }
 /// ensures stream { OnOk result (IsStream bytes.now) }
-/// ensures below { OnOk result (HasKeysBelow bytes.now end) }
+/// ensures keys_below { OnOk result (HasKeysBelow bytes.now end) }
 /// ensures members { IfOk result (λ set. (i : ℕ) → has set i ≡ holds bytes.now i) }
 /// ensures reason { IfErr result (λ error. IsReason bytes.now end error) }
 /// ensures accepts { IsStream bytes.now → HasKeysBelow bytes.now end
@@ -50,7 +50,7 @@ pub fn read_sparse_below(alloc: Global, bytes: &[u8], end: usize) -> Result<Spar
 ///
 /// ```text
 /// ensures stream { OnOk result (IsStream bytes.now) }
-/// ensures below { OnOk result (HasKeysBelow bytes.now KEYS) }
+/// ensures keys_below { OnOk result (HasKeysBelow bytes.now KEYS) }
 /// ensures members { IfOk result (λ set. (i : ℕ) → has set i ≡ holds bytes.now i) }
 /// ensures reason { IfErr result (λ error. IsReason bytes.now KEYS error) }
 /// ensures accepts { IsStream bytes.now → HasKeysBelow bytes.now KEYS
@@ -68,7 +68,7 @@ pub fn read_sparse(alloc: Global, bytes: &[u8]) -> Result<SparseBitSet, ReadErro
 /// ```text
 /// requires { end ≤ KEYS }
 /// ensures stream { OnOk result (IfSome (R.remaining reader.old) IsStream) }
-/// ensures below { OnOk result (IfSome (R.remaining reader.old)
+/// ensures keys_below { OnOk result (IfSome (R.remaining reader.old)
 ///     (λ bytes. HasKeysBelow bytes end)) }
 /// ensures members { IfOk result (λ set. IfSome (R.remaining reader.old)
 ///     (λ bytes. (i : ℕ) → has set i ≡ holds bytes i)) }
@@ -77,7 +77,7 @@ pub fn read_sparse(alloc: Global, bytes: &[u8]) -> Result<SparseBitSet, ReadErro
 ///     (λ bytes. IsFromReason bytes end error)) }
 /// ensures accepts { IfErr result (λ error. IfSome (R.remaining reader.old)
 ///     (λ bytes. IsStream bytes → HasKeysBelow bytes end → IsOutside error)) }
-/// ensures front { GivesFront (longest_below end + CHUNK) (R.remaining reader.old)
+/// ensures reads_front { GivesFront (longest_below end + CHUNK) (R.remaining reader.old)
 ///     (R.remaining reader.new) }
 /// ensures not_interrupted { IfErr result IsNoInterruption }
 /// ```

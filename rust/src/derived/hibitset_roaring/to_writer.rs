@@ -23,7 +23,7 @@ use crate::support::rattle_std::io::{self, ErrorKind, Write};
 /// ```text
 /// ensures stream { OnOk result
 ///     (Writes (IsCanonicalStream (has set.now)) (W.contents writer.old) (W.contents writer.new)) }
-/// ensures below { OnOk result
+/// ensures keys_below { OnOk result
 ///     (Writes (λ bytes. HasKeysBelow bytes KEYS) (W.contents writer.old)
 ///     (W.contents writer.new)) }
 /// ensures err { OnErr result ((bytes : List ℕ) → IsPlainStream (has set.now) bytes

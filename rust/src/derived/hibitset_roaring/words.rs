@@ -4,7 +4,7 @@
 
 use crate::support::rattle_std::prelude::*;
 
-use crate::derived::hibitset_base::bits::with_bit;
+use crate::derived::hibitset_base::bits::{bits_within, with_bit};
 use crate::support::rattle_std::alloc::AllocError;
 
 // Puts zero words behind others, up to a length.
@@ -19,28 +19,10 @@ pub(crate) fn set_bit(words: &mut [usize], number: usize) {
     words[slot] = with_bit(words[slot], number % 64, true);
 }
 
-// A word whose lowest bits are set, as many as `count`.
-#[inline]
-pub(crate) fn low_bits(count: usize) -> usize {
-    if count == 64 {
-        usize::MAX
-    } else {
-        (1 << count) - 1
-    }
-}
-
-// The bits of the word at a slot that stand for the numbers of a range.
-#[inline]
-fn bits_within(slot: usize, start: usize, end: usize) -> usize {
-    let first = 64 * slot;
-    let before = low_bits(start.saturating_sub(first).min(64));
-    low_bits(end.saturating_sub(first).min(64)) & !before
-}
-
 // Sets the bits of the numbers from one on before another, word by word.
 fn set_some(words: &mut [usize], start: usize, end: usize) {
     'slots: for slot in start / 64..(end + 63) / 64 {
-        words[slot] |= bits_within(slot, start, end);
+        words[slot] |= bits_within(64 * slot, start, end);
     }
 }
 

@@ -17,7 +17,7 @@ impl SparseBitSet {
     ///
     /// # Errors
     ///
-    /// An allocation fails.
+    /// An allocation fails. It can't fail if the other has no member.
     ///
     /// # Cost
     ///
@@ -27,9 +27,14 @@ impl SparseBitSet {
     /// # Contract
     ///
     /// ```text
-    /// ensures { IfOk result (λ set. (i : ℕ) → has set i ≡ is_member (B.holds other.now) i) }
+    /// ensures members { IfOk result (λ set. (i : ℕ)
+    ///     → has set i ≡ is_member (B.holds other.now) i) }
+    /// ensures succeeds_empty { members_below MAX_EID (B.holds other.now) ≡ [] → IsOk result }
     /// ```
     pub fn from_set<B: BitSetLike>(alloc: Global, other: &B) -> Result<SparseBitSet, AllocError> {
+        if other.is_empty() {
+            return Ok(SparseBitSet::new(alloc));
+        }
         let chunks = chunks_of(alloc, other)?;
         Ok(SparseBitSet::of_chunks(chunks))
     }
@@ -52,7 +57,7 @@ impl SparseBitSet {
     /// ensures members { OnOk result (IsUnion (has self.old) (is_member (B.holds other.now))
     ///     (has self.new)) }
     /// ensures err { OnErr result ((i : ℕ) → has self.new i ≡ has self.old i) }
-    /// ensures none { members_below MAX_EID (B.holds other.now) ≡ [] → IsOk result }
+    /// ensures succeeds_empty { members_below MAX_EID (B.holds other.now) ≡ [] → IsOk result }
     /// ```
     pub fn bitor_assign<B: BitSetLike>(&mut self, other: &B) -> Result<(), AllocError> {
         if other.is_empty() {
@@ -84,7 +89,7 @@ impl SparseBitSet {
     /// ensures members { OnOk result (IsSymmetricDifference (has self.old)
     ///     (is_member (B.holds other.now)) (has self.new)) }
     /// ensures err { OnErr result ((i : ℕ) → has self.new i ≡ has self.old i) }
-    /// ensures none { members_below MAX_EID (B.holds other.now) ≡ [] → IsOk result }
+    /// ensures succeeds_empty { members_below MAX_EID (B.holds other.now) ≡ [] → IsOk result }
     /// ```
     pub fn bitxor_assign<B: BitSetLike>(&mut self, other: &B) -> Result<(), AllocError> {
         if other.is_empty() {

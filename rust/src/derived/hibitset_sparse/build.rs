@@ -122,10 +122,10 @@ impl SparseBitSet {
     /// ensures in_range { OnOk result (InRangeBefore MAX_EID indices.now (length indices.now)) }
     /// ensures added_before { IfErr result (λ error. AddsList (has self.old) (has self.new)
     ///     (take (place_of error) indices.now)) }
-    /// ensures place { IfErr result (λ error. place_of error < length indices.now) }
+    /// ensures error_place { IfErr result (λ error. place_of error < length indices.now) }
     /// ensures in_range_before { IfErr result (λ error. InRangeBefore MAX_EID indices.now
     ///     (place_of error)) }
-    /// ensures why { IfErr result (IsRefusalIn MAX_EID indices.now) }
+    /// ensures reason { IfErr result (IsRefusalIn MAX_EID indices.now) }
     /// ensures lacks_room { IfErr result (LacksRoom (λ i. word_of self.new 0 (i / 64) ≡ 0)
     ///     indices.now) }
     /// ```
@@ -147,10 +147,10 @@ impl SparseBitSet {
     ///     → (has set i ≡ true) ↔ Contains indices.now i) }
     /// ensures in_range { IfOk result (λ _. InRangeBefore MAX_EID indices.now
     ///     (length indices.now)) }
-    /// ensures place { IfErr result (λ error. place_of error < length indices.now) }
+    /// ensures error_place { IfErr result (λ error. place_of error < length indices.now) }
     /// ensures in_range_before { IfErr result (λ error. InRangeBefore MAX_EID indices.now
     ///     (place_of error)) }
-    /// ensures why { IfErr result (IsRefusalIn MAX_EID indices.now) }
+    /// ensures reason { IfErr result (IsRefusalIn MAX_EID indices.now) }
     /// ensures apart { IfErr result (LiesApartIn (λ i j. i / 64 ≢ j / 64) indices.now) }
     /// ```
     pub fn from_slice(alloc: Global, indices: &[Index]) -> Result<SparseBitSet, BuildError> {

@@ -7,8 +7,8 @@ use crate::support::rattle_std::prelude::*;
 use crate::derived::hibitset_sparse::chunk::{Chunk, INDICES_PER_CHUNK};
 use crate::derived::hibitset_sparse::rank::rank;
 use crate::derived::hibitset_sparse::table::{PLACES_PER_TABLE, Table};
-use crate::derived::hibitset_sparse::table_iter::take_first_bit;
 use crate::derived::hibitset_sparse::walk::WordIter;
+use crate::derived::hibitset_base::bits::take_bit;
 use crate::derived::hibitset_base::util::{Index, MAX_EID};
 use crate::support::rattle_std::alloc::{AllocError, Global};
 
@@ -20,7 +20,7 @@ use crate::support::rattle_std::alloc::{AllocError, Global};
 /// requires { length words.now ≤ PLACES_PER_TABLE }
 /// ensures counted { (base : ℕ) (places : List ℕ) → length places ≡ length words.now
 ///     → result ≡ length (in_words base (zip places words.now)) }
-/// ensures few { result ≤ INDICES_PER_CHUNK }
+/// ensures max { result ≤ INDICES_PER_CHUNK }
 /// ```
 pub(crate) fn count_words(words: &[usize]) -> usize {
     let mut count = 0;
@@ -93,7 +93,7 @@ fn push_bits(list: &mut Vec<Index>, first: usize, word: usize) {
     }
     let mut rest = word;
     'bits: while rest != 0 {
-        list.push_reserved((first + take_first_bit(&mut rest)) as Index);
+        list.push_reserved((first + take_bit(&mut rest)) as Index);
     }
 }
 

@@ -79,10 +79,10 @@ impl Chunk {
     ///
     /// ```text
     /// requires { i < INDICES_PER_CHUNK }
-    /// ensures was { IfOk result (λ was. was ≡ has_in self.old i) }
+    /// ensures was_member { IfOk result (λ was. was ≡ has_in self.old i) }
     /// ensures added { OnOk result ((j : ℕ) → j < INDICES_PER_CHUNK
     ///     → has_in self.new j ≡ (has_in self.old j || j == i)) }
-    /// ensures some { OnOk result (0 < chunk_word self.new 2 0) }
+    /// ensures nonempty { OnOk result (0 < chunk_word self.new 2 0) }
     /// ensures err { OnErr result ((l p : ℕ) → l < 3
     ///     → chunk_word self.new l p ≡ chunk_word self.old l p) }
     /// ensures succeeds { 0 < chunk_word self.old 0 (i / 64) → IsOk result }
@@ -103,7 +103,7 @@ impl Chunk {
     ///
     /// ```text
     /// requires { i < INDICES_PER_CHUNK }
-    /// ensures was { result ≡ has_in self.old i }
+    /// ensures was_member { result ≡ has_in self.old i }
     /// ensures removed { (j : ℕ) → j < INDICES_PER_CHUNK
     ///     → has_in self.new j ≡ (has_in self.old j && not (j == i)) }
     /// ```

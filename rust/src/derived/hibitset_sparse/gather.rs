@@ -7,7 +7,6 @@ use crate::support::rattle_std::prelude::*;
 use crate::derived::hibitset_sparse::chunk::Chunk;
 use crate::derived::hibitset_sparse::group::Group;
 use crate::derived::hibitset_sparse::packed_array::PackedArray;
-use crate::derived::hibitset_sparse::rank::take_lowest;
 use crate::derived::hibitset_sparse::table::{GROUPS_PER_TABLE, PLACES_PER_TABLE, Table};
 use crate::derived::hibitset_base::bits::{take_bit, with_bit};
 use crate::derived::hibitset_base::like::BitSetLike;
@@ -23,7 +22,7 @@ fn push_words<S: BitSetLike>(
     let mut places = set.layer1(position);
     let mut bits = 0;
     'places: while places != 0 {
-        let bit = take_lowest(&mut places);
+        let bit = take_bit(&mut places);
         let word = set.layer0(64 * position + bit);
         if word != 0 {
             items.push(word)?;
@@ -91,7 +90,7 @@ pub(crate) fn chunk_of<S: BitSetLike>(alloc: Global, set: &S, c: usize) -> Resul
     groups.reserve(left.count_ones() as usize)?;
     items.reserve(count_places(set, c))?;
     'groups: while left != 0 {
-        let q = take_lowest(&mut left);
+        let q = take_bit(&mut left);
         push_group(&mut groups, &mut items, set, GROUPS_PER_TABLE * c + q, q)?;
     }
     Ok(Chunk {

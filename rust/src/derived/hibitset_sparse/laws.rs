@@ -16,9 +16,9 @@ use crate::derived::hibitset_base::util::{LAYERS, MAX_EID};
 /// # Contract
 ///
 /// ```text
-/// ensures within { (set : SparseBitSet) (i : ℕ) → has set i ≡ true → i < MAX_EID }
+/// ensures in_range { (set : SparseBitSet) (i : ℕ) → has set i ≡ true → i < MAX_EID }
 /// ensures exact { (set : SparseBitSet) → SummariesExact LAYERS (word_of set) }
-/// ensures beside { (set : SparseBitSet) (word : ℕ → ℕ → ℕ)
+/// ensures intersection_covered { (set : SparseBitSet) (word : ℕ → ℕ → ℕ)
 ///     → CoversWords LAYERS (has set) (word_of set) (λ l p. bit_and (word_of set l p) (word l p)) }
 /// ```
 pub fn sparse_laws() {}

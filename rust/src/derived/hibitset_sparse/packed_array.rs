@@ -21,7 +21,7 @@ impl<T> PackedArray<T> {
     ///
     /// ```text
     /// ensures word { result.word ≡ 0 }
-    /// ensures none { (bit : ℕ) → value_in result bit ≡ None }
+    /// ensures empty { (bit : ℕ) → value_in result bit ≡ None }
     /// ```
     #[inline]
     pub(crate) fn new(alloc: Global) -> PackedArray<T> {
@@ -88,7 +88,7 @@ impl<T> PackedArray<T> {
     ///
     /// ```text
     /// requires bit { bit < 64 }
-    /// requires last { (b : ℕ) → bit ≤ b → b < 64 → bit_at self.old.word b ≡ 0 }
+    /// requires none_above { (b : ℕ) → bit ≤ b → b < 64 → bit_at self.old.word b ≡ 0 }
     /// ensures put { OnOk result ((b : ℕ) → b < 64
     ///     → value_in self.new b ≡ (if b == bit then Some value else value_in self.old b)) }
     /// ```
@@ -106,7 +106,7 @@ impl<T> PackedArray<T> {
     /// ```text
     /// requires bit { bit < 64 }
     /// requires taken { bit_is_set self.old.word bit ≡ true }
-    /// ensures was { value_in self.old bit ≡ Some result }
+    /// ensures old_value { value_in self.old bit ≡ Some result }
     /// ensures put { (b : ℕ) → b < 64
     ///     → value_in self.new b ≡ (if b == bit then None else value_in self.old b) }
     /// ensures word { (b : ℕ) → b < 64

@@ -24,7 +24,7 @@ impl SparseBitSet {
     /// ensures added { OnOk result ((i : ℕ)
     ///     → has self.new i ≡ (has self.old i || in_range start end i)) }
     /// ensures err { OnErr result ((i : ℕ) → has self.new i ≡ has self.old i) }
-    /// ensures none { end ≤ start → IsOk result }
+    /// ensures succeeds_empty { end ≤ start → IsOk result }
     /// ```
     pub fn add_range(&mut self, start: Index, end: Index) -> Result<(), AllocError> {
         if start >= end {
@@ -58,7 +58,7 @@ impl SparseBitSet {
     /// ensures flipped { OnOk result ((i : ℕ)
     ///     → has self.new i ≡ differ (has self.old i) (in_range start end i)) }
     /// ensures err { OnErr result ((i : ℕ) → has self.new i ≡ has self.old i) }
-    /// ensures none { end ≤ start → IsOk result }
+    /// ensures succeeds_empty { end ≤ start → IsOk result }
     /// ```
     pub fn flip_range(&mut self, start: Index, end: Index) -> Result<(), AllocError> {
         if start >= end {

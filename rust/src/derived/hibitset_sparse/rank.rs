@@ -30,23 +30,3 @@ pub(crate) fn rank(word: usize, bit: usize) -> usize {
 pub(crate) fn is_set(word: usize, bit: usize) -> bool {
     word >> bit & 1 == 1
 }
-
-/// Takes the lowest bit out of a word, and returns its number.
-///
-/// # Contract
-///
-/// ```text
-/// requires { 0 < word.old }
-/// ensures below { result < 64 }
-/// ensures stood { bit_at word.old result ≡ 1 }
-/// ensures lowest { (b : ℕ) → b < result → bit_at word.old b ≡ 0 }
-/// ensures gone { bit_at word.new result ≡ 0 }
-/// ensures same { (b : ℕ) → b < 64 → b ≢ result → bit_at word.new b ≡ bit_at word.old b }
-/// ensures less { word.new < word.old }
-/// ```
-#[inline]
-pub(crate) fn take_lowest(word: &mut usize) -> usize {
-    let bit = word.trailing_zeros();
-    *word &= *word - 1;
-    bit as usize
-}

@@ -5,9 +5,9 @@
 use crate::support::rattle_std::prelude::*;
 
 use crate::derived::hibitset_sparse::chunk::Chunk;
-use crate::derived::hibitset_sparse::rank::take_lowest;
 use crate::derived::hibitset_sparse::set::SparseBitSet;
 use crate::derived::hibitset_sparse::table::{GROUPS_PER_TABLE, PLACES_PER_TABLE, Table};
+use crate::derived::hibitset_base::bits::take_bit;
 use crate::support::rattle_std::alloc::AllocError;
 use crate::support::rattle_std::mem;
 
@@ -39,7 +39,7 @@ fn join_group(
 ) {
     let mut places = first.word(q) | second.word(q);
     'places: while places != 0 {
-        let c = 64 * q + take_lowest(&mut places);
+        let c = 64 * q + take_bit(&mut places);
         let before = take_chunk(first, c);
         let after = take_chunk(second, c);
         if let Some(chunk) = later_chunk(before, after) {

@@ -6,9 +6,9 @@ use crate::support::rattle_std::prelude::*;
 
 use crate::derived::hibitset_sparse::group::Group;
 use crate::derived::hibitset_sparse::packed_array::PackedArray;
-use crate::derived::hibitset_sparse::rank::{rank, take_lowest};
+use crate::derived::hibitset_sparse::rank::rank;
 use crate::derived::hibitset_sparse::table::{GROUPS_PER_TABLE, PLACES_PER_TABLE, Table};
-use crate::derived::hibitset_base::bits::with_bit;
+use crate::derived::hibitset_base::bits::{take_bit, with_bit};
 
 /// What becomes of the values of a table, one by one.
 pub(crate) trait Change<T> {
@@ -29,7 +29,7 @@ pub(crate) trait Change<T> {
     ///
     /// ```text
     /// requires { i < PLACES_PER_TABLE }
-    /// ensures stays { result ≡ true → leaves self.now i value.old (Some value.new) }
+    /// ensures leaves { result ≡ true → leaves self.now i value.old (Some value.new) }
     /// ensures goes { result ≡ false → leaves self.now i value.old None }
     /// ```
     fn change(&self, i: usize, value: &mut T) -> bool;
@@ -59,7 +59,7 @@ pub(crate) fn retain_group<T, C: Change<T>>(
     let mut at = to;
     let mut kept = 0;
     'places: while left != 0 {
-        let bit = take_lowest(&mut left);
+        let bit = take_bit(&mut left);
         let here = group.start + rank(group.word, bit);
         if by.change(64 * q + bit, &mut items[here]) {
             items.swap(at, here);
@@ -116,7 +116,7 @@ impl<T> Table<T> {
         let mut at = 0;
         let mut to = 0;
         'groups: while left != 0 {
-            let q = take_lowest(&mut left);
+            let q = take_bit(&mut left);
             let group = list[rank(before, q)];
             let word = by.retain_group(&mut items, q, group, to);
             if word != 0 {

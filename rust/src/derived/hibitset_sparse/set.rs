@@ -45,7 +45,7 @@ impl SparseBitSet {
     ///
     /// ```text
     /// requires { id < MAX_EID }
-    /// ensures was { IfOk result (λ was. was ≡ has self.old id) }
+    /// ensures was_member { IfOk result (λ was. was ≡ has self.old id) }
     /// ensures added { OnOk result ((i : ℕ) → has self.new i ≡ (has self.old i || i == id)) }
     /// ensures err { OnErr result ((i : ℕ) → has self.new i ≡ has self.old i) }
     /// ensures succeeds { 0 < word_of self.old 0 (id / 64) → IsOk result }
@@ -66,7 +66,7 @@ impl SparseBitSet {
     /// # Contract
     ///
     /// ```text
-    /// ensures was { result ≡ has self.old id }
+    /// ensures was_member { result ≡ has self.old id }
     /// ensures removed { (i : ℕ) → has self.new i ≡ (has self.old i && not (i == id)) }
     /// ```
     pub fn remove(&mut self, id: Index) -> bool {

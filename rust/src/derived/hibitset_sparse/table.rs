@@ -6,8 +6,8 @@ use crate::support::rattle_std::prelude::*;
 
 use crate::derived::hibitset_sparse::group::Group;
 use crate::derived::hibitset_sparse::packed_array::PackedArray;
-use crate::derived::hibitset_sparse::rank::{is_set, rank, take_lowest};
-use crate::derived::hibitset_base::bits::{last_bit, with_bit};
+use crate::derived::hibitset_sparse::rank::{is_set, rank};
+use crate::derived::hibitset_base::bits::{last_bit, take_bit, with_bit};
 use crate::support::rattle_std::alloc::{AllocError, Global};
 
 /// How many places a table has.
@@ -25,6 +25,7 @@ pub(crate) struct Table<T> {
 }
 
 // Moves the starts of the groups from one on up by one place.
+#[inline]
 fn move_up(groups: &mut Vec<Group>, from: usize) {
     'groups: for k in from..groups.len() {
         groups[k].start += 1;
@@ -33,6 +34,7 @@ fn move_up(groups: &mut Vec<Group>, from: usize) {
 
 // Gives group q one place more, at `bit`, and moves no other. If it is new, it begins at `start`. If an allocation
 // fails, nothing changes.
+#[inline]
 fn set_place(
     groups: &mut PackedArray<Group>,
     q: usize,
@@ -52,6 +54,7 @@ fn set_place(
 
 // Gives group q one place more, at `bit`, and moves the groups after it up. If it is new, it begins at `start`. If an
 // allocation fails, nothing changes.
+#[inline]
 fn widen(
     groups: &mut PackedArray<Group>,
     q: usize,
@@ -86,6 +89,7 @@ fn narrow(groups: &mut PackedArray<Group>, q: usize, bit: usize) {
 }
 
 // Puts a value at a place of a list that has room for it.
+#[inline]
 fn put<T>(items: &mut Vec<T>, at: usize, value: T) {
     let _put = items.insert(at, value);
 }
@@ -128,10 +132,10 @@ impl<T> Table<T> {
     ///
     /// ```text
     /// requires { i < PLACES_PER_TABLE }
-    /// ensures none { IfNone result (value_at self.now i ≡ None) }
-    /// ensures some { IfSome result (λ at. (at < length self.now.items.items)
+    /// ensures absent { IfNone result (value_at self.now i ≡ None) }
+    /// ensures found { IfSome result (λ at. (at < length self.now.items.items)
     ///     × (value_at self.now i ≡ slice_get self.now.items.items at)) }
-    /// ensures place { IfSome result (IsPlace (value_in self.now.groups) i) }
+    /// ensures is_place { IfSome result (IsPlace (value_in self.now.groups) i) }
     /// ```
     #[inline]
     pub(crate) fn position(&self, i: usize) -> Option<usize> {
@@ -162,8 +166,8 @@ impl<T> Table<T> {
     /// # Contract
     ///
     /// ```text
-    /// requires place { i < PLACES_PER_TABLE }
-    /// requires there { at < length self.old.items.items }
+    /// requires in_range { i < PLACES_PER_TABLE }
+    /// requires in_length { at < length self.old.items.items }
     /// requires of { IsPlace (value_in self.old.groups) i at }
     /// ensures put { (j : ℕ) → j < PLACES_PER_TABLE
     ///     → value_at self.new j ≡ (if j == i then Some value else value_at self.old j) }
@@ -177,6 +181,7 @@ impl<T> Table<T> {
     }
 
     // Where the values of a group begin that has none yet.
+    #[inline]
     fn start_of_new(&self, q: usize) -> usize {
         let above = self.groups.word >> q;
         if above == 0 {
@@ -189,6 +194,7 @@ impl<T> Table<T> {
     }
 
     // Where the values of a group begin.
+    #[inline]
     fn start(&self, q: usize) -> usize {
         match self.groups.get(q) {
             Some(group) => group.start,
@@ -221,7 +227,7 @@ impl<T> Table<T> {
     pub(crate) fn covers(&self, other: &Table<T>) -> bool {
         let mut left = other.groups.word;
         'groups: while left != 0 {
-            let q = take_lowest(&mut left);
+            let q = take_bit(&mut left);
             let word = self.word(q);
             if other.word(q) | word != word {
                 return false;
@@ -248,7 +254,7 @@ impl<T> Table<T> {
     /// # Contract
     ///
     /// ```text
-    /// requires place { i < PLACES_PER_TABLE }
+    /// requires in_range { i < PLACES_PER_TABLE }
     /// requires free { value_at self.old i ≡ None }
     /// ensures put { OnOk result ((j : ℕ) → j < PLACES_PER_TABLE
     ///     → value_at self.new j ≡ (if j == i then Some value else value_at self.old j)) }
@@ -259,9 +265,9 @@ impl<T> Table<T> {
     pub(crate) fn insert(&mut self, i: usize, value: T) -> Result<(), AllocError> {
         let q = i / 64;
         let bit = i % 64;
+        self.items.reserve(1)?;
         let start = self.start(q);
         let at = start + rank(self.word(q), bit);
-        self.items.reserve(1)?;
         widen(&mut self.groups, q, bit, start)?;
         put(&mut self.items, at, value);
         Ok(())
@@ -272,8 +278,8 @@ impl<T> Table<T> {
     /// # Contract
     ///
     /// ```text
-    /// requires place { i < PLACES_PER_TABLE }
-    /// ensures was { result ≡ value_at self.old i }
+    /// requires in_range { i < PLACES_PER_TABLE }
+    /// ensures old_value { result ≡ value_at self.old i }
     /// ensures put { (j : ℕ) → j < PLACES_PER_TABLE
     ///     → value_at self.new j ≡ (if j == i then None else value_at self.old j) }
     /// ensures length { IfSome result (λ _. length self.old.items.items
@@ -291,9 +297,9 @@ impl<T> Table<T> {
     /// # Contract
     ///
     /// ```text
-    /// ensures none { IfNone result ((i : ℕ) → i < PLACES_PER_TABLE → value_at self.old i ≡ None) }
-    /// ensures place { IfSome result (λ last. last.0 < PLACES_PER_TABLE) }
-    /// ensures was { IfSome result (λ last. value_at self.old last.0 ≡ Some last.1) }
+    /// ensures empty { IfNone result ((i : ℕ) → i < PLACES_PER_TABLE → value_at self.old i ≡ None) }
+    /// ensures in_range { IfSome result (λ last. last.0 < PLACES_PER_TABLE) }
+    /// ensures old_value { IfSome result (λ last. value_at self.old last.0 ≡ Some last.1) }
     /// ensures put { IfSome result (λ last. (j : ℕ) → j < PLACES_PER_TABLE
     ///     → value_at self.new j ≡ (if j == last.0 then None else value_at self.old j)) }
     /// ensures length { IfSome result (λ last. length self.old.items.items

@@ -6,24 +6,7 @@ use crate::support::rattle_std::prelude::*;
 
 use crate::derived::hibitset_sparse::group::Group;
 use crate::derived::hibitset_sparse::table::{PLACES_PER_TABLE, Table};
-
-/// Takes the lowest bit out of a word, and returns its number.
-///
-/// # Contract
-///
-/// ```text
-/// requires { 0 < word.old }
-/// ensures below { result < 64 }
-/// ensures first { (start : ℕ) → bits_from start word.old
-///     ≡ (start + result) ∷ bits_from start word.new }
-/// ensures less { word.new < word.old }
-/// ```
-#[inline]
-pub(crate) fn take_first_bit(word: &mut usize) -> usize {
-    let bit = word.trailing_zeros();
-    *word &= *word - 1;
-    bit as usize
-}
+use crate::derived::hibitset_base::bits::take_bit;
 
 /// A walk over the places of a table that have a value, in ascending order, each with its value.
 ///
@@ -84,7 +67,7 @@ impl<'a, T> TableIter<'a, T> {
     /// ```text
     /// ensures steps { YieldsFirstBy (λ entry. (entry.0, entry.1.now)) entries_left
     ///     self.old result self.new }
-    /// ensures place { IfSome result (λ entry. entry.0 < PLACES_PER_TABLE) }
+    /// ensures in_range { IfSome result (λ entry. entry.0 < PLACES_PER_TABLE) }
     /// ```
     #[inline]
     pub(crate) fn next(&mut self) -> Option<(usize, &'a T)> {
@@ -98,12 +81,12 @@ impl<'a, T> TableIter<'a, T> {
             let Some((group, groups)) = self.groups.split_first() else {
                 return None;
             };
-            self.first = 64 * take_first_bit(&mut self.root);
+            self.first = 64 * take_bit(&mut self.root);
             self.word = group.word;
             self.groups = groups;
         }
         self.items = items;
-        let place = self.first + take_first_bit(&mut self.word);
+        let place = self.first + take_bit(&mut self.word);
         Some((place, item))
     }
 }

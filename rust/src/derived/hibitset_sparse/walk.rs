@@ -6,7 +6,8 @@ use crate::support::rattle_std::prelude::*;
 
 use crate::derived::hibitset_sparse::chunk::{Chunk, INDICES_PER_CHUNK};
 use crate::derived::hibitset_sparse::table::Table;
-use crate::derived::hibitset_sparse::table_iter::{TableIter, take_first_bit};
+use crate::derived::hibitset_sparse::table_iter::TableIter;
+use crate::derived::hibitset_base::bits::take_bit;
 use crate::derived::hibitset_base::util::{Index, MAX_EID};
 use crate::support::rattle_std::alloc::{AllocError, Global};
 
@@ -119,7 +120,7 @@ impl<'a> Iterator for SparseIter<'a> {
             self.first = first;
             self.word = word;
         }
-        let index = self.first + take_first_bit(&mut self.word);
+        let index = self.first + take_bit(&mut self.word);
         Some(index as Index)
     }
 }

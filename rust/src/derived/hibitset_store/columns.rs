@@ -51,7 +51,7 @@ impl<V> Column<V> {
     ///
     /// ```text
     /// ensures keys { (i : ℕ) → has result.now i ≡ is_some (value_of self.now i) }
-    /// ensures within { (i : ℕ) → MAX_EID ≤ i → value_of self.now i ≡ None }
+    /// ensures in_range { (i : ℕ) → MAX_EID ≤ i → value_of self.now i ≡ None }
     /// ensures words { slice_len result.now 0 ≡ words_len self.now }
     /// ```
     #[inline]
@@ -132,19 +132,19 @@ impl<V> Column<V> {
     ///
     /// ```text
     /// requires { id < MAX_EID }
-    /// ensures was { IfOk result (λ was. was ≡ value_of self.old id) }
+    /// ensures old_value { IfOk result (λ was. was ≡ value_of self.old id) }
     /// ensures inserted { OnOk result (IsWith (value_of self.old) id (Some value)
     ///     (value_of self.new)) }
     /// ensures value_returned { IfErr result (λ back. back ≡ value) }
     /// ensures err { OnErr result ((i : ℕ) → value_of self.new i ≡ value_of self.old i) }
     /// ensures succeeds { IsSome (value_of self.old id) → IsOk result }
-    /// ensures ready { HasRoom self.old id → IsOk result }
-    /// ensures unused { HasRoom self.old id → KeepsRoom self.old self.new }
-    /// ensures over { IsSome (value_of self.old id) → KeepsRoom self.old self.new }
-    /// ensures made { OnOk result (HasRoom self.new id) }
-    /// ensures most { MakesRoom id self.old self.new }
+    /// ensures succeeds_with_room { HasRoom self.old id → IsOk result }
+    /// ensures keeps_room { HasRoom self.old id → KeepsRoom self.old self.new }
+    /// ensures keeps_room_at_value { IsSome (value_of self.old id) → KeepsRoom self.old self.new }
+    /// ensures has_room { OnOk result (HasRoom self.new id) }
+    /// ensures makes_room { MakesRoom id self.old self.new }
     /// ensures list { list_len self.new ≤ MAX_SLOTS_PER_MADE_SLOT * (PAGE * made_pages self.new) }
-    /// ensures stays { OnErr result (words_len self.new ≡ words_len self.old) }
+    /// ensures err_len { OnErr result (words_len self.new ≡ words_len self.old) }
     /// ```
     #[inline]
     pub fn insert(&mut self, id: Index, value: V) -> Result<Option<V>, V> {
@@ -182,10 +182,10 @@ impl<V> Column<V> {
     /// # Contract
     ///
     /// ```text
-    /// ensures was { result ≡ value_of self.old id }
+    /// ensures old_value { result ≡ value_of self.old id }
     /// ensures removed { IsWith (value_of self.old) id None (value_of self.new) }
-    /// ensures keeps { KeepsRoom self.old self.new }
-    /// ensures room { IsSome result → HasRoom self.new id }
+    /// ensures keeps_room { KeepsRoom self.old self.new }
+    /// ensures has_room { IsSome result → HasRoom self.new id }
     /// ```
     #[inline]
     pub fn remove(&mut self, id: Index) -> Option<V> {

@@ -16,7 +16,7 @@ use crate::derived::hibitset::laws::laws;
 ///
 /// ```text
 /// ensures pairs { pairs_left result ≡ join_of (value_of a.now) (value_of b.now) }
-/// ensures begun { reads_of result ≡ 1 }
+/// ensures read { reads_of result ≡ 1 }
 /// ensures bound { reads_in_all result
 ///     ≤ (LAYERS - 1) * min (length (keys_of (value_of a.now))) (length (keys_of (value_of b.now)))
 ///     + 1 }
@@ -47,7 +47,7 @@ pub fn join<'a, V, W>(a: &'a Column<V>, b: &'a Column<W>) -> Join<'a, V, W> {
 /// ```text
 /// ensures pairs { masked_left M.holds result
 ///     ≡ joined_within (value_of a.now) (value_of b.now) (M.holds m) }
-/// ensures begun { masked_reads_of result ≡ 1 }
+/// ensures read { masked_reads_of result ≡ 1 }
 /// ensures bound { masked_reads_in_all M.word result
 ///     ≤ (LAYERS - 1) * min (length (keys_of (value_of a.now))) (length (keys_of (value_of b.now)))
 ///     + 1 }
@@ -76,7 +76,7 @@ impl<V> Column<V> {
     ///
     /// ```text
     /// ensures entries { entries_left result ≡ entries_of (value_of self.now) }
-    /// ensures begun { iter_reads_of result ≡ 1 }
+    /// ensures read { iter_reads_of result ≡ 1 }
     /// ensures bound { iter_reads_in_all result
     ///     ≤ (LAYERS - 1) * length (keys_of (value_of self.now)) + 1 }
     /// ensures runs { EveryRun (IterSteps {V = V})
@@ -97,7 +97,7 @@ impl<V> Column<V> {
     ///
     /// ```text
     /// ensures pairs { pairs_left result ≡ join_of (value_of self.now) (value_of other.now) }
-    /// ensures begun { reads_of result ≡ 1 }
+    /// ensures read { reads_of result ≡ 1 }
     /// ensures bound { reads_in_all result
     ///     ≤ (LAYERS - 1) * min (length (keys_of (value_of self.now)))
     ///     (length (keys_of (value_of other.now))) + 1 }
@@ -116,7 +116,7 @@ impl<V> Column<V> {
     /// ```text
     /// ensures pairs { masked_left M.holds result
     ///     ≡ joined_within (value_of self.now) (value_of other.now) (M.holds m) }
-    /// ensures begun { masked_reads_of result ≡ 1 }
+    /// ensures read { masked_reads_of result ≡ 1 }
     /// ensures bound { masked_reads_in_all M.word result
     ///     ≤ (LAYERS - 1) * min (length (keys_of (value_of self.now)))
     ///     (length (keys_of (value_of other.now))) + 1 }

@@ -11,18 +11,18 @@ whole_is layer some = let s : layer ≡ suc (layer - 1) = omega (arith, some) in
 
 pub overflow_mul-place : goal.overflow_mul-place
 overflow_mul-place g t c =
-    let h = place_fits LAYERS c.args.layer c.args.place 0 (let h = c.if-layer-eq0.false in omega (arith, h)) c.requires.layer c.requires.place (lit< tt) in
+    let h = place_fits LAYERS c.args.layer c.args.place 0 (let h = c.if-layer-eq0.false in omega (arith, h)) c.requires.layer c.requires.in_range (lit< tt) in
     omega (arith, h)
 
 pub overflow_add-place : goal.overflow_add-place
 overflow_add-place g t c =
-    let h = place_fits LAYERS c.args.layer c.args.place c.take_last_bit-bit.result (let h = c.if-layer-eq0.false in omega (arith, h)) c.requires.layer c.requires.place c.take_last_bit-bit.ensures.below in
+    let h = place_fits LAYERS c.args.layer c.args.place c.take_last_bit-bit.result (let h = c.if-layer-eq0.false in omega (arith, h)) c.requires.layer c.requires.in_range c.take_last_bit-bit.ensures.in_word in
     omega (arith, h)
 
 pub end_of_subtree-end-requires : goal.end_of_subtree-end-requires
 end_of_subtree-end-requires g t c κs within =
     let some : 0 < c.args.layer = (let h = c.if-layer-eq0.false in omega (arith, h)) in
-    (omega (arith, some, c.decreases), (within, (omega (arith, c.requires.layer), place_below LAYERS c.args.layer c.args.place c.take_last_bit-bit.result some c.requires.layer c.requires.place c.take_last_bit-bit.ensures.below)))
+    (omega (arith, some, c.decreases), (within, (omega (arith, c.requires.layer), place_below LAYERS c.args.layer c.args.place c.take_last_bit-bit.result some c.requires.layer c.requires.in_range c.take_last_bit-bit.ensures.in_word)))
 
 pub returns-then-end-gt0-clause-end : goal.returns-then-end-gt0-clause-end
 returns-then-end-gt0-clause-end g t c =
@@ -31,7 +31,7 @@ returns-then-end-gt0-clause-end g t c =
     let below = c.end_of_subtree-end.ensures in
     let some = c.if-end-gt0.true in
     end_after (g.B.BitSetLike.word c.args.other.now 0) (64 ^ (layer - 1)) (64 ^ layer) c.args.place c.loop-left.left c.take_last_bit-bit.result c.end_of_subtree-end.result (whole_is layer (let h = c.if-layer-eq0.false in omega (arith, h)))
-    (one-le-pow (layer - 1) 64 (lit< tt)) c.loop-left.invariant.rest below.end bit.last some ((below.last some).1)
+    (one-le-pow (layer - 1) 64 (lit< tt)) c.loop-left.invariant.rest below.end bit.highest some ((below.last some).1)
 
 pub returns-then-end-gt0-clause-last : goal.returns-then-end-gt0-clause-last
 returns-then-end-gt0-clause-last g t c =
@@ -40,5 +40,5 @@ returns-then-end-gt0-clause-last g t c =
     λ some. (
       last.0,
       last_after (g.B.BitSetLike.word c.args.other.now 0) (64 ^ (layer - 1)) (64 ^ layer) c.args.place c.loop-left.left c.take_last_bit-bit.result c.end_of_subtree-end.result (whole_is layer (let h = c.if-layer-eq0.false in omega (arith, h)))
-          c.take_last_bit-bit.ensures.below last.1,
+          c.take_last_bit-bit.ensures.in_word last.1,
     )

@@ -31,7 +31,7 @@ overflow_mul-result-else-word-eq0 g c = let h = fits_word c.args.layer c.args.en
 
 pub overflow_add-result-else-word-eq0 : goal.overflow_add-result-else-word-eq0
 overflow_add-result-else-word-eq0 g c =
-    let h = fits_word c.args.layer c.args.end c.last_bit.result c.requires.layer.0 c.requires.layer.1 c.if-end-eq0.false c.requires.within c.last_bit.ensures.below in
+    let h = fits_word c.args.layer c.args.end c.last_bit.result c.requires.layer.0 c.requires.layer.1 c.if-end-eq0.false c.requires.within c.last_bit.ensures.in_word in
     omega (arith, h)
 
 pub returns-then-end-eq0-clause-end : goal.returns-then-end-eq0-clause-end
@@ -49,7 +49,7 @@ returns-then-word-eq0-clause-end g c =
     let other = c.args.other.now in
     let word = g.B.BitSetLike.word other in
     let range : c.args.end - 1 < 64 ^ (LAYERS - 1 - c.args.layer) = (let some = c.if-end-eq0.false in omega (arith, some, c.requires.within)) in
-    let read = read_word word c.args.layer (c.args.end - 1) c.get_from_layer-word.result c.requires.layer.1 range c.get_from_layer-word.ensures.below c.get_from_layer-word.ensures.top in
+    let read = read_word word c.args.layer (c.args.end - 1) c.get_from_layer-word.result c.requires.layer.1 range c.get_from_layer-word.ensures.below_top c.get_from_layer-word.ensures.top in
     let zero_word : word c.args.layer (c.args.end - 1) ≡ 0 = sym read ∙ c.if-word-eq0.true in
     end_below LAYERS c.args.layer c.args.end (64 * (c.args.end - 1)) (g.B.BitSetLike.holds other) word (g.met.B.BitSetLike.lawful other) c.requires.layer.0 c.requires.layer.1 c.requires.end
     (covers_of c.args.end (64 * (c.args.end - 1)) (word c.args.layer) (omega arith) (λ b on. absurd (let off = bit_at-zero b in let wrong = rw zero_word at on in omega (arith, off, wrong))))
@@ -58,7 +58,7 @@ pub returns-else-word-eq0-clause-within : goal.returns-else-word-eq0-clause-with
 returns-else-word-eq0-clause-within g c =
     let size = size_is LAYERS c.args.layer c.requires.layer.1 in
     let some = c.if-end-eq0.false in
-    let small = c.last_bit.ensures.below in
+    let small = c.last_bit.ensures.in_word in
     omega (arith, size, some, small, c.requires.within)
 
 pub returns-else-word-eq0-clause-end : goal.returns-else-word-eq0-clause-end
@@ -66,6 +66,6 @@ returns-else-word-eq0-clause-end g c =
     let other = c.args.other.now in
     let word = g.B.BitSetLike.word other in
     let range : c.args.end - 1 < 64 ^ (LAYERS - 1 - c.args.layer) = (let some = c.if-end-eq0.false in omega (arith, some, c.requires.within)) in
-    let read = read_word word c.args.layer (c.args.end - 1) c.get_from_layer-word.result c.requires.layer.1 range c.get_from_layer-word.ensures.below c.get_from_layer-word.ensures.top in
+    let read = read_word word c.args.layer (c.args.end - 1) c.get_from_layer-word.result c.requires.layer.1 range c.get_from_layer-word.ensures.below_top c.get_from_layer-word.ensures.top in
     end_below LAYERS c.args.layer c.args.end (64 * (c.args.end - 1) + c.last_bit.result + 1) (g.B.BitSetLike.holds other) word (g.met.B.BitSetLike.lawful other) c.requires.layer.0 c.requires.layer.1 c.requires.end
-    (covers_of c.args.end (64 * (c.args.end - 1) + c.last_bit.result + 1) (word c.args.layer) (omega arith) (λ b on. let here = rw (← read) at on in let upto = c.last_bit.ensures.last b here in omega (arith, upto)))
+    (covers_of c.args.end (64 * (c.args.end - 1) + c.last_bit.result + 1) (word c.args.layer) (omega arith) (λ b on. let here = rw (← read) at on in let upto = c.last_bit.ensures.highest b here in omega (arith, upto)))

@@ -13,15 +13,15 @@ use Rattle.hibitset.proofs.MergeLemmas.{covers_below}
 use Rattle.hibitset.proofs.ComparisonLemmas.{PassedPast, all_pass, passed_step, passed_under}
 use Rattle.hibitset.proofs.compare.+compare_subtree.Goals as goal
 
-pub returns-then-misses-ne0-clause-no : goal.returns-then-misses-ne0-clause-no
+pub returns-then-misses-ne0-clause-if_false : goal.returns-then-misses-ne0-clause-if_false
 unfolding word_of
-returns-then-misses-ne0-clause-no g t c = λ _ all.
+returns-then-misses-ne0-clause-if_false g t c = λ _ all.
     let ours = c.args.ours.now in
     let theirs = c.args.theirs.now in
     let layer : ℕ = c.args.layer in
     let place : ℕ = c.args.place in
-    let x-is : c.get_from_layer.result ≡ word_of ours layer place = read_word (word_of ours) layer place c.get_from_layer.result c.requires.layer.1 c.requires.place c.get_from_layer.ensures.below c.get_from_layer.ensures.top in
-    let y-is : c.get_from_layer-word.result ≡ word_of theirs layer place = read_word (word_of theirs) layer place c.get_from_layer-word.result c.requires.layer.1 c.requires.place c.get_from_layer-word.ensures.below c.get_from_layer-word.ensures.top in
+    let x-is : c.get_from_layer.result ≡ word_of ours layer place = read_word (word_of ours) layer place c.get_from_layer.result c.requires.layer.1 c.requires.in_range c.get_from_layer.ensures.below_top c.get_from_layer.ensures.top in
+    let y-is : c.get_from_layer-word.result ≡ word_of theirs layer place = read_word (word_of theirs) layer place c.get_from_layer-word.result c.requires.layer.1 c.requires.in_range c.get_from_layer-word.ensures.below_top c.get_from_layer-word.ensures.top in
     let here : BitsPass (g.C.Comparison.allowed) (word_of ours layer place) (word_of theirs layer place) =
     all_pass LAYERS (g.C.Comparison.allowed) (g.met.C.Comparison.rises) (word_of ours) (word_of theirs) ours.summed theirs.summed (shaped ours.layers).words (shaped theirs.layers).words all layer place c.requires.layer.1 in
     let none : c.misses.result ≡ 0 = c.misses.ensures.1 (rw (x-is, y-is) here) in
@@ -30,25 +30,25 @@ returns-then-misses-ne0-clause-no g t c = λ _ all.
 
 pub overflow_mul-place : goal.overflow_mul-place
 overflow_mul-place g t c =
-    let h = place_fits LAYERS c.args.layer c.args.place 0 c.requires.layer.0 c.requires.layer.1 c.requires.place (lit< tt) in
+    let h = place_fits LAYERS c.args.layer c.args.place 0 c.requires.layer.0 c.requires.layer.1 c.requires.in_range (lit< tt) in
     omega (arith, h)
 
 pub overflow_add-place : goal.overflow_add-place
 overflow_add-place g t c =
-    let h = place_fits LAYERS c.args.layer c.args.place c.take_bit-bit.result c.requires.layer.0 c.requires.layer.1 c.requires.place c.take_bit-bit.ensures.below in
+    let h = place_fits LAYERS c.args.layer c.args.place c.take_bit-bit.result c.requires.layer.0 c.requires.layer.1 c.requires.in_range c.take_bit-bit.ensures.in_word in
     omega (arith, h)
 
 pub compare_subtree-requires : goal.compare_subtree-requires
 compare_subtree-requires g t c κs within =
     let layer : ℕ = c.args.layer in
     let lower : 1 < layer = (let some = c.requires.layer.0 in let other = c.if-layer-eq1.false in omega (arith, some, other)) in
-    let range = place_below LAYERS layer c.args.place c.take_bit-bit.result c.requires.layer.0 c.requires.layer.1 c.requires.place c.take_bit-bit.ensures.below in
+    let range = place_below LAYERS layer c.args.place c.take_bit-bit.result c.requires.layer.0 c.requires.layer.1 c.requires.in_range c.take_bit-bit.ensures.in_word in
     (omega (arith, lower, c.decreases), (within, ((omega (arith, lower), omega (arith, c.requires.layer)), range)))
 
 pub loop-left-preserved : goal.loop-left-preserved
 loop-left-preserved g t c =
     let bit = c.take_bit-bit.ensures in
-    passed_step _ (64 ^ (c.args.layer - 1)) c.args.place _ _ _ _ bit.below bit.gone bit.same (c.compare_subtree.ensures.yes c.if-not-compare_subtree.false) c.loop-left.invariant
+    passed_step _ (64 ^ (c.args.layer - 1)) c.args.place _ _ _ _ bit.in_word bit.bit_cleared bit.same (c.compare_subtree.ensures.if_true c.if-not-compare_subtree.false) c.loop-left.invariant
 
 -- the words of two sets at a place pass, and all under the bits of theirs
 module _ (allowed : Bool → Bool → Bool) (alone : (a : Bool) (x b : ℕ) → allowed a false ≡ true → (0 < x → a ≡ true) → allowed (bit_at x b == 1) false ≡ true) (ours theirs : BitSet) (layer place x y : ℕ)
@@ -75,21 +75,21 @@ past_words pass layer place word first all = record {
       all p (rw one at e) (rw one at on);
 }
 
-pub returns-then-layer-eq1-clause-yes : goal.returns-then-layer-eq1-clause-yes
-returns-then-layer-eq1-clause-yes g t c = λ e.
+pub returns-then-layer-eq1-clause-if_true : goal.returns-then-layer-eq1-clause-if_true
+returns-then-layer-eq1-clause-if_true g t c = λ e.
     let layer : ℕ = c.args.layer in
     let place : ℕ = c.args.place in
-    all_under (g.C.Comparison.allowed) (g.met.C.Comparison.alone) c.args.ours.now c.args.theirs.now layer place c.get_from_layer.result c.get_from_layer-word.result c.requires.layer.0 c.requires.layer.1 c.requires.place
-    (read_word (word_of c.args.ours.now) layer place c.get_from_layer.result c.requires.layer.1 c.requires.place c.get_from_layer.ensures.below c.get_from_layer.ensures.top)
-    (read_word (word_of c.args.theirs.now) layer place c.get_from_layer-word.result c.requires.layer.1 c.requires.place c.get_from_layer-word.ensures.below c.get_from_layer-word.ensures.top)
+    all_under (g.C.Comparison.allowed) (g.met.C.Comparison.alone) c.args.ours.now c.args.theirs.now layer place c.get_from_layer.result c.get_from_layer-word.result c.requires.layer.0 c.requires.layer.1 c.requires.in_range
+    (read_word (word_of c.args.ours.now) layer place c.get_from_layer.result c.requires.layer.1 c.requires.in_range c.get_from_layer.ensures.below_top c.get_from_layer.ensures.top)
+    (read_word (word_of c.args.theirs.now) layer place c.get_from_layer-word.result c.requires.layer.1 c.requires.in_range c.get_from_layer-word.ensures.below_top c.get_from_layer-word.ensures.top)
     (c.misses.ensures.0 c.if-misses-ne0.false) 0 refl
-    (past_words (λ p. BitsPass (g.C.Comparison.allowed) (word_of c.args.ours.now 0 p) (word_of c.args.theirs.now 0 p)) layer place c.get_from_layer-word.result (omega arith) (c.compare_lowest.ensures.yes e))
+    (past_words (λ p. BitsPass (g.C.Comparison.allowed) (word_of c.args.ours.now 0 p) (word_of c.args.theirs.now 0 p)) layer place c.get_from_layer-word.result (omega arith) (c.compare_lowest.ensures.if_true e))
 
-pub returns-clause-yes : goal.returns-clause-yes
-returns-clause-yes g t c = λ _.
+pub returns-clause-if_true : goal.returns-clause-if_true
+returns-clause-if_true g t c = λ _.
     let layer : ℕ = c.args.layer in
     let place : ℕ = c.args.place in
-    all_under (g.C.Comparison.allowed) (g.met.C.Comparison.alone) c.args.ours.now c.args.theirs.now layer place c.get_from_layer.result c.get_from_layer-word.result c.requires.layer.0 c.requires.layer.1 c.requires.place
-    (read_word (word_of c.args.ours.now) layer place c.get_from_layer.result c.requires.layer.1 c.requires.place c.get_from_layer.ensures.below c.get_from_layer.ensures.top)
-    (read_word (word_of c.args.theirs.now) layer place c.get_from_layer-word.result c.requires.layer.1 c.requires.place c.get_from_layer-word.ensures.below c.get_from_layer-word.ensures.top)
+    all_under (g.C.Comparison.allowed) (g.met.C.Comparison.alone) c.args.ours.now c.args.theirs.now layer place c.get_from_layer.result c.get_from_layer-word.result c.requires.layer.0 c.requires.layer.1 c.requires.in_range
+    (read_word (word_of c.args.ours.now) layer place c.get_from_layer.result c.requires.layer.1 c.requires.in_range c.get_from_layer.ensures.below_top c.get_from_layer.ensures.top)
+    (read_word (word_of c.args.theirs.now) layer place c.get_from_layer-word.result c.requires.layer.1 c.requires.in_range c.get_from_layer-word.ensures.below_top c.get_from_layer-word.ensures.top)
     (c.misses.ensures.0 c.if-misses-ne0.false) c.loop-left.left c.loop-left-test.false c.loop-left.invariant

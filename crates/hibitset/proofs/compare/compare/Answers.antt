@@ -11,5 +11,5 @@ unfolding word_of has
 returns g c =
     let ours = c.args.ours.now in
     let theirs = c.args.theirs.now in
-    decided c.compare_subtree.result (λ e. members_pass LAYERS (g.C.Comparison.allowed) (word_of ours) (word_of theirs) (lit< tt) (c.compare_subtree.ensures.yes e)) c.compare_subtree.ensures.no
+    decided c.compare_subtree.result (λ e. members_pass LAYERS (g.C.Comparison.allowed) (word_of ours) (word_of theirs) (lit< tt) (c.compare_subtree.ensures.if_true e)) c.compare_subtree.ensures.if_false
     (words_pass LAYERS (g.C.Comparison.allowed) (word_of ours) (word_of theirs) g.met.C.Comparison.none (lit< tt) (end_of_words LAYERS (layers ours) (lit< tt) (shaped ours.layers)) (end_of_words LAYERS (layers theirs) (lit< tt) (shaped theirs.layers)))

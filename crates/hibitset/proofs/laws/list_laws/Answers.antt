@@ -18,5 +18,5 @@ returns-clause-rest c = λ holds k x. list_from_nth MAX_EID k holds x
 pub returns-clause-parts : goal.returns-clause-parts
 returns-clause-parts c = λ holds x. list_at_member MAX_EID holds x
 
-pub returns-clause-place : goal.returns-clause-place
-returns-clause-place c = λ holds x. member_at MAX_EID holds x
+pub returns-clause-position : goal.returns-clause-position
+returns-clause-position c = λ holds x. member_at MAX_EID holds x

@@ -1,7 +1,7 @@
 use Rattle.std.proofs.Common.{◌+◌, ◌/◌, sym, ◌∙◌, ap, arith}
 use Rattle.hibitset.specs.BitSet.{word_of}
 use Rattle.hibitset.specs.Layout.{count_of}
-use Rattle.hibitset.proofs.LayoutLemmas.{over_next}
+use Rattle.hibitset.proofs.LayerStartLemmas.{over_next}
 use Rattle.hibitset.proofs.LayerLemmas.{length_of}
 use Rattle.hibitset.proofs.laws.slice_laws.Goals as goal
 

@@ -1,7 +1,7 @@
 use Rattle.std.proofs.Common.{ℕ, ◌+◌, ◌/◌, sym, ◌∙◌, ap, arith, inl, inr}
 use Rattle.std.proofs.lemmas.List.{length-set, get_or-set_same, get_or-set_other}
 use Rattle.hibitset_base.specs.Decisions.{same_or_not}
-use Rattle.hibitset.proofs.LayoutLemmas.{over_first, over_next, over_less}
+use Rattle.hibitset.proofs.LayerStartLemmas.{over_first, over_next, over_less}
 use Rattle.hibitset.proofs.layout.lens_over.Goals as goal
 
 pub loop-layer-init : goal.loop-layer-init

@@ -2,7 +2,7 @@ use Rattle.std.proofs.Common.{ℕ, ◌+◌, ◌-◌, ◌/◌, ◌^◌, sym, ◌�
 use Rattle.std.proofs.lemmas.List.{length-set, get_or-set_same, get_or-set_other}
 use Rattle.hibitset_base.specs.Decisions.{same_or_not}
 use Rattle.hibitset_base.specs.declared.util.TheConstants.{LAYERS}
-use Rattle.hibitset.proofs.LayoutLemmas.{over_first, over_next, over_less, start_first, start_next, start_bound}
+use Rattle.hibitset.proofs.LayerStartLemmas.{over_first, over_next, over_less, start_first, start_next, start_bound}
 use Rattle.hibitset.proofs.layout.starts_over.Goals as goal
 
 pub loop-layer-init : goal.loop-layer-init

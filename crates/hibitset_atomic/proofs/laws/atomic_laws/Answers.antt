@@ -19,9 +19,9 @@ first_has x y b stands = let h = bit_at_and x y b in let k = bit_at-lt x b in le
 second_has : (x y b : ℕ) → bit_at (bit_and x y) b ≡ 1 → bit_at y b ≡ 1
 second_has x y b stands = let h = bit_at_and x y b in let k = bit_at-lt x b in let m = bit_at-lt y b in omega (arith, h, k, m, stands)
 
-pub returns-clause-within : goal.returns-clause-within
+pub returns-clause-in_range : goal.returns-clause-in_range
 unfolding has word_of
-returns-clause-within c set i holds = held_below set.layers i holds
+returns-clause-in_range c set i holds = held_below set.layers i holds
 
 -- the words with the layer on top are exact
 exact_topped : (set : AtomicBitSet) → SummariesExact LAYERS (topped_word set)
@@ -39,15 +39,15 @@ pub returns-clause-kept : goal.returns-clause-kept
 unfolding word_of
 returns-clause-kept c set = (summed_exact ATOMIC_LAYERS set.summed, layers_fit set.layers)
 
-pub returns-clause-past : goal.returns-clause-past
+pub returns-clause-zero_past : goal.returns-clause-zero_past
 unfolding word_of
-returns-clause-past c set l p past = topped_past set.layers l p past
+returns-clause-zero_past c set l p past = topped_past set.layers l p past
 
-pub returns-clause-beside : goal.returns-clause-beside
-returns-clause-beside c set word = (
+pub returns-clause-intersection_covered : goal.returns-clause-intersection_covered
+returns-clause-intersection_covered c set word = (
   record { lawful = topped_is_lawful set; exact = exact_topped set; words = fit_topped set; inside = λ l q i stands. first_has (topped_word set l q) (word l q) i stands },
   record { lawful = topped_is_lawful set; exact = exact_topped set; words = fit_topped set; inside = λ l q i stands. second_has (word l q) (topped_word set l q) i stands },
 )
 
 pub returns-clause-intersection : goal.returns-clause-intersection
-returns-clause-intersection c a b = ((returns-clause-beside c a (topped_word b)).0, (returns-clause-beside c b (topped_word a)).1)
+returns-clause-intersection c a b = ((returns-clause-intersection_covered c a (topped_word b)).0, (returns-clause-intersection_covered c b (topped_word a)).1)

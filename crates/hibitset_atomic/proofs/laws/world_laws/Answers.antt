@@ -29,7 +29,7 @@ returns c = record {
   lowest = λ world w walk e. lowest-first 4 (old_of world) (past_of world) w walk (lit< tt) e;
   few_reads = λ world w walk e. few-reads 4 (old_of world) (past_of world) w walk (lit< tt) e;
   none_empty = λ world w walk e some. none-empty 4 (old_of world) (past_of world) w walk (lit< tt) e some;
-  within = λ world i there. beyond-none (old_of world) (past_of world) (λ k held. held_below world.start.value.layers k held) world.of_past.accepted i there;
+  in_range = λ world i there. beyond-none (old_of world) (past_of world) (λ k held. held_below world.start.value.layers k held) world.of_past.accepted i there;
   none_hollow = λ world l q h. summary (old_of world) (past_of world) l q (let e : l + 1 ≡ suc l = omega arith in rw e at h);
   exact_at_rest = λ world rest l q below h. rest-exact 4 (old_of world) (past_of world) world.of_past.accepted rest l q below h;
   new_once = λ world i. new-once (old_of world) (past_of world) i;

@@ -16,7 +16,7 @@ loop-place-preserved c =
         closed = i.invariant.closed;
         filled = filled_more (word_of i.set 0) (word_of w.store_word.new.self 0) (slice_index words) i.place i.invariant.filled (w.store_word.ensures.here ∙ sym found) w.store_word.ensures.others;
         empty = empty_more (word_of i.set 0) (word_of w.store_word.new.self 0) i.place i.invariant.empty w.store_word.ensures.others;
-        room = w.store_word.ensures.room;
+        room = w.store_word.ensures.has_room;
       }
       | else-word-ne0 w ↦ rw w.set-is record {
         closed = i.invariant.closed;

@@ -28,15 +28,15 @@ rotated : (b : ℕ) → b < 64 → rotate_left w64 18446744073709551614 b ≡ bi
 unfolding are_same
 rotated b below = let same : are_same b ≡ true = agree_below_at are_same (λ _. true) 64 b all_same below in grind (arith, nat_tests, same)
 
-pub returns-clause-gone : goal.returns-clause-gone
-returns-clause-gone c =
-    let is = rotated c.last_bit-bit.result c.last_bit-bit.ensures.below in
-    rw (c.rotate_left.ensures, is) (bit_at_clear_same w64 c.args.word.now c.last_bit-bit.result c.last_bit-bit.ensures.below)
+pub returns-clause-bit_cleared : goal.returns-clause-bit_cleared
+returns-clause-bit_cleared c =
+    let is = rotated c.last_bit-bit.result c.last_bit-bit.ensures.in_word in
+    rw (c.rotate_left.ensures, is) (bit_at_clear_same w64 c.args.word.now c.last_bit-bit.result c.last_bit-bit.ensures.in_word)
 
 pub returns-clause-same : goal.returns-clause-same
 returns-clause-same c = λ b small other.
-    let is = rotated c.last_bit-bit.result c.last_bit-bit.ensures.below in
-    rw (c.rotate_left.ensures, is) (bit_at_clear_other w64 c.args.word.now c.last_bit-bit.result c.last_bit-bit.ensures.below b small other)
+    let is = rotated c.last_bit-bit.result c.last_bit-bit.ensures.in_word in
+    rw (c.rotate_left.ensures, is) (bit_at_clear_other w64 c.args.word.now c.last_bit-bit.result c.last_bit-bit.ensures.in_word b small other)
 
 pub returns-clause-less : goal.returns-clause-less
-returns-clause-less c = lost_less c.args.word.now _ c.last_bit-bit.result c.last_bit-bit.ensures.stood (returns-clause-gone c)
+returns-clause-less c = lost_less c.args.word.now _ c.last_bit-bit.result c.last_bit-bit.ensures.bit_was_set (returns-clause-bit_cleared c)

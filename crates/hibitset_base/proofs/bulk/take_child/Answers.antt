@@ -11,7 +11,7 @@ returns-clause-items g c =
     let start = c.args.start in
     let rest = c.args.rest.now in
     let bit = trailing_zeros w64 rest in
-    let takes = takes_first rest c.requires.some (omega arith) in
+    let takes = takes_first rest c.requires.nonzero (omega arith) in
     let small = takes.small in
     let aligned = c.requires.aligned in
     let within = c.requires.within in
@@ -22,11 +22,11 @@ returns-clause-items g c =
     (under_first LAYERS (g.T.BitSetLike.holds c.args.set.now) word (g.met.T.BitSetLike.lawful c.args.set.now) (omega arith) start rest bit (bit_and rest (rest - 1)) takes (omega (arith, small, aligned, within)))
 
 pub returns-clause-less : goal.returns-clause-less
-returns-clause-less g c = (takes_first c.args.rest.now c.requires.some (omega arith)).less
+returns-clause-less g c = (takes_first c.args.rest.now c.requires.nonzero (omega arith)).less
 
 pub returns-clause-within : goal.returns-clause-within
 returns-clause-within g c =
-    let small = (takes_first c.args.rest.now c.requires.some (omega arith)).small in
+    let small = (takes_first c.args.rest.now c.requires.nonzero (omega arith)).small in
     let aligned = c.requires.aligned in
     let within = c.requires.within in
     let position = or_is_sum c.args.start (trailing_zeros w64 c.args.rest.now) aligned small in

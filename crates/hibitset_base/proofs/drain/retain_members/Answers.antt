@@ -9,7 +9,7 @@ use Rattle.hibitset_base.proofs.drain.retain_members.Goals as goal
 pub items-init : goal.items-init
 items-init g c = record {
   callable = c.requires;
-  retained = (0, retained_none MAX_EID _ (g.T.BitSetLike.holds c.args.set.now) _ c.root_cursor-cursor.ensures.items);
+  retained = (0, retained_none MAX_EID _ (g.T.BitSetLike.holds c.args.set.now) _ c.root_cursor-cursor.ensures.start.items);
   room = g.met.T.DrainableBitSet.keeps_own c.args.set.now;
 }
 
@@ -27,7 +27,7 @@ items-preserved g c =
     record {
       callable = c.items.invariant.callable;
       retained = (x + 1, retained_more MAX_EID _ old p r (items_of p (cursor_places c.items.cursor)) (items_of r (cursor_places cursor)) so_far.0 x so_far.1 gave c.keep_or_remove.ensures.answer c.keep_or_remove.ensures.others);
-      room = g.met.T.DrainableBitSet.keeps_both c.args.set.now c.items.set c.keep_or_remove.new.set c.items.invariant.room c.keep_or_remove.ensures.room;
+      room = g.met.T.DrainableBitSet.keeps_both c.args.set.now c.items.set c.keep_or_remove.new.set c.items.invariant.room c.keep_or_remove.ensures.keeps_room;
     }
 
 pub items-smaller : goal.items-smaller

@@ -33,17 +33,17 @@ pub returns-clause-first : goal.returns-clause-first
 returns-clause-first g c =
     let holds = g.T.BitSetLike.holds c.args.set.now in
     let word = g.T.BitSetLike.word c.args.set.now in
-    first_of MAX_EID holds word _ _ (cursor_places c.root_cursor-cursor.result) (cursor_places c.next_index.new.cursor) c.next_index.result c.root_cursor-cursor.ensures.items c.next_index.ensures.end (after _ _ c.next_index.result c.looks.invariant.goes c.next_index.ensures.goes)
+    first_of MAX_EID holds word _ _ (cursor_places c.root_cursor-cursor.result) (cursor_places c.next_index.new.cursor) c.next_index.result c.root_cursor-cursor.ensures.start.items c.next_index.ensures.end (after _ _ c.next_index.result c.looks.invariant.goes c.next_index.ensures.goes)
 
-pub returns-clause-few : goal.returns-clause-few
-returns-clause-few g c exact =
+pub returns-clause-reads_max : goal.returns-clause-reads_max
+returns-clause-reads_max g c exact =
     let holds = g.T.BitSetLike.holds c.args.set.now in
     let word = g.T.BitSetLike.word c.args.set.now in
     let cursor = c.root_cursor-cursor.result in
     let deep = depth-left 0 cursor.masks cursor.prefix in
     let long = cursor.formed.long in
     let one = c.root_cursor-cursor.ensures.reads in
-    few_of holds word c.root_cursor-cursor.new.reads.count c.next_index.new.reads.count (c.args.reads.now.count + LAYERS) (cursor_places cursor) (cursor_places c.next_index.new.cursor) c.next_index.result (omega (arith, deep, long, one)) (after _ _ c.next_index.result c.looks.invariant.goes c.next_index.ensures.goes) exact c.root_cursor-cursor.ensures.drawn
+    few_of holds word c.root_cursor-cursor.new.reads.count c.next_index.new.reads.count (c.args.reads.now.count + LAYERS) (cursor_places cursor) (cursor_places c.next_index.new.cursor) c.next_index.result (omega (arith, deep, long, one)) (after _ _ c.next_index.result c.looks.invariant.goes c.next_index.ensures.goes) exact c.root_cursor-cursor.ensures.start.from_set
 
 pub looks-preserved : goal.looks-preserved
-looks-preserved g c = record { goes = goes_both c.looks.invariant.goes c.try_descend.ensures.goes; empty = λ l within. c.try_descend.ensures.below l (omega (arith, within)) }
+looks-preserved g c = record { goes = goes_both c.looks.invariant.goes c.try_descend.ensures.goes; empty = λ l within. c.try_descend.ensures.empty_below l (omega (arith, within)) }

@@ -9,12 +9,12 @@ pub returns-clause-last : goal.returns-clause-last
 returns-clause-last g c =
     let holds = g.T.BitSetLike.holds c.args.set.now in
     last_below holds MAX_EID c.previous_index.result
-    (last_given LAYERS holds (g.T.BitSetLike.word c.args.set.now) _ _ (rev_left c.start_at_end-cursor.result) (rev_left c.previous_index.new.cursor) c.previous_index.result c.previous_index.ensures.end c.previous_index.ensures.goes _ c.start_at_end-cursor.ensures.items)
+    (last_given LAYERS holds (g.T.BitSetLike.word c.args.set.now) _ _ (rev_left c.start_at_end-cursor.result) (rev_left c.previous_index.new.cursor) c.previous_index.result c.previous_index.ensures.end c.previous_index.ensures.goes _ c.start_at_end-cursor.ensures.start.items)
 
-pub returns-clause-few : goal.returns-clause-few
-returns-clause-few g c exact =
+pub returns-clause-reads_max : goal.returns-clause-reads_max
+returns-clause-reads_max g c exact =
     let cursor = c.start_at_end-cursor.result in
-    let down = few_down LAYERS (g.T.BitSetLike.holds c.args.set.now) (g.T.BitSetLike.word c.args.set.now) _ _ (rev_left cursor) (rev_left c.previous_index.new.cursor) c.previous_index.result c.previous_index.ensures.goes exact c.start_at_end-cursor.ensures.drawn in
+    let down = few_down LAYERS (g.T.BitSetLike.holds c.args.set.now) (g.T.BitSetLike.word c.args.set.now) _ _ (rev_left cursor) (rev_left c.previous_index.new.cursor) c.previous_index.result c.previous_index.ensures.goes exact c.start_at_end-cursor.ensures.start.from_set in
     let most = few_layers_back (λ l. get_or cursor.masks l 0) (λ l. get_or cursor.starts l 0) (LAYERS - 1) in
     let one = c.start_at_end-cursor.ensures.reads in
     omega (arith, down, most, one)

@@ -64,6 +64,6 @@ returns-clause-alone g c alone few l other =
     ] in
     c.push_bits_from.ensures.others l other ∙ taken l
 
-pub returns-clause-below : goal.returns-clause-below
-returns-clause-below g c l lower =
+pub returns-clause-empty_below : goal.returns-clause-empty_below
+returns-clause-empty_below g c l lower =
     c.push_bits_from.ensures.others l (λ e. absurd (omega arith)) ∙ (c.take_first-position.ensures.others l (λ e. absurd (omega arith)) ∙ c.requires.lowest l (omega arith))

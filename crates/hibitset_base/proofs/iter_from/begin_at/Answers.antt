@@ -19,8 +19,8 @@ returns-clause-items g c =
     rw (c.new.ensures.masks, c.new.ensures.prefix)
     (items_begin LAYERS holds word (g.met.T.BitSetLike.lawful c.args.set.now) c.args.from c.requires.within c.tails_over-masks.result c.prefixes_over-prefixes.result (omega arith) begins.long begins.tails c.prefixes_over-prefixes.ensures)
 
-pub returns-clause-drawn : goal.returns-clause-drawn
-returns-clause-drawn g c =
+pub returns-clause-from_set : goal.returns-clause-from_set
+returns-clause-from_set g c =
     let holds = g.T.BitSetLike.holds c.args.set.now in
     let word = g.T.BitSetLike.word c.args.set.now in
     let begins = c.tails_over-masks.ensures in

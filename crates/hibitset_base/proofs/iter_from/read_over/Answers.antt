@@ -1,5 +1,5 @@
 use Rattle.std.proofs.Common.{◌≡◌, ℕ, ◌*◌, ◌/◌, ◌^◌, ap}
-use Rattle.hibitset_base.proofs.SkipLemmas.{shift_is, tail_is, bit_stands, bit_clear}
+use Rattle.hibitset_base.proofs.PlaceCutLemmas.{shift_is, tail_is, bit_stands, bit_clear}
 use Rattle.hibitset_base.proofs.iter_from.read_over.Goals as goal
 
 -- the place over the index

@@ -1,7 +1,7 @@
 use Rattle.std.proofs.Common.{◌≡◌, ℕ, suc, ◌+◌, ◌-◌, ◌*◌, ◌/◌, ◌%◌, ◌^◌, ◌<◌, ◌≤◌, length, ◌∙◌, ap, ap₂, arith}
 use Rattle.std.proofs.Math.Nat.{pow-suc}
+use Rattle.hibitset_base.specs.Bits.{HasPart}
 use Rattle.hibitset_base.specs.Members.{members}
-use Rattle.hibitset_base.specs.Ranks.{HasPart}
 use Rattle.hibitset_base.specs.declared.util.TheConstants.{LAYERS}
 use Rattle.hibitset_base.proofs.MemberLemmas.{members-length}
 use Rattle.hibitset_base.proofs.PartLemmas.{items_of_part}

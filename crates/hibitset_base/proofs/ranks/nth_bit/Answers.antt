@@ -8,10 +8,10 @@ pub bits-init : goal.bits-init
 bits-init c = refl
 
 pub returns-then-left-eq0 : goal.returns-then-left-eq0
-returns-then-left-eq0 c = at_first _ _ _ c.bits.left c.take_bit-index.ensures.taken c.if-left-eq0.true ∙ c.bits.invariant
+returns-then-left-eq0 c = at_first _ _ _ c.bits.left c.take_index-index.ensures.taken c.if-left-eq0.true ∙ c.bits.invariant
 
 pub bits-preserved : goal.bits-preserved
-bits-preserved c = at_later _ _ _ c.bits.left c.take_bit-index.ensures.taken c.if-left-eq0.false ∙ c.bits.invariant
+bits-preserved c = at_later _ _ _ c.bits.left c.take_index-index.ensures.taken c.if-left-eq0.false ∙ c.bits.invariant
 
 pub returns : goal.returns
 returns c = sym (ap (λ xs. slice_get xs c.bits.left) (bits-none c.args.start c.bits.rest c.bits-test.false)) ∙ c.bits.invariant

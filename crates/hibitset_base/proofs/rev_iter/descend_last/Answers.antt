@@ -7,8 +7,8 @@ use Rattle.hibitset_base.specs.declared.util.TheConstants.{LAYERS}
 use Rattle.hibitset_base.proofs.RevWalkLemmas.{stays_back, goes_down_back}
 use Rattle.hibitset_base.proofs.rev_iter.descend_last.Goals as goal
 
-pub returns-then-is_empty-clause-none : goal.returns-then-is_empty-clause-none
-returns-then-is_empty-clause-none g c = λ _ l below. elim (cases_lt l c.args.layer) [
+pub returns-then-is_empty-clause-end : goal.returns-then-is_empty-clause-end
+returns-then-is_empty-clause-end g c = λ _ l below. elim (cases_lt l c.args.layer) [
   | inl lower ↦ c.requires.lowest l lower
   | inr upper ↦ (let is : l ≡ c.args.layer = omega (arith, below, upper) in ap (rev_mask c.args.cursor.now) is ∙ c.is_empty.ensures.empty c.if-is_empty.true)
 ]

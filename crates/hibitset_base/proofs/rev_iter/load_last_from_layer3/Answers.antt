@@ -5,8 +5,8 @@ use Rattle.hibitset_base.proofs.rev_iter.load_last_from_layer3.Goals as goal
 pub returns-clause-goes : goal.returns-clause-goes
 returns-clause-goes g c = both_back c.descend_last.ensures.goes c.descend_last-2.ensures.goes
 
-pub returns-clause-more : goal.returns-clause-more
-returns-clause-more g c filled =
+pub returns-clause-reads_min : goal.returns-clause-reads_min
+returns-clause-reads_min g c filled =
     let same = c.descend_last.ensures.same c.if-descend_last.false in
-    let more = c.descend_last-2.ensures.more filled in
+    let more = c.descend_last-2.ensures.reads_min filled in
     omega (arith, same, more)

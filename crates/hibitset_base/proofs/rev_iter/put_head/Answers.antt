@@ -1,14 +1,14 @@
 use Rattle.std.proofs.Common.{◌≡◌, ℕ, ◌+◌, ◌-◌, ◌*◌, ◌/◌, ◌%◌, ◌^◌, ◌++◌, List, sym, ◌∙◌, ap, arith}
 use Rattle.std.proofs.lemmas.Grind.{flat_map-append}
 use Rattle.std.proofs.lemmas.List.Elements.{All-append, All-same}
+use Rattle.hibitset_base.specs.Bits.{HasPart}
 use Rattle.hibitset_base.specs.Places.{Place, places_in, bits_from, items_under, items_of}
-use Rattle.hibitset_base.specs.Ranks.{HasHead}
 use Rattle.hibitset_base.specs.WordsRead.{BitIsSet}
 use Rattle.hibitset_base.specs.RevCursor.{rev_left}
 use Rattle.hibitset_base.specs.declared.util.TheConstants.{LAYERS}
 use Rattle.hibitset_base.proofs.WalkFromLemmas.{over, word_within}
-use Rattle.hibitset_base.proofs.PartLemmas.{drawn_head}
-use Rattle.hibitset_base.proofs.SkipLemmas.{shift_is, bit_clear}
+use Rattle.hibitset_base.proofs.PartLemmas.{drawn_part}
+use Rattle.hibitset_base.proofs.PlaceCutLemmas.{shift_is, bit_clear}
 use Rattle.hibitset_base.proofs.RankLemmas.{count_head, none_over}
 use Rattle.hibitset_base.proofs.rev_iter.put_head.Goals as goal
 
@@ -37,12 +37,12 @@ returns-clause-items g c =
     (place_is c.args.end c.args.layer) c.read-word.ensures.word (omega arith) c.head.ensures in
     ap (items_of holds) c.push_bits.ensures.left ∙ (flat_map-append (λ x. items_under holds x.layer x.position) old more ∙ ap (λ ys. items_of holds old ++ ys) head)
 
-pub returns-clause-drawn : goal.returns-clause-drawn
-returns-clause-drawn g c drawn =
+pub returns-clause-from_set : goal.returns-clause-from_set
+returns-clause-from_set g c drawn =
     let word = g.T.BitSetLike.word c.args.set.now in
     let q : ℕ = c.args.end / 2 ^ (6 * c.args.layer) / 64 in
-    let has : HasHead (word c.args.layer q) (c.args.end / 2 ^ (6 * c.args.layer) % 64) c.head.result = rw c.read-word.ensures.word at c.head.ensures in
-    All-same (BitIsSet word) _ _ c.push_bits.ensures.left (All-append (BitIsSet word) _ _ drawn (drawn_head word c.args.layer q _ c.head.result has))
+    let has : HasPart (word c.args.layer q) 0 (c.args.end / 2 ^ (6 * c.args.layer) % 64) c.head.result = rw c.read-word.ensures.word at c.head.ensures in
+    All-same (BitIsSet word) _ _ c.push_bits.ensures.left (All-append (BitIsSet word) _ _ drawn (drawn_part word c.args.layer q 0 _ c.head.result has))
 
 pub returns-clause-clear : goal.returns-clause-clear
 returns-clause-clear g c none =
@@ -52,5 +52,5 @@ returns-clause-clear g c none =
     none_over LAYERS holds word (g.met.T.BitSetLike.lawful c.args.set.now) c.args.end c.requires.within c.args.layer (LAYERS - 1 - c.args.layer) (omega (arith, layer))
     (bit_clear word c.args.end c.args.layer _ c.read-word.result (place_is c.args.end c.args.layer) c.read-word.ensures.word none)
 
-pub returns-clause-below : goal.returns-clause-below
-returns-clause-below g c = λ l lower. c.push_bits.ensures.others l (λ e. absurd (omega (arith, e, lower))) ∙ c.requires.lowest l (omega (arith, lower))
+pub returns-clause-empty_below : goal.returns-clause-empty_below
+returns-clause-empty_below g c = λ l lower. c.push_bits.ensures.others l (λ e. absurd (omega (arith, e, lower))) ∙ c.requires.lowest l (omega (arith, lower))

@@ -18,8 +18,8 @@ layers-init g c =
     record {
       reads = omega arith;
       items = ap (items_of holds) left ∙ sym none;
-      drawn = All-same (BitIsSet (g.T.BitSetLike.word c.args.set.now)) _ [] left (All-nil (BitIsSet (g.T.BitSetLike.word c.args.set.now)));
-      below = c.empty-cursor.ensures.below;
+      from_set = All-same (BitIsSet (g.T.BitSetLike.word c.args.set.now)) _ [] left (All-nil (BitIsSet (g.T.BitSetLike.word c.args.set.now)));
+      below = c.empty-cursor.ensures.empty_below;
     }
 
 pub put_head-requires-clause-lowest : goal.put_head-requires-clause-lowest
@@ -36,7 +36,7 @@ returns-then-not-put_head g c =
     record {
       read = omega (arith, reads, one);
       items = c.put_head.ensures.items ∙ (ap (λ xs. xs ++ members holds (start_over c.args.end (l + 1)) (start_over c.args.end l - start_over c.args.end (l + 1))) so_far ∙ (sym (parts_here holds c.args.end l) ∙ ends_before holds c.args.end l (c.put_head.ensures.clear c.if-not-put_head.true)));
-      drawn = c.put_head.ensures.drawn c.layers.invariant.drawn;
+      from_set = c.put_head.ensures.from_set c.layers.invariant.from_set;
     }
 
 pub layers-preserved : goal.layers-preserved
@@ -51,8 +51,8 @@ layers-preserved g c =
     record {
       reads = omega (arith, reads, one);
       items = rw next (c.put_head.ensures.items ∙ (ap (λ xs. xs ++ members holds (start_over c.args.end (l + 1)) (start_over c.args.end l - start_over c.args.end (l + 1))) so_far ∙ sym (parts_here holds c.args.end l)));
-      drawn = c.put_head.ensures.drawn c.layers.invariant.drawn;
-      below = rw next c.put_head.ensures.below;
+      from_set = c.put_head.ensures.from_set c.layers.invariant.from_set;
+      below = rw next c.put_head.ensures.empty_below;
     }
 
 pub returns : goal.returns
@@ -65,5 +65,5 @@ returns g c =
     record {
       read = omega (arith, reads);
       items = items ∙ ap (λ b. members_below b holds) all;
-      drawn = c.layers.invariant.drawn;
+      from_set = c.layers.invariant.from_set;
     }

@@ -12,6 +12,6 @@ abbrev pub invariant-layers : goal.invariant-layers
 invariant-layers g l = record {
   reads : l.reads.count ≡ l.initial.reads.count + l.depth;
   items : items_of (g.T.BitSetLike.holds l.set) (rev_left l.cursor) ≡ members_below (start_over l.end (LAYERS - l.depth)) (g.T.BitSetLike.holds l.set);
-  drawn : AllAreSet (g.T.BitSetLike.word l.set) (rev_left l.cursor);
+  from_set : AllAreSet (g.T.BitSetLike.word l.set) (rev_left l.cursor);
   below : IsRevEmptyBelow l.cursor (LAYERS - l.depth);
 }

@@ -31,12 +31,12 @@ loop-slot-preserved g c =
       removed = removes_next list slot (search rules) (holds c.args.set.now) (holds middle) (holds new) now.removed c.remove.ensures.removed;
       counted = elim c.if-remove.branch [
         | then-remove w ↦
-            let there = sym c.remove.ensures.was ∙ w.if-remove.true in
+            let there = sym c.remove.ensures.was_member ∙ w.if-remove.true in
             let h = one_less (holds middle) (holds new) x total c.loop-slot.count c.remove.ensures.removed now.counted there (now.within x there) in
             let is = w.count-is in
             omega (arith, h, is)
         | else-remove w ↦
-            let h = none_less (holds middle) (holds new) x total c.loop-slot.count c.remove.ensures.removed now.counted (sym c.remove.ensures.was ∙ w.if-remove.false) in
+            let h = none_less (holds middle) (holds new) x total c.loop-slot.count c.remove.ensures.removed now.counted (sym c.remove.ensures.was_member ∙ w.if-remove.false) in
             let is = w.count-is in
             omega (arith, h, is)
       ];
@@ -44,7 +44,7 @@ loop-slot-preserved g c =
         | then-remove w ↦ let is = w.count-is in omega (arith, few, is)
         | else-remove w ↦ let is = w.count-is in omega (arith, few, is)
       ];
-      keeps = g.met.T.DrainableBitSet.keeps_both c.args.set.now middle new now.keeps c.remove.ensures.room;
+      keeps = g.met.T.DrainableBitSet.keeps_both c.args.set.now middle new now.keeps c.remove.ensures.keeps_room;
     }
 
 pub returns-clause-removed : goal.returns-clause-removed

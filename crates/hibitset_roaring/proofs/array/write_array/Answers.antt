@@ -17,7 +17,7 @@ slots-init c =
     let next : ℕ = c.slot_from-slot.result in
     let words = c.args.words.now in
     let key : ℕ = c.args.key in
-    let skips = c.slot_from-slot.ensures.skips words c.requires.above in
+    let skips = c.slot_from-slot.ensures.skips words c.requires.summaries in
     record {
       within = c.slot_from-slot.ensures.within;
       rest = c.slot_from-slot.ensures.rest;
@@ -28,14 +28,14 @@ slots-init c =
       ascending = λ i below. absurd (omega (arith, below));
     }
 
-pub write_word-len-requires-clause-room : goal.write_word-len-requires-clause-room
-write_word-len-requires-clause-room c =
+pub write_word-len-requires-clause-long_enough : goal.write_word-len-requires-clause-long_enough
+write_word-len-requires-clause-long_enough c =
     let n = c.slots.invariant.count in
-    let word = ap count_ones c.word_of.ensures in
+    let word = ap count_ones c.word_or_zero.ensures in
     let more = ones_more c.args.words.now (1024 * c.args.key) c.slots.slot in
     let test = c.slots-test.true in
     let most = ones_mono c.args.words.now (1024 * c.args.key) (c.slots.slot + 1) 1024 (omega (arith, test)) in
-    let room = c.requires.room in
+    let room = c.requires.long_enough in
     let same = c.slots.auto.out in
     omega (arith, n, word, more, most, room, same)
 
@@ -49,12 +49,12 @@ slots-preserved c =
     let len : ℕ = c.slots.len in
     let out = c.slots.out in
     let new = c.write_word-len.new.out in
-    let word : ℕ = c.word_of.result in
-    let is : word ≡ get_or words (1024 * key + j) 0 = c.word_of.ensures in
+    let word : ℕ = c.word_or_zero.result in
+    let is : word ≡ get_or words (1024 * key + j) 0 = c.word_or_zero.ensures in
     let w = c.write_word-len.ensures in
     let next : ℕ = c.slot_after-slot.result in
     let order : j + 1 ≤ next = (let after = c.slot_after-slot.ensures.order in omega (arith, after)) in
-    let skips = c.slot_after-slot.ensures.skips words c.requires.above in
+    let skips = c.slot_after-slot.ensures.skips words c.requires.summaries in
     let before = w.before in
     let same : (i : ℕ) → i < len → u16_at new (at + 2 * i) ≡ u16_at out (at + 2 * i) = λ i below. u16_same (at + 2 * len) out new before (at + 2 * i) (omega (arith, below)) in
     record {

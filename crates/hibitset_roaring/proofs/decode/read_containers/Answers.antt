@@ -1,8 +1,9 @@
 use Rattle.std.proofs.Common.{◌≡◌, ℕ, ◌+◌, ◌-◌, ◌/◌, ◌%◌, ◌<◌, ◌==◌, ◌&&◌, ◌||◌, List, length, ◌≤◌, ap, sym, ◌∙◌, arith, inl, inr}
 use Rattle.std.proofs.lemmas.Bool.{cases_lt}
+use Rattle.std.proofs.Math.Bool.{or_comm}
 use Rattle.hibitset_roaring.specs.Numbers.{any_below}
 use Rattle.hibitset_roaring.specs.Format.{container_count, container_at, key_of, in_container, holds}
-use Rattle.hibitset_roaring.proofs.TestLemmas.{any_none, any_next, or_comm, eq_comm}
+use Rattle.hibitset_roaring.proofs.TestLemmas.{any_none, any_next, eq_comm}
 use Rattle.hibitset_roaring.proofs.LayoutLemmas.{at_first, at_mono, next_at}
 use Rattle.hibitset_roaring.proofs.ContainerLemmas.{size_runs}
 use Rattle.hibitset_roaring.proofs.decode.read_containers.Goals as goal
@@ -15,7 +16,7 @@ pub containers-init : goal.containers-init
 containers-init g c = record {
   at_is = c.requires.header.first_is ∙ sym (at_first c.args.bytes.now);
   containers = λ i below. absurd (omega (arith, below));
-  none = λ z. c.requires.none;
+  none = λ z. c.requires.no_words;
   last = λ i e. absurd (omega (arith, e));
   members = λ i. c.requires.empty i ∙ sym (any_none (λ k. (key_of c.args.bytes.now k == i / 65536) && in_container c.args.bytes.now k (i % 65536)));
 }
@@ -55,8 +56,8 @@ take_container-requires-clause-order g c =
       | inr first ↦ (let z = h.none (omega (arith, first)) in omega (arith, z))
     ]
 
-pub returns-clause-least : goal.returns-clause-least
-returns-clause-least g c = λ bound is.
+pub returns-clause-least_bound : goal.returns-clause-least_bound
+returns-clause-least_bound g c = λ bound is.
     let h = c.containers.invariant in
     let k : ℕ = c.containers.k in
     let bytes = c.args.bytes.now in

@@ -40,7 +40,7 @@ parts-preserved c =
             ap (λ p. get_or c.append_block.new.words.items p 0) (sym place) ∙ (done.here r (omega (arith, upper, below)) ∙ ap (λ p. u64_at bytes p) from)
       ];
       count = (let more = done.count at (64 * block) (omega arith) in let n = h.count in let e : 64 * (block + 1) ≡ 64 * block + 64 = omega arith in omega (arith, more, n) ∙ ap (λ m. ones_in bytes at m) (sym e));
-      few = (let f = h.few in let g = done.few in omega (arith, f, g));
+      few = (let f = h.few in let g = done.max in omega (arith, f, g));
     }
 
 -- a container that was put behind the words adds its members

@@ -47,6 +47,6 @@ numbers-preserved c =
       ];
       none = λ z. absurd (omega (arith, z));
       last = λ i e. (let k : i ≡ j = omega (arith, e) in rw k (omega (arith, number)));
-      members = adds_one c.args.key (in_array bytes at j) (in_array bytes at (j + 1)) c.args.words.now c.numbers.words c.set_bit.new.words h.members c.read_u16-low.result c.read_u16-low.ensures.small c.set_bit.ensures
+      members = adds_one c.args.key (in_array bytes at j) (in_array bytes at (j + 1)) c.args.words.now c.numbers.words c.set_bit.new.words h.members c.read_u16-low.result c.read_u16-low.ensures.in_range c.set_bit.ensures
           (λ v. array_next bytes at j v ∙ ap (λ x. (x == v) || in_array bytes at j v) (sym number));
     }

@@ -13,8 +13,8 @@ returns-clause-first c =
     c.first_after.ensures ∙ (ap (λ o. cond o (keys + 4 * n + 4 * n) (keys + 4 * n)) c.offsets_are.ensures
     ∙ ap (λ k. cond (offsets_after c.args.some n) (k + 4 * n + 4 * n) (k + 4 * n)) c.keys_after.ensures)
 
-pub returns-clause-few : goal.returns-clause-few
-returns-clause-few c =
+pub returns-clause-max : goal.returns-clause-max
+returns-clause-max c =
     let n : ℕ = c.args.count in
     let keys : ℕ = c.keys_after.result in
     let is = c.first_after.ensures ∙ (ap (λ o. cond o (keys + 4 * n + 4 * n) (keys + 4 * n)) c.offsets_are.ensures

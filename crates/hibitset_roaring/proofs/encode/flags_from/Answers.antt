@@ -15,7 +15,7 @@ flags-preserved c = λ i below.
       | inr upper ↦
           let e : i ≡ b = omega (arith, below, upper) in
           rw e (ap (λ x. x == 1) bit.here ∙ (bit_test c.are_shorter-flag.result ∙ (c.are_shorter-flag.ensures.shorter
-          ∙ (ap (λ x. are_runs_shorter x c.word_of-in-flags.result) c.word_of.ensures ∙ ap (λ x. are_runs_shorter (get_or c.args.runs.now (c.args.first + b) 0) x) c.word_of-in-flags.ensures))))
+          ∙ (ap (λ x. are_runs_shorter x c.word_or_zero-in-flags.result) c.word_or_zero.ensures ∙ ap (λ x. are_runs_shorter (get_or c.args.runs.now (c.args.first + b) 0) x) c.word_or_zero-in-flags.ensures))))
     ]
 
 pub returns-clause-flags : goal.returns-clause-flags

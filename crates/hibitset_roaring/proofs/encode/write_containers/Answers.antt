@@ -12,13 +12,13 @@ containers-init g c = record {
   written = λ i below. absurd (omega (arith, below));
 }
 
-pub write_container-requires-clause-room : goal.write_container-requires-clause-room
-write_container-requires-clause-room g c =
+pub write_container-requires-clause-long_enough : goal.write_container-requires-clause-long_enough
+write_container-requires-clause-long_enough g c =
     let n = from_next c.args.first c.args.counts.now c.args.runs.now c.containers.k in
     let t = c.containers-test.true in
     let m = from_mono c.args.first c.args.counts.now c.args.runs.now (c.containers.k + 1) (length c.args.keys.now) (omega (arith, t)) in
     let h = c.containers.invariant.at_is in
-    let room = c.requires.room in
+    let room = c.requires.long_enough in
     let same = c.containers.auto.out in
     omega (arith, n, m, h, room, same)
 
@@ -30,9 +30,9 @@ overflow_add-at g c =
     let m = from_most c.args.first c.args.counts.now c.args.runs.now c.containers.k in
     let h = c.containers.invariant.at_is in
     let t = c.containers-test.true in
-    let few = c.requires.few in
+    let few = c.requires.len_max in
     let first = c.requires.first in
-    let size = c.container_size-at.ensures.few in
+    let size = c.container_size-at.ensures.max in
     omega (arith, m, h, t, few, first, size)
 
 pub containers-preserved : goal.containers-preserved

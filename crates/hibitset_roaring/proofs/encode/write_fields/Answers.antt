@@ -34,7 +34,7 @@ keys-preserved c =
             let e : i ≡ k = omega (arith, below, upper) in
             let here = c.put_u16-in-keys.ensures.here in
             let t = c.keys-test.true in
-            let some = c.requires.some k t in
+            let some = c.requires.nonempty k t in
             rw e (omega (arith, here, some))
       ];
     }

@@ -20,6 +20,6 @@ returns-clause-stream g c =
     let heads = c.args.heads.now in
     let new = c.write_stream.new.out in
     let long = c.write_stream.auto.out in
-    let taken = length-take-le c.args.len c.args.out.now c.requires.room in
+    let taken = length-take-le c.args.len c.args.out.now c.requires.long_enough in
     rw (take_whole new (drop c.args.len c.args.out.now) c.args.len (omega (arith, long, taken)))
     (canonical_plain (stands_in words) new (c.write_stream.ensures.stream none_are_runs (rw (c.deref.ensures.value, c.deref-2.ensures.value, c.deref-3.ensures.value) (keys_without heads.keys.items heads.counts.items))))

@@ -5,12 +5,12 @@ use Rattle.hibitset_roaring.proofs.RunPartLemmas.{front_same}
 use Rattle.hibitset_roaring.proofs.encode.write_header.Goals as goal
 
 pub keys_after-requires : goal.keys_after-requires
-keys_after-requires c = (let few = c.requires.few in let same = c.requires.same in omega (arith, few, same))
+keys_after-requires c = (let few = c.requires.len_max in let same = c.requires.same in omega (arith, few, same))
 
-pub write_fields-requires-clause-room : goal.write_fields-requires-clause-room
-write_fields-requires-clause-room c =
+pub write_fields-requires-clause-long_enough : goal.write_fields-requires-clause-long_enough
+write_fields-requires-clause-long_enough c =
     let is = c.keys_after.ensures in
-    let room = c.requires.room in
+    let room = c.requires.long_enough in
     let out = c.write_front.auto.out in
     omega (arith, is, room, out)
 

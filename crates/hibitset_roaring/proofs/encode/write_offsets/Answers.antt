@@ -12,12 +12,12 @@ offsets-init c = record {
   offsets = λ i below. absurd (omega (arith, below));
 }
 
-pub put_u32-requires-clause-small : goal.put_u32-requires-clause-small
-put_u32-requires-clause-small c =
+pub put_u32-requires-clause-in_range : goal.put_u32-requires-clause-in_range
+put_u32-requires-clause-in_range c =
     let m = from_most c.args.first c.args.counts.now c.args.runs.now c.offsets.k in
     let h = c.offsets.invariant.start_is in
     let t = c.offsets-test.true in
-    let few = c.requires.few in
+    let few = c.requires.len_max in
     let first = c.requires.first in
     omega (arith, m, h, t, few, first)
 
@@ -26,9 +26,9 @@ overflow_add-start c =
     let m = from_most c.args.first c.args.counts.now c.args.runs.now c.offsets.k in
     let h = c.offsets.invariant.start_is in
     let t = c.offsets-test.true in
-    let few = c.requires.few in
+    let few = c.requires.len_max in
     let first = c.requires.first in
-    let size = c.container_size-start.ensures.few in
+    let size = c.container_size-start.ensures.max in
     omega (arith, m, h, t, few, first, size)
 
 pub offsets-preserved : goal.offsets-preserved

@@ -27,16 +27,16 @@ places-preserved g c =
     let h = c.places.invariant in
     let words = c.places.words in
     let base : ℕ = c.args.base in
-    let bit : ℕ = c.take_lowest-bit.result in
-    let taken = c.take_lowest-bit.ensures in
-    let small = taken.small in
+    let bit : ℕ = c.take_bit-bit.result in
+    let taken = c.take_bit-bit.ensures in
+    let small = taken.in_word in
     let value : ℕ = c.layer0.result in
     let is = c.layer0.ensures in
-    let within : base + bit < length words = (let room = c.requires.room in let long = c.places.auto.words in omega (arith, room, long, small)) in
+    let within : base + bit < length words = (let room = c.requires.long_enough in let long = c.places.auto.words in omega (arith, room, long, small)) in
     record {
       here = λ b low off. elim (cases_eq b bit) [
         | inl e ↦ rw e (get_or-set_same words (base + bit) value 0 within ∙ omega (arith, is))
-        | inr other ↦ get_or-set_other words (base + bit) (base + b) value 0 (λ e. other (omega (arith, e))) ∙ h.here b low (sym (taken.others b low other) ∙ off)
+        | inr other ↦ get_or-set_other words (base + bit) (base + b) value 0 (λ e. other (omega (arith, e))) ∙ h.here b low (sym (taken.same b low other) ∙ off)
       ];
       before = λ q low. get_or-set_other words (base + bit) q value 0 (omega (arith, low)) ∙ h.before q low;
       after = λ q high. get_or-set_other words (base + bit) q value 0 (omega (arith, high, small)) ∙ h.after q high;

@@ -20,8 +20,8 @@ pub returns-then-low-ne-NO_RUNS-clause-fault : goal.returns-then-low-ne-NO_RUNS-
 returns-then-low-ne-NO_RUNS-clause-fault c = λ end.
     let low = c.read_u16-low.ensures.number in
     let high = c.read_u16-high.ensures.number in
-    let low_fits = c.read_u16-low.ensures.small in
-    let high_fits = c.read_u16-high.ensures.small in
+    let low_fits = c.read_u16-low.ensures.in_range in
+    let high_fits = c.read_u16-high.ensures.in_range in
     let not_runs = c.if-low-eq-RUNS.false in
     let whole = u32_is c.args.bytes.now 0 in (
       refl,

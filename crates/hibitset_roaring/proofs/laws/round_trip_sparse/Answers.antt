@@ -8,4 +8,4 @@ pub returns-clause-members : goal.returns-clause-members
 returns-clause-members c =
     let set = c.args.set.now in
     let stream = c.in_ok-bytes.ensures.stream in
-    IfOk-weaker c.read_sparse.result _ _ (λ copy is i. is i ∙ (stream.plain.members i ∙ member_within (has set) (c.sparse_laws.ensures.within set) i)) (rw c.deref.ensures.value at c.read_sparse.ensures.members)
+    IfOk-weaker c.read_sparse.result _ _ (λ copy is i. is i ∙ (stream.plain.members i ∙ member_within (has set) (c.sparse_laws.ensures.in_range set) i)) (rw c.deref.ensures.value at c.read_sparse.ensures.members)

@@ -13,31 +13,31 @@ returns-then-block-eq64-clause-skips c = λ words summed q from below.
 pub returns-clause-skips : goal.returns-clause-skips
 returns-clause-skips c = λ words summed q from below.
     let block : ℕ = c.next_bit-block.result in
-    let bit : ℕ = c.take_lowest.result in
+    let bit : ℕ = c.take_bit.result in
     let some = c.if-block-eq64.false in
     let within = c.next_bit-block.ensures.within in
     let low = block_low c.args.above.now c.args.key c.args.blocks c.requires.blocks block (omega (arith, some, within)) (c.next_bit-block.ensures.found (omega (arith, some, within))) in
-    let small = c.take_lowest.ensures.small in
+    let small = c.take_bit.ensures.in_word in
     elim (cases_lt (q / 64) block) [
       | inl before ↦ under_zero words c.args.above.now c.args.key q summed (block_clear c.args.above.now c.args.key c.args.blocks c.requires.blocks (q / 64) (omega (arith, before, low)) (c.next_bit-block.ensures.skips (q / 64) (omega (arith, from)) before))
       | inr after ↦
           let e : q / 64 ≡ block = omega (arith, after, below, small) in
-          let clear = c.take_lowest.ensures.lowest (q % 64) (omega (arith, e, below)) in
-          under_clear words c.args.above.now c.args.key q summed (ap (λ b. bit_at (get_or c.args.above.now (16 * c.args.key + b) 0) (q % 64)) e ∙ (sym (ap (λ w. bit_at w (q % 64)) c.word_of.ensures) ∙ clear))
+          let clear = c.take_bit.ensures.lowest (q % 64) (omega (arith, e, below)) in
+          under_clear words c.args.above.now c.args.key q summed (ap (λ b. bit_at (get_or c.args.above.now (16 * c.args.key + b) 0) (q % 64)) e ∙ (sym (ap (λ w. bit_at w (q % 64)) c.word_or_zero.ensures) ∙ clear))
     ]
 
 pub returns-clause-rest : goal.returns-clause-rest
 returns-clause-rest c = λ _.
     let block : ℕ = c.next_bit-block.result in
-    let bit : ℕ = c.take_lowest.result in
-    let taken = c.take_lowest.ensures in
-    let small = taken.small in
+    let bit : ℕ = c.take_bit.result in
+    let taken = c.take_bit.ensures in
+    let small = taken.in_word in
     let p : (64 * block + bit) / 64 ≡ block = omega (arith, small) in
     let r : (64 * block + bit) % 64 ≡ bit = omega (arith, small) in
     record {
-      upper = λ b after within. taken.others b within (λ e. absurd (omega (arith, e, after, r))) ∙ ap (λ w. bit_at w b) (c.word_of.ensures ∙ ap (λ k. get_or c.args.above.now (16 * c.args.key + k) 0) (sym p));
+      upper = λ b after within. taken.same b within (λ e. absurd (omega (arith, e, after, r))) ∙ ap (λ w. bit_at w b) (c.word_or_zero.ensures ∙ ap (λ k. get_or c.args.above.now (16 * c.args.key + k) 0) (sym p));
       lower = λ b upto. elim (cases_lt b bit) [
-        | inl before ↦ (let z = taken.lowest b before in let o = taken.others b (omega (arith, before, small)) (λ e. absurd (omega (arith, e, before))) in o ∙ z)
-        | inr here ↦ (let e : b ≡ bit = omega (arith, here, upto, r) in rw e taken.gone)
+        | inl before ↦ (let z = taken.lowest b before in let o = taken.same b (omega (arith, before, small)) (λ e. absurd (omega (arith, e, before))) in o ∙ z)
+        | inr here ↦ (let e : b ≡ bit = omega (arith, here, upto, r) in rw e taken.bit_cleared)
       ];
     }

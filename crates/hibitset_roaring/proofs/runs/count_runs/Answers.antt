@@ -9,7 +9,7 @@ pub starts-init : goal.starts-init
 starts-init c =
     let test : ℕ → Bool = members_under (stands_in c.args.words.now) c.args.key in
     let first : ℕ = c.next_member-start.result in
-    let none : (v : ℕ) → v < first → test v ≡ false = λ v below. c.next_member-start.ensures.none v (omega arith) below in
+    let none : (v : ℕ) → v < first → test v ≡ false = λ v below. c.next_member-start.ensures.none_before v (omega arith) below in
     record {
       within = c.next_member-start.ensures.within;
       begins = λ small. first_begins test first none (c.next_member-start.ensures.found small);
@@ -28,7 +28,7 @@ starts-preserved c =
     let begun = h.begins small in
     let gap = c.next_gap-end.ensures in
     let found = c.next_member-start-in-starts.ensures in
-    let step : IsRunStep test start end next = run_step test start end next small begun gap.order found.order gap.all gap.found found.none found.found in
+    let step : IsRunStep test start end next = run_step test start end next small begun gap.order found.order gap.all gap.found found.none_before found.found in
     let more = step_counted test start end next step begun in
     let count = h.count in
     let few = h.few in
@@ -51,7 +51,7 @@ starts-smaller c =
     let begun = c.starts.invariant.begins small in
     let gap = c.next_gap-end.ensures in
     let found = c.next_member-start-in-starts.ensures in
-    let step : IsRunStep test start end next = run_step test start end next small begun gap.order found.order gap.all gap.found found.none found.found in
+    let step : IsRunStep test start end next = run_step test start end next small begun gap.order found.order gap.all gap.found found.none_before found.found in
     let some = step.some in
     let order = step.order in
     omega (arith, small, some, order)

@@ -25,22 +25,22 @@ numbers-preserved c =
       none = λ v from below. elim (cases_lt v number) [
         | inl lower ↦ h.none v from lower
         | inr upto ↦ elim (cases_lt v (64 * (number / 64) + 64)) [
-          | inl here ↦ word_gap c.args.words.now c.args.key number 64 c.word_of.result (omega arith) c.word_of.ensures (λ b low high. c.next_bit-bit.ensures.skips b low (omega (arith, high, all))) v upto here
-          | inr past ↦ slots_gap c.args.words.now c.args.key (number / 64 + 1) next v (c.next_slot-number.ensures.skips c.args.words.now c.requires.above) (omega (arith, past)) below
+          | inl here ↦ word_gap c.args.words.now c.args.key number 64 c.word_or_zero.result (omega arith) c.word_or_zero.ensures (λ b low high. c.next_bit-bit.ensures.skips b low (omega (arith, high, all))) v upto here
+          | inr past ↦ slots_gap c.args.words.now c.args.key (number / 64 + 1) next v (c.next_slot-number.ensures.skips c.args.words.now c.requires.summaries) (omega (arith, past)) below
         ]
       ];
     }
 
-pub returns-then-bit-lt64-clause-none : goal.returns-then-bit-lt64-clause-none
-returns-then-bit-lt64-clause-none c = λ v from below. elim (cases_lt v c.numbers.number) [
+pub returns-then-bit-lt64-clause-none_before : goal.returns-then-bit-lt64-clause-none_before
+returns-then-bit-lt64-clause-none_before c = λ v from below. elim (cases_lt v c.numbers.number) [
   | inl lower ↦ c.numbers.invariant.none v from lower
-  | inr upto ↦ word_gap c.args.words.now c.args.key c.numbers.number c.next_bit-bit.result c.word_of.result c.next_bit-bit.ensures.within c.word_of.ensures c.next_bit-bit.ensures.skips v upto below
+  | inr upto ↦ word_gap c.args.words.now c.args.key c.numbers.number c.next_bit-bit.result c.word_or_zero.result c.next_bit-bit.ensures.within c.word_or_zero.ensures c.next_bit-bit.ensures.skips v upto below
 ]
 
 pub returns-then-bit-lt64-clause-found : goal.returns-then-bit-lt64-clause-found
 returns-then-bit-lt64-clause-found c = λ _.
     let small = c.if-bit-lt64.true in
-    bit_on c.args.words.now c.args.key (c.numbers.number / 64) c.next_bit-bit.result (64 * (c.numbers.number / 64) + c.next_bit-bit.result) c.word_of.result refl small c.word_of.ensures (c.next_bit-bit.ensures.found small)
+    bit_on c.args.words.now c.args.key (c.numbers.number / 64) c.next_bit-bit.result (64 * (c.numbers.number / 64) + c.next_bit-bit.result) c.word_or_zero.result refl small c.word_or_zero.ensures (c.next_bit-bit.ensures.found small)
 
 pub returns-clause-found : goal.returns-clause-found
 returns-clause-found c = λ small. absurd (let t = c.numbers-test.false in omega (arith, small, t))

@@ -16,7 +16,7 @@ pub starts-init : goal.starts-init
 starts-init c =
     let test : ℕ → Bool = members_under (stands_in c.args.words.now) c.args.key in
     let first : ℕ = c.next_member-start.result in
-    let none : (v : ℕ) → v < first → test v ≡ false = λ v below. c.next_member-start.ensures.none v (omega arith) below in
+    let none : (v : ℕ) → v < first → test v ≡ false = λ v below. c.next_member-start.ensures.none_before v (omega arith) below in
     let zero_runs = first_counted test first none in
     let out = c.put_u16.new.out in
     let runs = c.requires.runs in
@@ -51,12 +51,12 @@ starts-preserved c =
     let begun = h.begins small in
     let gap = c.next_gap-end.ensures in
     let found = c.next_member-start-in-starts.ensures in
-    let step : IsRunStep test start end next = run_step test start end next small begun gap.order found.order gap.all gap.found found.none found.found in
+    let step : IsRunStep test start end next = run_step test start end next small begun gap.order found.order gap.all gap.found found.none_before found.found in
     let more = step_counted test start end next step begun in
     let count = h.count in
     let before = c.put_run.ensures.before in
     let first : run_first new at done ≡ start = first_is new at done ∙ c.put_run.ensures.first in
-    let last : run_last new at done + 1 ≡ end = (let l = last_is new at done in let a = c.put_run.ensures.first in let b = c.put_run.ensures.last in omega (arith, l, a, b)) in
+    let last : run_last new at done + 1 ≡ end = (let l = last_is new at done in let a = c.put_run.ensures.first in let b = c.put_run.ensures.ends_at in omega (arith, l, a, b)) in
     let upto = gap.within in
     let order = step.order in
     record {
@@ -98,7 +98,7 @@ starts-smaller c =
     let begun = c.starts.invariant.begins small in
     let gap = c.next_gap-end.ensures in
     let found = c.next_member-start-in-starts.ensures in
-    let step : IsRunStep test start end next = run_step test start end next small begun gap.order found.order gap.all gap.found found.none found.found in
+    let step : IsRunStep test start end next = run_step test start end next small begun gap.order found.order gap.all gap.found found.none_before found.found in
     let some = step.some in
     let order = step.order in
     omega (arith, small, some, order)

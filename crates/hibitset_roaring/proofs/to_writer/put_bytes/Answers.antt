@@ -1,7 +1,7 @@
 use Rattle.std.proofs.Common.{length, sym}
 use Rattle.std.proofs.lemmas.Bool.{eqb-true}
 use Rattle.std.proofs.lemmas.List.{nil_from_length}
-use Rattle.hibitset_roaring.proofs.HeaderLemmas.{any_err}
+use Rattle.hibitset_base.proofs.MembershipLemmas.{OnErr-always}
 use Rattle.hibitset_roaring.proofs.TransferLemmas.{moves_all, moves_front, moves_kept, moves_more, moves_none}
 use Rattle.hibitset_roaring.proofs.to_writer.put_bytes.Goals as goal
 
@@ -14,7 +14,7 @@ returns-then-is_empty-clause-ok g c =
 
 pub returns-in_err-count-clause-err : goal.returns-in_err-count-clause-err
 returns-in_err-count-clause-err g c =
-    any_err c.from_residual.result _ (moves_kept (g.W.Write.contents c.args.writer.now) (g.W.Write.contents c.rounds.writer) (g.W.Write.contents c.put_some.new.writer) c.args.bytes.now c.rounds.rest.now c.rounds.invariant c.in_err-count.ensures.written)
+    OnErr-always c.from_residual.result (moves_kept (g.W.Write.contents c.args.writer.now) (g.W.Write.contents c.rounds.writer) (g.W.Write.contents c.put_some.new.writer) c.args.bytes.now c.rounds.rest.now c.rounds.invariant c.in_err-count.ensures.written)
 
 pub rounds-preserved : goal.rounds-preserved
 rounds-preserved g c =

@@ -4,10 +4,10 @@ use Rattle.std.specs.Int.{bit_at}
 use Rattle.std.proofs.lemmas.Bool.{cases_lt, lt-ltb}
 use Rattle.std.proofs.lemmas.Bool.Decides.{nat_tests}
 use Rattle.std.proofs.lemmas.List.{get_or-set_same, get_or-set_other}
+use Rattle.std.proofs.Math.Bool.{or-true, or-false}
 use Rattle.hibitset_base.proofs.MembershipLemmas.{bit_test}
 use Rattle.hibitset.specs.WordBits.{stands_in, in_range}
-use Rattle.hibitset.proofs.RangeBitLemmas.{low_at}
-use Rattle.hibitset_roaring.proofs.TestLemmas.{or_true, or_false}
+use Rattle.hibitset_base.proofs.BitLemmas.{low_at}
 use Rattle.hibitset_roaring.proofs.words.fill.Goals as goal
 
 pub slots-init : goal.slots-init
@@ -20,7 +20,7 @@ slots-preserved c =
     let words = c.slots.words in
     let word : ℕ = 2 ^ 64 - 1 in
     let from : c.args.from ≤ slot = omega arith in
-    let within : slot < length words = (let t = c.slots-test.true in let room = c.requires.room in let same = c.slots.auto.words in omega (arith, t, room, same)) in
+    let within : slot < length words = (let t = c.slots-test.true in let room = c.requires.long_enough in let same = c.slots.auto.words in omega (arith, t, room, same)) in
     record {
       done = λ p lower upto. elim (cases_lt p slot) [
         | inl less ↦ get_or-set_other words slot p word 0 (omega (arith, less)) ∙ h.done p lower less
@@ -57,13 +57,13 @@ returns c = λ i.
     let old = c.args.words.now in
     let none : (i / 64 < from) ⊎ (to ≤ i / 64) → stands_in c.slots.words i ≡ (stands_in old i || in_range (64 * from) (64 * to) i) = λ out.
     ap (λ x. bit_at x (i % 64) == 1) (h.rest (i / 64) (elim out [ inl lower ↦ inl lower | inr upper ↦ inr (let e = c.slots.auto.slot-end in let o = c.requires.order in omega (arith, upper, e, o)) ]))
-    ∙ sym (ap (λ t. stands_in old i || t) (outside from to i out) ∙ or_false (stands_in old i)) in
+    ∙ sym (ap (λ t. stands_in old i || t) (outside from to i out) ∙ or-false (stands_in old i)) in
     elim (cases_lt (i / 64) from) [
       | inl lower ↦ none (inl lower)
       | inr after ↦ elim (cases_lt (i / 64) to) [
         | inl upto ↦
             ap (λ x. bit_at x (i % 64) == 1) (h.done (i / 64) after (omega (arith, upto, test)))
-            ∙ (full (i % 64) (omega arith) ∙ sym (ap (λ t. stands_in old i || t) (inside from to i after upto) ∙ or_true (stands_in old i)))
+            ∙ (full (i % 64) (omega arith) ∙ sym (ap (λ t. stands_in old i || t) (inside from to i after upto) ∙ or-true (stands_in old i)))
         | inr past ↦ none (inr past)
       ]
     ]

@@ -1,7 +1,7 @@
 use Rattle.std.proofs.Common.{◌≡◌, ℕ, ◌+◌, ◌*◌, ◌/◌, ◌≤◌, ◌||◌, Bool, ap, ◌∙◌, arith}
 use Rattle.std.proofs.lemmas.Bool.Decides.{nat_tests}
+use Rattle.std.proofs.Math.Bool.{or_assoc}
 use Rattle.hibitset.specs.WordBits.{stands_in, in_range}
-use Rattle.hibitset_roaring.proofs.TestLemmas.{or_assoc}
 use Rattle.hibitset_roaring.proofs.words.set_range.Goals as goal
 
 parts : (start from to end i : ℕ) → start ≤ from → from ≤ to → to ≤ end → ((in_range from to i || in_range start from i) || in_range to end i) ≡ in_range start end i

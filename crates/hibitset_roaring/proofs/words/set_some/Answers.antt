@@ -3,11 +3,11 @@ use Rattle.std.specs.Int.{bit_at}
 use Rattle.std.proofs.lemmas.Bool.{cases_lt}
 use Rattle.std.proofs.lemmas.Bool.Decides.{nat_tests}
 use Rattle.std.proofs.lemmas.List.{get_or-set_same, get_or-set_other}
+use Rattle.std.proofs.Math.Bool.{or-false}
 use Rattle.hibitset_base.specs.Sets.{bit_of}
 use Rattle.hibitset_base.proofs.MembershipLemmas.{bit_test}
 use Rattle.hibitset.specs.WordBits.{stands_in, in_range}
 use Rattle.hibitset.specs.Operators.{or_bits}
-use Rattle.hibitset_roaring.proofs.TestLemmas.{or_false}
 use Rattle.hibitset_roaring.proofs.words.set_some.Goals as goal
 
 pub slots-init : goal.slots-init
@@ -21,7 +21,7 @@ slots-preserved c =
     let mask : ℕ = c.bits_within.result in
     let word : ℕ = bit_or (get_or words slot 0) mask in
     let from : c.args.start / 64 ≤ slot = omega arith in
-    let within : slot < length words = (let t = c.slots-test.true in let room = c.requires.room in let same = c.slots.auto.words in omega (arith, t, room, same)) in
+    let within : slot < length words = (let t = c.slots-test.true in let room = c.requires.long_enough in let same = c.slots.auto.words in omega (arith, t, room, same)) in
     record {
       done = λ p b lower upto small. elim (cases_lt p slot) [
         | inl less ↦ ap (λ x. bit_at x b) (get_or-set_other words slot p word 0 (omega (arith, less))) ∙ h.done p b lower less small
@@ -51,7 +51,7 @@ returns c = λ i.
     let old = c.args.words.now in
     let none : (i / 64 < start / 64) ⊎ ((end + 63) / 64 ≤ i / 64) → stands_in c.slots.words i ≡ (stands_in old i || in_range start end i) = λ out.
     ap (λ x. bit_at x (i % 64) == 1) (h.rest (i / 64) (elim out [ inl lower ↦ inl lower | inr upper ↦ inr (let e = c.slots.auto.slot-end in let o = c.requires.order in omega (arith, upper, e, o)) ]))
-    ∙ sym (ap (λ t. stands_in old i || t) (outside start end i out) ∙ or_false (stands_in old i)) in
+    ∙ sym (ap (λ t. stands_in old i || t) (outside start end i out) ∙ or-false (stands_in old i)) in
     elim (cases_lt (i / 64) (start / 64)) [
       | inl lower ↦ none (inl lower)
       | inr from ↦ elim (cases_lt (i / 64) ((end + 63) / 64)) [

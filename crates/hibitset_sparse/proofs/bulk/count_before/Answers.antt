@@ -36,6 +36,6 @@ returns-in-None c =
 pub overflow_add-result : goal.overflow_add-result
 overflow_add-result c =
     let most = taken-few c.args.chunks.now c.rank.result c.deref.result.now c.deref.ensures.value in
-    let few = c.count_chunks-count.ensures.few in
-    let more = c.count_words_before.ensures.few in
+    let few = c.count_chunks-count.ensures.max in
+    let more = c.count_words_before.ensures.max in
     omega (arith, most, few, more)

@@ -21,7 +21,7 @@ chunks-preserved c =
     let table = c.chunk-item.result.words in
     let places = places_of_groups (bits_from 0 table.groups.word) table.groups.items.items in
     let same = c.deref.ensures.value in
-    let more = c.count_words-count.ensures.few in
+    let more = c.count_words-count.ensures.max in
     let few = c.chunks.invariant.few in
     record {
       counted = λ ps long. chunk-counted c.chunks.count c.count_words-count.result (length (in_chunks

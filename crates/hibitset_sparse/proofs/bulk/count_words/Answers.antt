@@ -33,8 +33,8 @@ returns-clause-counted c base places long =
     let all = c.words.invariant.counted base places long in
     omega (arith, none, all)
 
-pub returns-clause-few : goal.returns-clause-few
-returns-clause-few c =
+pub returns-clause-max : goal.returns-clause-max
+returns-clause-max c =
     let most = c.requires in
     let upto = c.words.auto.word-index-end in
     let few = c.words.invariant.few in

@@ -23,8 +23,8 @@ returns-in-Some-clause-rank c =
     ap (λ k. c.count_words-count.result + k) c.rank-in-Some.ensures
     ∙ before-word words c.args.end c.count_words-count.result c.in-Some.word.now c.in-Some.ensures counted
 
-pub returns-in-Some-clause-few : goal.returns-in-Some-clause-few
-returns-in-Some-clause-few c =
+pub returns-in-Some-clause-max : goal.returns-in-Some-clause-max
+returns-in-Some-clause-max c =
     let is = returns-in-Some-clause-rank c in
     let few = members-length (has_in_words c.args.words.now) 0 c.args.end in
     omega (arith, is, few)
@@ -41,15 +41,15 @@ returns-in-None-clause-rank c =
     let counted = c.count_words-count.ensures.counted 0 (members (is_taken words) 0 place) long ∙ (is ∙ words-before words place low) in
     before-none words c.args.end c.count_words-count.result c.in-None.ensures counted
 
-pub returns-in-None-clause-few : goal.returns-in-None-clause-few
-returns-in-None-clause-few c =
+pub returns-in-None-clause-max : goal.returns-in-None-clause-max
+returns-in-None-clause-max c =
     let is = returns-in-None-clause-rank c in
     let few = members-length (has_in_words c.args.words.now) 0 c.args.end in
     omega (arith, is, few)
 
 pub overflow_add-result : goal.overflow_add-result
 overflow_add-result c =
-    let few = c.count_words-count.ensures.few in
+    let few = c.count_words-count.ensures.max in
     let is = c.rank-in-Some.ensures in
     let more = rank-few c.in-Some.word.now (c.args.end % 64) in
     omega (arith, few, is, more)

@@ -4,8 +4,8 @@ use Rattle.hibitset_base.proofs.OneCountLemmas.{bits-count}
 use Rattle.hibitset_sparse.specs.Walk.{members_left}
 use Rattle.hibitset_sparse.proofs.bulk.list_members.Goals as goal
 
-pub push_bits-requires-clause-room : goal.push_bits-requires-clause-room
-push_bits-requires-clause-room c =
+pub push_bits-requires-clause-capacity : goal.push_bits-requires-clause-capacity
+push_bits-requires-clause-capacity c =
     let first = c.in-Some.first in
     let word = c.in-Some.word in
     let ones = bits-count first word c.in-Some.ensures.word in

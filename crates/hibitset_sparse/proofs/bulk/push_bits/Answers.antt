@@ -19,10 +19,10 @@ pub bits-preserved : goal.bits-preserved
 bits-preserved c =
     let first = c.args.first in
     let rest = c.bits.rest in
-    let next = c.take_first_bit.new.word in
-    let x = first + c.take_first_bit.result in
+    let next = c.take_bit.new.word in
+    let x = first + c.take_bit.result in
     let items = c.bits.list.items in
-    let bits : bits_from first rest ≡ x ∷ bits_from first next = c.take_first_bit.ensures.first first in
+    let bits : bits_from first rest ≡ x ∷ bits_from first next = c.take_bit.ensures.first first in
     let pushed = c.push_reserved.ensures.items in
     let ones = bits-count first rest (omega arith) in
     let fewer = bits-count first next (omega arith) in
@@ -51,10 +51,10 @@ full-rank (suc k) few =
     let here : rank_in (2 ^ 64 - 1) (k + 1) ≡ k + 1 = omega (arith, more, lower, bit) in
     rw one at here
 
-pub push_all-requires-clause-room : goal.push_all-requires-clause-room
-push_all-requires-clause-room c =
+pub push_all-requires-clause-capacity : goal.push_all-requires-clause-capacity
+push_all-requires-clause-capacity c =
     let all = rank-all (2 ^ 64 - 1) (omega arith) in
     let full = full-rank 64 (omega arith) in
     let ones = ap count_ones c.if-word-eq18446744073709551615.true in
-    let room = c.requires.room in
+    let room = c.requires.capacity in
     omega (arith, all, full, ones, room)

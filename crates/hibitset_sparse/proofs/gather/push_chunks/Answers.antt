@@ -8,7 +8,7 @@ places-init g c =
     let touched = c.args.touched.now in
     let word = g.T.BitSetLike.word touched in
     record {
-      done = done-first _ _ _ _ _ c.requires.none
+      done = done-first _ _ _ _ _ c.requires.absent
           (λ k small in_group off. none-in_chunk (g.T.BitSetLike.holds touched) word (g.met.T.BitSetLike.lawful touched) k small
           (ap (λ q. bit_at (word 3 q) (k % 64)) in_group ∙ (ap (λ w. bit_at w (k % 64)) (sym c.layer3-places.ensures) ∙ off)));
       others = λ k small other. refl;
@@ -19,6 +19,6 @@ places-preserved g c =
     let bit = c.take_bit.ensures in
     let put = c.in_ok-insert.ensures.put in
     record {
-      done = place-done _ _ c.args.q _ _ _ _ _ _ bit.gone bit.same bit.below put c.in_ok-chunk.ensures c.places.invariant.done;
-      others = λ k small other. put-beside c.args.q _ _ _ _ bit.below put k small other ∙ c.places.invariant.others k small other;
+      done = place-done _ _ c.args.q _ _ _ _ _ _ bit.bit_cleared bit.same bit.in_word put c.in_ok-chunk.ensures c.places.invariant.done;
+      others = λ k small other. put-beside c.args.q _ _ _ _ bit.in_word put k small other ∙ c.places.invariant.others k small other;
     }

@@ -25,8 +25,8 @@ returns-then-word-eq0-clause-others g c =
     (none-made c.args.q c.in_ok-word.word (value_in c.args.groups.now) c.args.items.now.items c.push_words.new.items.items _ c.requires.group c.requires.made
     c.push_words.ensures.before c.in_ok-word.ensures.pushed c.if-word-eq0.true).others
 
-pub push-requires-clause-last : goal.push-requires-clause-last
-push-requires-clause-last g c = λ b from small. none-bit c.args.groups.now b (c.requires.made.none b from small)
+pub push-requires-clause-none_above : goal.push-requires-clause-none_above
+push-requires-clause-none_above g c = λ b from small. none-bit c.args.groups.now b (c.requires.made.none b from small)
 
 pub returns-clause-made : goal.returns-clause-made
 returns-clause-made g c = on_ok c.push.result c.push.ensures.put (λ put.

@@ -6,12 +6,12 @@ use Rattle.hibitset_sparse.proofs.gather.push_words.Goals as goal
 
 pub places-preserved-then-word-ne0 : goal.places-preserved-then-word-ne0
 places-preserved-then-word-ne0 g c =
-    let bit = c.take_lowest-bit.ensures in
-    let takes : TakesLowest c.places.places c.take_lowest-bit.new.word c.take_lowest-bit.result = record {
-      below = bit.below;
-      stood = bit.stood;
+    let bit = c.take_bit-bit.ensures in
+    let takes : TakesLowest c.places.places c.take_bit-bit.new.word c.take_bit-bit.result = record {
+      below = bit.in_word;
+      stood = bit.bit_was_set;
       lowest = bit.lowest;
-      gone = bit.gone;
+      gone = bit.bit_cleared;
       same = bit.same;
     } in
     let xs = c.places.items.items in
@@ -25,24 +25,24 @@ places-preserved-then-word-ne0 g c =
       before = λ k low. ap (λ zs. slice_get zs k) put ∙ (get-insert_below xs (length xs) c.layer0-word.result k (omega (arith, low, from)) (omega arith)
           ∙ c.places.invariant.before k low);
       fits = omega arith;
-      pushed = word-pushed (length c.args.items.now.items) c.places.places c.take_lowest-bit.new.word c.take_lowest-bit.result c.places.bits xs _ takes c.places.invariant.pushed
+      pushed = word-pushed (length c.args.items.now.items) c.places.places c.take_bit-bit.new.word c.take_bit-bit.result c.places.bits xs _ takes c.places.invariant.pushed
           c.with_bit-bits.result c.layer0-word.result ys c.places.invariant.fits
           (omega arith) c.with_bit-bits.ensures.here c.with_bit-bits.ensures.same c.layer0-word.ensures some (omega arith) long pushed.items;
     }
 
 pub places-preserved : goal.places-preserved
 places-preserved g c =
-    let bit = c.take_lowest-bit.ensures in
-    let takes : TakesLowest c.places.places c.take_lowest-bit.new.word c.take_lowest-bit.result = record {
-      below = bit.below;
-      stood = bit.stood;
+    let bit = c.take_bit-bit.ensures in
+    let takes : TakesLowest c.places.places c.take_bit-bit.new.word c.take_bit-bit.result = record {
+      below = bit.in_word;
+      stood = bit.bit_was_set;
       lowest = bit.lowest;
-      gone = bit.gone;
+      gone = bit.bit_cleared;
       same = bit.same;
     } in
     record {
       before = c.places.invariant.before;
       fits = c.places.invariant.fits;
-      pushed = word-passed (length c.args.items.now.items) c.places.places c.take_lowest-bit.new.word c.take_lowest-bit.result c.places.bits c.places.items.items _ takes c.places.invariant.pushed
+      pushed = word-passed (length c.args.items.now.items) c.places.places c.take_bit-bit.new.word c.take_bit-bit.result c.places.bits c.places.items.items _ takes c.places.invariant.pushed
           (sym c.layer0-word.ensures ∙ c.if-word-ne0.false);
     }

@@ -16,8 +16,8 @@ overflow_add-result c =
     let wide = c.len-2.ensures in
     omega (arith, words, groups, long, wide)
 
-pub returns-clause-few : goal.returns-clause-few
-returns-clause-few c =
+pub returns-clause-max : goal.returns-clause-max
+returns-clause-max c =
     let words = few-words c.args.chunk.now in
     let groups = few-groups c.args.chunk.now.words.groups in
     let long = c.len.ensures in

@@ -37,7 +37,7 @@ overflow_add-result c =
     let long = c.len.ensures in
     let wide = c.len-2.ensures in
     let same = ap length c.deref.ensures.value in
-    let few = c.all_chunk_bytes.ensures.few in
+    let few = c.all_chunk_bytes.ensures.max in
     omega (arith, most, groups, long, wide, same, few)
 
 pub returns : goal.returns

@@ -28,8 +28,8 @@ returns-then-word-eq0-clause-pushed g c = λ p low here b few.
     ∙ (ap (λ x. g.M.Merge.test x (bit_is_set (view_word other 0 (p % 64)) b)) (view-bits own (p % 64) b (omega arith) few)
     ∙ ap (g.M.Merge.test (view_has own (64 * (p % 64) + b))) (view-bits other (p % 64) b (omega arith) few)))
 
-pub push-requires-clause-last : goal.push-requires-clause-last
-push-requires-clause-last g c = λ b from small. none-bit c.args.groups.now b (c.requires.made.none b from small)
+pub push-requires-clause-none_above : goal.push-requires-clause-none_above
+push-requires-clause-none_above g c = λ b from small. none-bit c.args.groups.now b (c.requires.made.none b from small)
 
 pub returns-clause-made : goal.returns-clause-made
 returns-clause-made g c = on_ok c.push.result c.push.ensures.put (λ put.

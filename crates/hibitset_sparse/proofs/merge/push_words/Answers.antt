@@ -23,39 +23,39 @@ places-init g c =
           rw (view-clear own b clear.0, view-clear other b clear.1) g.met.M.Merge.nothing);
     }
 
-pub take_word-first-requires-clause-place : goal.take_word-first-requires-clause-place
-take_word-first-requires-clause-place g c =
-    let bit = c.take_lowest-bit.ensures in
-    let takes : TakesLowest c.places.left c.take_lowest-bit.new.word c.take_lowest-bit.result = record {
-      below = bit.below;
-      stood = bit.stood;
+pub take_word-first-requires-clause-position : goal.take_word-first-requires-clause-position
+take_word-first-requires-clause-position g c =
+    let bit = c.take_bit-bit.ensures in
+    let takes : TakesLowest c.places.left c.take_bit-bit.new.word c.take_bit-bit.result = record {
+      below = bit.in_word;
+      stood = bit.bit_was_set;
       lowest = bit.lowest;
-      gone = bit.gone;
+      gone = bit.bit_cleared;
       same = bit.same;
     } in
-    behind-here c.args.own.now.word c.places.left c.take_lowest-bit.new.word c.take_lowest-bit.result c.args.own.now.start c.places.own_at takes c.places.invariant.own
+    behind-here c.args.own.now.word c.places.left c.take_bit-bit.new.word c.take_bit-bit.result c.args.own.now.start c.places.own_at takes c.places.invariant.own
 
-pub take_word-second-requires-clause-place : goal.take_word-second-requires-clause-place
-take_word-second-requires-clause-place g c =
-    let bit = c.take_lowest-bit.ensures in
-    let takes : TakesLowest c.places.left c.take_lowest-bit.new.word c.take_lowest-bit.result = record {
-      below = bit.below;
-      stood = bit.stood;
+pub take_word-second-requires-clause-position : goal.take_word-second-requires-clause-position
+take_word-second-requires-clause-position g c =
+    let bit = c.take_bit-bit.ensures in
+    let takes : TakesLowest c.places.left c.take_bit-bit.new.word c.take_bit-bit.result = record {
+      below = bit.in_word;
+      stood = bit.bit_was_set;
       lowest = bit.lowest;
-      gone = bit.gone;
+      gone = bit.bit_cleared;
       same = bit.same;
     } in
-    behind-here c.args.other.now.word c.places.left c.take_lowest-bit.new.word c.take_lowest-bit.result c.args.other.now.start c.places.other_at takes
+    behind-here c.args.other.now.word c.places.left c.take_bit-bit.new.word c.take_bit-bit.result c.args.other.now.start c.places.other_at takes
     c.places.invariant.other
 
 pub places-preserved-then-word-ne0 : goal.places-preserved-then-word-ne0
 places-preserved-then-word-ne0 g c =
-    let bit = c.take_lowest-bit.ensures in
-    let takes : TakesLowest c.places.left c.take_lowest-bit.new.word c.take_lowest-bit.result = record {
-      below = bit.below;
-      stood = bit.stood;
+    let bit = c.take_bit-bit.ensures in
+    let takes : TakesLowest c.places.left c.take_bit-bit.new.word c.take_bit-bit.result = record {
+      below = bit.in_word;
+      stood = bit.bit_was_set;
       lowest = bit.lowest;
-      gone = bit.gone;
+      gone = bit.bit_cleared;
       same = bit.same;
     } in
     let xs = c.places.items.items in
@@ -69,11 +69,11 @@ places-preserved-then-word-ne0 g c =
       before = λ k low. ap (λ zs. slice_get zs k) put ∙ (get-insert_below xs (length xs) c.merged_word-word.result k (omega (arith, low, from)) (omega arith)
           ∙ c.places.invariant.before k low);
       fits = omega arith;
-      own = behind-taken c.args.own.now.word c.places.left c.take_lowest-bit.new.word c.take_lowest-bit.result c.args.own.now.start c.places.own_at takes
-          c.places.invariant.own c.take_word-first.new.at c.take_word-first.ensures.place;
-      other = behind-taken c.args.other.now.word c.places.left c.take_lowest-bit.new.word c.take_lowest-bit.result c.args.other.now.start c.places.other_at takes
-          c.places.invariant.other c.take_word-second.new.at c.take_word-second.ensures.place;
-      pushed = word-pushed (length c.args.items.now.items) c.places.left c.take_lowest-bit.new.word c.take_lowest-bit.result c.places.bits xs _ takes c.places.invariant.pushed
+      own = behind-taken c.args.own.now.word c.places.left c.take_bit-bit.new.word c.take_bit-bit.result c.args.own.now.start c.places.own_at takes
+          c.places.invariant.own c.take_word-first.new.at c.take_word-first.ensures.next_position;
+      other = behind-taken c.args.other.now.word c.places.left c.take_bit-bit.new.word c.take_bit-bit.result c.args.other.now.start c.places.other_at takes
+          c.places.invariant.other c.take_word-second.new.at c.take_word-second.ensures.next_position;
+      pushed = word-pushed (length c.args.items.now.items) c.places.left c.take_bit-bit.new.word c.take_bit-bit.result c.places.bits xs _ takes c.places.invariant.pushed
           c.with_bit-bits.result c.merged_word-word.result ys c.places.invariant.fits
           (omega arith) c.with_bit-bits.ensures.here c.with_bit-bits.ensures.same
           (rw (c.take_word-first.ensures.word, c.take_word-second.ensures.word) at c.merged_word-word.ensures) some (omega arith) long pushed.items;
@@ -81,21 +81,21 @@ places-preserved-then-word-ne0 g c =
 
 pub places-preserved : goal.places-preserved
 places-preserved g c =
-    let bit = c.take_lowest-bit.ensures in
-    let takes : TakesLowest c.places.left c.take_lowest-bit.new.word c.take_lowest-bit.result = record {
-      below = bit.below;
-      stood = bit.stood;
+    let bit = c.take_bit-bit.ensures in
+    let takes : TakesLowest c.places.left c.take_bit-bit.new.word c.take_bit-bit.result = record {
+      below = bit.in_word;
+      stood = bit.bit_was_set;
       lowest = bit.lowest;
-      gone = bit.gone;
+      gone = bit.bit_cleared;
       same = bit.same;
     } in
     record {
       before = c.places.invariant.before;
       fits = c.places.invariant.fits;
-      own = behind-taken c.args.own.now.word c.places.left c.take_lowest-bit.new.word c.take_lowest-bit.result c.args.own.now.start c.places.own_at takes
-          c.places.invariant.own c.take_word-first.new.at c.take_word-first.ensures.place;
-      other = behind-taken c.args.other.now.word c.places.left c.take_lowest-bit.new.word c.take_lowest-bit.result c.args.other.now.start c.places.other_at takes
-          c.places.invariant.other c.take_word-second.new.at c.take_word-second.ensures.place;
-      pushed = word-passed (length c.args.items.now.items) c.places.left c.take_lowest-bit.new.word c.take_lowest-bit.result c.places.bits c.places.items.items _ takes c.places.invariant.pushed
+      own = behind-taken c.args.own.now.word c.places.left c.take_bit-bit.new.word c.take_bit-bit.result c.args.own.now.start c.places.own_at takes
+          c.places.invariant.own c.take_word-first.new.at c.take_word-first.ensures.next_position;
+      other = behind-taken c.args.other.now.word c.places.left c.take_bit-bit.new.word c.take_bit-bit.result c.args.other.now.start c.places.other_at takes
+          c.places.invariant.other c.take_word-second.new.at c.take_word-second.ensures.next_position;
+      pushed = word-passed (length c.args.items.now.items) c.places.left c.take_bit-bit.new.word c.take_bit-bit.result c.places.bits c.places.items.items _ takes c.places.invariant.pushed
           (sym (rw (c.take_word-first.ensures.word, c.take_word-second.ensures.word) at c.merged_word-word.ensures) ∙ c.if-word-ne0.false);
     }

@@ -3,13 +3,13 @@ use Rattle.hibitset_sparse.proofs.JoinLemmas.{joined-more, joined-none, room-for
 use Rattle.hibitset_sparse.proofs.replace.join_tables.Goals as goal
 
 pub groups-init : goal.groups-init
-groups-init c = joined-none c.args.first c.args.second c.args.empty c.requires.none c.requires.room
+groups-init c = joined-none c.args.first c.args.second c.args.empty c.requires.empty c.requires.capacity
 
-pub join_group-requires-clause-none : goal.join_group-requires-clause-none
-join_group-requires-clause-none c = λ k small here. c.groups.invariant.free k small (omega (arith, here))
+pub join_group-requires-clause-absent : goal.join_group-requires-clause-absent
+join_group-requires-clause-absent c = λ k small here. c.groups.invariant.free k small (omega (arith, here))
 
-pub join_group-requires-clause-room : goal.join_group-requires-clause-room
-join_group-requires-clause-room c = room-for c.groups.q c.args.first c.args.second c.groups.left c.groups.right c.groups.table c.groups-test.true c.groups.invariant
+pub join_group-requires-clause-capacity : goal.join_group-requires-clause-capacity
+join_group-requires-clause-capacity c = room-for c.groups.q c.args.first c.args.second c.groups.left c.groups.right c.groups.table c.groups-test.true c.groups.invariant
 
 pub groups-preserved : goal.groups-preserved
 groups-preserved c =

@@ -15,7 +15,7 @@ use Rattle.hibitset_sparse.proofs.WordLemmas.{can-move-down, word-on}
 use Rattle.hibitset_sparse.proofs.table.narrow.Goals as goal
 
 pub move_down-requires : goal.move_down-requires
-move_down-requires c = λ k g from is. let rank = c.rank-k.ensures in can-move-down c.args.groups.now c.args.q c.requires.room k g (omega (arith, from, rank)) is
+move_down-requires c = λ k g from is. let rank = c.rank-k.ensures in can-move-down c.args.groups.now c.args.q c.requires.can_lower k g (omega (arith, from, rank)) is
 
 -- by the test of one place
 at-q : (q : ℕ) (x y : Option Group) (v : Option Group) → v ≡ (if q == q then x else y) → v ≡ x

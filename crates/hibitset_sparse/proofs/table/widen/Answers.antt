@@ -30,7 +30,7 @@ put-room q bit start old new is room fits p g low some = elim (same_or_not p q) 
 pub move_up-requires : goal.move_up-requires
 move_up-requires c =
     let groups = c.set_place.new.groups in
-    can-move groups (put-room c.args.q c.args.bit c.args.start (value_in c.args.groups.now) (value_in groups) c.in_ok-set_place.ensures.put c.requires.room c.requires.fits)
+    can-move groups (put-room c.args.q c.args.bit c.args.start (value_in c.args.groups.now) (value_in groups) c.in_ok-set_place.ensures.put c.requires.have_room c.requires.fits)
 
 pub overflow_add-next : goal.overflow_add-next
 overflow_add-next c =

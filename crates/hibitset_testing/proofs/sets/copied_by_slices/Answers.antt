@@ -47,5 +47,5 @@ pub from_layers-requires-clause-summed : goal.from_layers-requires-clause-summed
 from_layers-requires-clause-summed c =
     let set = c.args.set.now in
     record {
-      summed = bits_over _ (c.slice_laws.ensures.summed set) _ _ _ _ _ c.layer0_as_slice.ensures.words c.layer1_as_slice.ensures.words c.layer2_as_slice.ensures.words c.layer3_as_slice.ensures.words c.layer4.ensures (let h = c.layer3_as_slice.ensures.short in omega (arith, h));
+      summed = bits_over _ (c.slice_laws.ensures.summed set) _ _ _ _ _ c.layer0_as_slice.ensures.words c.layer1_as_slice.ensures.words c.layer2_as_slice.ensures.words c.layer3_as_slice.ensures.words c.layer4.ensures (let h = c.layer3_as_slice.ensures.len_max in omega (arith, h));
     }

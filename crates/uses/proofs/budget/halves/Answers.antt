@@ -4,8 +4,8 @@ use Rattle.uses.specs.Budget.{words_in_both}
 use Rattle.uses.proofs.BudgetLemmas.{within_budget, parts_read}
 use Rattle.uses.proofs.budget.halves.Goals as goal
 
-pub returns-clause-few : goal.returns-clause-few
-returns-clause-few c =
+pub returns-clause-reads_max : goal.returns-clause-reads_max
+returns-clause-reads_max c =
     let x = c.args.both.now.0.now in
     let y = c.args.both.now.1.now in
     let within = c.laws.ensures.intersection x y in
@@ -14,8 +14,8 @@ returns-clause-few c =
     let parts = parts_read _ 3 c.split.result.0 c.split.result.1 c.split.ensures.read.0 c.split.ensures.read.1 in
     omega (arith, few, parts, c.iter.ensures.read)
 
-pub returns-clause-by_now : goal.returns-clause-by_now
-returns-clause-by_now c =
+pub returns-clause-read : goal.returns-clause-read
+returns-clause-read c =
     let split = c.split.ensures.read.0 in
     let count = split.count in
     let few = split.few in

@@ -4,8 +4,8 @@ use Rattle.uses.specs.Budget.{words_in_both}
 use Rattle.uses.proofs.BudgetLemmas.{within_budget, within_both}
 use Rattle.uses.proofs.budget.in_both.Goals as goal
 
-pub returns-clause-few : goal.returns-clause-few
-returns-clause-few c =
+pub returns-clause-reads_max : goal.returns-clause-reads_max
+returns-clause-reads_max c =
     let x = c.bitand.result.0.now in
     let y = c.bitand.result.1.now in
     let starts = c.into_iter.ensures.into_iter_gives in
@@ -14,8 +14,8 @@ returns-clause-few c =
     let here = rw (c.bitand.ensures.0, c.bitand.ensures.1) at few in
     omega (arith, here, starts.read)
 
-pub returns-clause-within : goal.returns-clause-within
-returns-clause-within c =
+pub returns-clause-begins_before : goal.returns-clause-begins_before
+returns-clause-begins_before c =
     let x = c.bitand.result.0.now in
     let y = c.bitand.result.1.now in
     let starts = c.into_iter.ensures.into_iter_gives in

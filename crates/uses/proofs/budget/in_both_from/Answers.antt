@@ -16,8 +16,8 @@ returns-clause-ahead c =
     let same : all_words c.bitand-2.result.0 c.bitand-2.result.1 ≡ all_words c.bitand.result.0 c.bitand.result.1 = ap₂ all_words (c.bitand-2.ensures.0 ∙ sym c.bitand.ensures.0) (c.bitand-2.ensures.1 ∙ sym c.bitand.ensures.1) in
     later_ahead c.args.start (words_read c.iter_from.result) _ _ (words_ahead words_in_both c.iter_from.result) (words_ahead words_in_both c.iter.result) _ c.iter_from.ensures.ahead same c.iter.ensures.ahead (le-ltb c.args.start 0 (omega arith))
 
-pub returns-clause-few : goal.returns-clause-few
-returns-clause-few c =
+pub returns-clause-reads_max : goal.returns-clause-reads_max
+returns-clause-reads_max c =
     let x = c.bitand.result.0.now in
     let y = c.bitand.result.1.now in
     let within = c.laws.ensures.intersection x y in

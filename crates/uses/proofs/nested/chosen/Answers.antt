@@ -3,8 +3,8 @@ use Rattle.hibitset.specs.Prelude.{members_below, not_word, words_ahead, LAYERS,
 use Rattle.uses.specs.Nested.{words_chosen, budget_of_three}
 use Rattle.uses.proofs.nested.chosen.Goals as goal
 
-pub returns-clause-few : goal.returns-clause-few
-returns-clause-few c =
+pub returns-clause-reads_max : goal.returns-clause-reads_max
+returns-clause-reads_max c =
     let set = c.bitand-2.result in
     let x = set.0.0.0.now in
     let y = set.0.0.1.now in
@@ -15,7 +15,7 @@ returns-clause-few c =
     let left = c.cover_laws.ensures.left in
     let first = left LAYERS (has x) (word_of x) _ (word_of z) (left LAYERS (has x) (word_of x) _ (not_word (word_of set.0.1.0.now)) both.0) in
     let second = left LAYERS (has y) (word_of y) _ (word_of z) (left LAYERS (has y) (word_of y) _ (not_word (word_of set.0.1.0.now)) both.1) in
-    let own = c.cover_laws.ensures.own LAYERS (has z) (word_of z) _ (c.laws.ensures.beside z (word_of z)) in
+    let own = c.cover_laws.ensures.own LAYERS (has z) (word_of z) _ (c.laws.ensures.intersection_covered z (word_of z)) in
     let third = c.cover_laws.ensures.right LAYERS (has z) (word_of z) (word_of z) _ own in
     let few_x : length words ≤ 4 * length (members_below MAX_EID (has x)) = (starts.bound (has x) (word_of x) first).few in
     let few_y : length words ≤ 4 * length (members_below MAX_EID (has y)) = (starts.bound (has y) (word_of y) second).few in

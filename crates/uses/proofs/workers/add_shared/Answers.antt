@@ -18,7 +18,7 @@ returns-in-Ok-settle-clause-members g c =
     let weights = same_weights c.args.set jobs works each in
     let whole : weight_of c.together-seat.result.seat ≡ SHARES = (let a = joined.weight in let b = c.in-Ok.ensures.weight in let d = c.requires.seat.2 in omega (arith, a, b, d, weights)) in
     λ i. (
-      (λ on. elim (settled.whole whole i on) [
+      (λ on. elim (settled.complete whole i on) [
         | inl old ↦ inl old
         | inr reported ↦ inr (let t = reported_listed c.args.set jobs works i each (subst (λ r. Contains r i) joined.reports reported) in (subst (λ is. Contains is i) lists t.0, t.1))
       ]),
@@ -38,10 +38,10 @@ returns-in-Ok-settle-clause-new g c =
     let whole : weight_of c.together-seat.result.seat ≡ SHARES = (let a = joined.weight in let b = c.in-Ok.ensures.weight in let d = c.requires.seat.2 in omega (arith, a, b, d, weights)) in (
       reports_of c.together-seat.result.seat,
       sym joined.new,
-      (settled.once refl).0,
+      (settled.distinct refl).0,
       λ i. (
-        (λ fresh. (settled.reported i fresh, (settled.once refl).1 i fresh)),
-        (λ h. elim (settled.whole whole i h.0) [ inl old ↦ absurd (h.1 old) | inr reported ↦ reported ]),
+        (λ fresh. (settled.reported i fresh, (settled.distinct refl).1 i fresh)),
+        (λ h. elim (settled.complete whole i h.0) [ inl old ↦ absurd (h.1 old) | inr reported ↦ reported ]),
       ),
     )
 
@@ -56,7 +56,7 @@ returns-in-Err-settle-clause-left g c =
     let weights = same_weights c.args.set jobs works each in
     let whole : weight_of c.together-seat.result.seat ≡ SHARES = (let a = joined.weight in let b = c.in-Ok.ensures.weight in let d = c.requires.seat.2 in omega (arith, a, b, d, weights)) in
     rw (back.0, back.1) (
-      (joined.came, λ i. ((λ old. old), (λ old. old))),
+      (joined.belongs, λ i. ((λ old. old), (λ old. old))),
       whole,
       λ i listed. joined.known i (listed_known c.args.set jobs works i each listed.1 (subst (λ is. Contains is i) (sym lists) listed.0)),
     )

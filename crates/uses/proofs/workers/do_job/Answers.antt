@@ -6,8 +6,8 @@ returns c =
     let done = c.add_list-new.ensures in
     let list = c.as_slice.ensures.value in
     record {
-      sound = (done.came.0, done.new, λ i there. (done.reported i there).0);
-      weight = done.came.1;
+      sound = (done.belongs, done.new, λ i there. (done.reported i there).0);
+      weight = done.weight;
       known = λ i there range. done.known i (subst (λ (items : List ℕ). Contains items i) (sym list) there) range;
       reported = λ i there. subst (λ (items : List ℕ). Contains items i) list (done.reported i there).1;
     }

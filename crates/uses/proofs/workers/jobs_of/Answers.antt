@@ -18,7 +18,7 @@ lists-init c =
     record {
       number = (let many = given.number in let same = ap length lists in let all = c.len-2.ensures in let items = c.args.lists.ok.0 in omega (arith, many, same, all, items));
       room = (let none = ap length jobs in let same = ap length lists in let all = c.len.ensures in let items = c.args.lists.ok.0 in let room = c.in-Ok.ensures.capacity in omega (arith, none, same, all, items, room));
-      seats = λ k d below. (given.came k d below, no_reports reports_of _ (c.len-2.result + 1 - 1) _ given.reports c.requires.seat.1 k d below);
+      seats = λ k d below. (given.belongs k d below, no_reports reports_of _ (c.len-2.result + 1 - 1) _ given.reports c.requires.seat.1 k d below);
       jobs = λ k d below. absurd (let none = ap length jobs in omega (arith, none, below));
       lists = rw (jobs, lists) refl;
       weight = rw jobs (let all = given.shares in omega (arith, all));

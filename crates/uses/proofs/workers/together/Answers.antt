@@ -31,7 +31,7 @@ overflow_add-new c =
     let work = c.in-Some.work in
     let joined : IsWork c.args.set.now work = All-head (IsWork c.args.set.now) work (into_iter_items c.next.new.self) (All-same (IsWork c.args.set.now) _ _ (sym c.in-Some.ensures.steps.0) inv.left) in
     let range = range_of_both (reports_of c.works.seat) (reports_of work.seat) (reports_of c.join-seat.result) c.join-seat.ensures.reports inv.range joined.2 in
-    let few = few_below ATOMIC_MAX_EID (reports_of c.join-seat.result) c.join-seat.ensures.once range in
+    let few = few_below ATOMIC_MAX_EID (reports_of c.join-seat.result) c.join-seat.ensures.distinct range in
     let same = number_of_both (reports_of c.works.seat) (reports_of work.seat) (reports_of c.join-seat.result) c.works.new work.new c.join-seat.ensures.reports inv.new joined.1 in
     omega (arith, few, same)
 
@@ -46,7 +46,7 @@ works-preserved c =
     let more = sum_by-cons seat_weight work left in
     let both = c.join-seat.ensures.weight.0 in
     record {
-      came = c.join-seat.ensures.came;
+      came = c.join-seat.ensures.belongs;
       left = All-rest (IsWork c.args.set.now) work left (into_iter_items c.works.work-iterator) step inv.left;
       weight = omega (arith, weights, more, both);
       known = λ i h. elim (inv.known i h) [

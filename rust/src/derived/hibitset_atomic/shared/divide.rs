@@ -67,13 +67,13 @@ impl SharedBitSet {
     /// # Contract
     ///
     /// ```text
-    /// requires came { BelongsTo self.now seat }
-    /// requires some { 0 < n }
-    /// requires few { n ≤ weight_of seat }
+    /// requires belongs { BelongsTo self.now seat }
+    /// requires nonzero { 0 < n }
+    /// requires enough_shares { n ≤ weight_of seat }
     /// ensures value_returned { IfErr result (λ s. s ≡ seat) }
     /// ensures number { IfOk result (λ seats. length seats.items ≡ n) }
-    /// ensures came { IfOk result (λ seats. All (BelongsTo self.now) seats.items) }
-    /// ensures even { IfOk result (λ seats. All (IsEvenShare (weight_of seat) n) seats.items) }
+    /// ensures belongs { IfOk result (λ seats. All (BelongsTo self.now) seats.items) }
+    /// ensures even_shares { IfOk result (λ seats. All (IsEvenShare (weight_of seat) n) seats.items) }
     /// ensures shares { IfOk result (λ seats. sum_by weight_of seats.items ≡ weight_of seat) }
     /// ensures reports { IfOk result (λ seats. map reports_of seats.items
     ///     ≡ reports_of seat ∷ replicate (n - 1) []) }

@@ -85,7 +85,7 @@ impl SharedBitSet {
     /// ```text
     /// requires { BelongsTo self.now seat.old }
     /// ensures same_reference { lender result ≡ seat.entry.ghost_name }
-    /// ensures over { (set_of result ≡ self.now) × (seat_of result ≡ seat.old) }
+    /// ensures set_and_seat { (set_of result ≡ self.now) × (seat_of result ≡ seat.old) }
     /// ensures ready { IsReady result }
     /// ensures due { (i : ℕ) → IsOld self.now i ⊎ IsKnown seat.old i → IsDue result i }
     /// ensures loads { loads_of result ≡ 0 }

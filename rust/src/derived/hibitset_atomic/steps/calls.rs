@@ -53,7 +53,7 @@ impl Calls {
     /// ensures put { OnOk result ((c : ℕ)
     ///     → call_in self.new c ≡ cond (number == c) (Some call) (call_in self.old c)) }
     /// ensures err { OnErr result ((c : ℕ) → call_in self.new c ≡ call_in self.old c) }
-    /// ensures there { IsSome (call_in self.old number) → IsOk result }
+    /// ensures succeeds_made { IsSome (call_in self.old number) → IsOk result }
     /// ```
     pub(crate) fn put(&mut self, number: u32, call: Call) -> Result<(), AllocError> {
         match self.map.insert(number, call) {

@@ -67,7 +67,7 @@ impl Progress {
     ///     ≡ (read_first (layer_bit (layer_word layers.now)) self.old.items.items 0
     ///     (left_of self.old)).left) }
     /// ensures word { IfOk result (λ r. FirstWord (layer_word layers.now) (left_of self.old) r.0) }
-    /// ensures ended { IfOk result (λ r. IsTrue r.1 ↔ (left_of self.new ≡ [])) }
+    /// ensures end { IfOk result (λ r. IsTrue r.1 ↔ (left_of self.new ≡ [])) }
     /// ensures err { OnErr result ((self.new.items.items ≡ self.old.items.items)
     ///     × (left_of self.new ≡ left_of self.old)) }
     /// ```

@@ -4,7 +4,7 @@
 
 use crate::support::rattle_std::prelude::*;
 
-use crate::derived::hibitset_base::bulk::{take_bit, take_child, take_lowest_word, take_next_block};
+use crate::derived::hibitset_base::bulk::{take_child, take_index, take_lowest_word, take_next_block};
 use crate::derived::hibitset_base::iter::BitIter;
 use crate::derived::hibitset_base::like::BitSetLike;
 use crate::derived::hibitset_base::util::Index;
@@ -28,7 +28,7 @@ fn fold_word<R, F: Fn(R, Index) -> R>(start: Index, word: usize, init: R, step: 
     let mut so_far = init;
     let mut rest = word;
     'bits: while rest != 0 {
-        so_far = step(so_far, take_bit(start, &mut rest));
+        so_far = step(so_far, take_index(start, &mut rest));
     }
     so_far
 }

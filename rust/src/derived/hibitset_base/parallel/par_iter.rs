@@ -61,7 +61,7 @@ impl<T> BitParIter<T> {
     /// # Contract
     ///
     /// ```text
-    /// requires some { 0 < layers }
+    /// requires nonzero { 0 < layers }
     /// requires fits { layers < LAYERS }
     /// ensures set { par_set result ≡ par_set self }
     /// ensures members { (holds : T → ℕ → Bool)

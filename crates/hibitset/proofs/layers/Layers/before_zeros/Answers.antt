@@ -2,7 +2,7 @@ use Rattle.std.proofs.Common.{rules, ℕ, ◌-◌, ◌^◌, ◌<◌, get_or, len
 use Rattle.std.proofs.lemmas.Bool.{cases_lt}
 use Rattle.std.proofs.lemmas.List.{get_or_past}
 use Rattle.hibitset_base.specs.declared.util.TheConstants.{LAYERS}
-use Rattle.hibitset.proofs.LayoutLemmas.{over_first, start_first, start_next, start_more}
+use Rattle.hibitset.proofs.LayerStartLemmas.{over_first, start_first, start_next, start_more}
 use Rattle.hibitset.proofs.LayerLemmas.{keeps, count_is, length_first, words_first}
 use Rattle.hibitset.proofs.layers.Layers.before_zeros.Goals as goal
 
@@ -27,7 +27,7 @@ fits c at =
 
 pub invariant_of-result : goal.invariant_of-result
 invariant_of-result c = record {
-  kept = keeps c.lengthen_to.new.words.items c.starts_over-end.result.0 c.lens_over.result 0 c.len-len.result c.len-len.result (record {
+  kept = keeps (record { words = c.lengthen_to.new.words.items; room = c.len-len.result; len = c.len-len.result; top = 0 }) c.starts_over-end.result.0 c.lens_over.result (record {
     whole = c.in_ok-lengthen_to.ensures.length ∙ c.starts_over-end.ensures.end;
     within = omega arith;
     short = omega (arith, c.requires);

@@ -7,9 +7,9 @@ use Rattle.hibitset.proofs.layers.Layers.clear.Goals as goal
 pub invariant_of-self : goal.invariant_of-self
 invariant_of-self c = record { kept = keeps_none c.clear.new.self.items c.clear.ensures.items }
 
-pub returns-clause-none : goal.returns-clause-none
+pub returns-clause-zero : goal.returns-clause-zero
 unfolding lists
-returns-clause-none c = none_words LAYERS c.clear.new.self.items 0 (empty_laid LAYERS c.clear.new.self.items c.clear.ensures.items)
+returns-clause-zero c = none_words LAYERS c.clear.new.self.items 0 (empty_laid LAYERS c.clear.new.self.items c.clear.ensures.items)
 
 pub returns-clause-lengths : goal.returns-clause-lengths
 unfolding lists

@@ -18,7 +18,7 @@ pub loop-layer-init : goal.loop-layer-init
 loop-layer-init c = record {
   layer = omega arith;
   within = omega (arith, c.requires.within);
-  room = λ below. c.requires.room;
+  room = λ below. c.requires.long_enough;
   begun = λ e. (refl, refl);
   untouched = λ e p. refl;
   blanked = λ some. absurd (omega (arith, some));

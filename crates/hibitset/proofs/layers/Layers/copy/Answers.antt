@@ -5,8 +5,9 @@ use Rattle.hibitset_base.specs.declared.util.TheConstants.{LAYERS}
 use Rattle.hibitset.specs.Layout.{layer_len, layer_start, count_of, AreStarts}
 use Rattle.hibitset.specs.Layers.{lists, word_in, len_in}
 use Rattle.hibitset.specs.declared.layers.Layers.{Layers}
-use Rattle.hibitset.proofs.LayoutLemmas.{start_first, start_next, in_room, appended, length_here, over_first}
-use Rattle.hibitset.proofs.LayerLemmas.{laid, opened, keeps, room_is, length_of, length_first, shaped, copied_laid, copied_same}
+use Rattle.hibitset.proofs.LayerStartLemmas.{start_first, start_next, in_room, over_first}
+use Rattle.hibitset.proofs.LayoutLemmas.{with_list, appended, length_here}
+use Rattle.hibitset.proofs.LayerLemmas.{layout_of, laid, opened, keeps, room_is, length_of, length_first, shaped, copied_laid, copied_same}
 use Rattle.hibitset.proofs.layers.Layers.copy.Goals as goal
 
 pub starts_over-end-requires : goal.starts_over-end-requires
@@ -65,7 +66,7 @@ invariant_of-result c =
     let all : c.loop-layer.layer ≡ LAYERS - 1 = omega (arith, h.upto, c.loop-layer-test.false) in
     let begins : AreStarts LAYERS c.starts_over-end.result.0 (len_in x 0) = rw c.len.ensures at c.starts_over-end.ensures.starts in
     record {
-      kept = keeps c.loop-layer.words.items c.starts_over-end.result.0 x.lens x.top (count_of x.lens) (count_of x.lens)
+      kept = keeps (with_list (layout_of x) c.loop-layer.words.items (count_of x.lens)) c.starts_over-end.result.0 x.lens
           (copied_laid x c.loop-layer.words.items (rw all at h.long) (all_words x c.starts_over-end.result.0 c.loop-layer.words.items c.loop-layer.layer all begins h.long h.words h.fits) h.fits)
           (begins_here x c.starts_over-end.result.0 c.loop-layer.words.items c.loop-layer.layer all begins h.long h.words h.fits) (opened x.kept).lengths;
     }
@@ -88,5 +89,5 @@ returns-clause-length c =
     let all : c.loop-layer.layer ≡ LAYERS - 1 = omega (arith, h.upto, c.loop-layer-test.false) in
     let begins : AreStarts LAYERS c.starts_over-end.result.0 (len_in x 0) = rw c.len.ensures at c.starts_over-end.ensures.starts in
     rw (room_is c.starts_over-end.result.0 (count_of x.lens) (begins_here x c.starts_over-end.result.0 c.loop-layer.words.items c.loop-layer.layer all begins h.long h.words h.fits))
-    (length_here c.loop-layer.words.items (count_of x.lens) (count_of x.lens) x.top LAYERS 0 (copied_laid x c.loop-layer.words.items (rw all at h.long) (all_words x c.starts_over-end.result.0 c.loop-layer.words.items c.loop-layer.layer all begins h.long h.words h.fits) h.fits) (lit< tt)
+    (length_here LAYERS (with_list (layout_of x) c.loop-layer.words.items (count_of x.lens)) (copied_laid x c.loop-layer.words.items (rw all at h.long) (all_words x c.starts_over-end.result.0 c.loop-layer.words.items c.loop-layer.layer all begins h.long h.words h.fits) h.fits) 0 (lit< tt)
     ∙ over_first (count_of x.lens)) ∙ sym (length_first x)

@@ -1,7 +1,7 @@
 use Rattle.std.proofs.Common.{ℕ, sym, ◌∙◌, ap}
 use Rattle.hibitset.specs.Layout.{layer_start}
 use Rattle.hibitset.specs.Layers.{room_in}
-use Rattle.hibitset.proofs.LayoutLemmas.{start_first}
+use Rattle.hibitset.proofs.LayerStartLemmas.{start_first}
 use Rattle.hibitset.proofs.LayerLemmas.{start_is}
 use Rattle.hibitset.proofs.layers.Layers.layer_start.Goals as goal
 

@@ -1,12 +1,11 @@
-use Rattle.std.proofs.Common.{◌≡◌, ◌≢◌, ℕ, ◌+◌, ◌-◌, ◌*◌, ◌^◌, ◌<◌, ◌≤◌, List, [], get_or, length, sym, ◌∙◌, ap, arith, lit<}
-use Rattle.hibitset_base.specs.Words.{word_at}
+use Rattle.std.proofs.Common.{◌≡◌, ◌≢◌, ℕ, ◌+◌, ◌*◌, ◌^◌, ◌<◌, ◌≤◌, List, get_or, length, sym, ◌∙◌, ap, arith, lit<}
 use Rattle.hibitset_base.specs.declared.util.TheConstants.{LAYERS}
-use Rattle.hibitset.specs.Layout.{all_layers, count_of, IsLayout, LayoutInvariant}
+use Rattle.hibitset.specs.Layout.{count_of, LayoutInvariant}
 use Rattle.hibitset.specs.Layers.{lists, word_in, len_in, room_in}
 use Rattle.hibitset.specs.Merge.{prefix_word, MergedAt, Summarizes}
 use Rattle.hibitset.specs.declared.layers.Layers.{Layers}
-use Rattle.hibitset.proofs.LayoutLemmas.{lowest_laid, lowest_words, lowest_above, lowest_lengths}
-use Rattle.hibitset.proofs.LayerLemmas.{laid, opened, keeps, length_first, slice_within, counted_first}
+use Rattle.hibitset.proofs.LayoutLemmas.{IsLaid, list_of, layer_word, with_list, lowest_laid, lowest_words, lowest_above, lowest_lengths}
+use Rattle.hibitset.proofs.LayerLemmas.{layout_of, laid, opened, keeps, length_first, slice_within, counted_first}
 use Rattle.hibitset.proofs.layers.Layers.merge.Goals as goal
 
 summary_same : (words words' : ℕ → ℕ) (q summary : ℕ) → ((p : ℕ) → words' p ≡ words p) → Summarizes words q summary → Summarizes words' q summary
@@ -25,27 +24,27 @@ module _ (x : Layers) (len : ℕ) (new : List ℕ) (len-is : len ≡ len_in x 0)
   others_here : (p : ℕ) → count_of x.lens ≤ p → get_or new p 0 ≡ get_or x.words.items p 0
   others_here p past = others p (let e = length_first x in omega (arith, e, len-is, past))
 
-  new_laid : IsLayout LAYERS new (room_in x) (count_of x.lens) x.top
-  new_laid = lowest_laid LAYERS x.words.items new (room_in x) (count_of x.lens) x.top (laid x) long others_here (bounded (laid x).fits)
+  new_laid : IsLaid LAYERS (with_list (layout_of x) new (room_in x))
+  new_laid = lowest_laid LAYERS (layout_of x) new (laid x) long others_here (bounded (laid x).fits)
 
   new_kept : ∥ LayoutInvariant LAYERS new x.starts x.lens x.top ∥₁
-  new_kept = keeps new x.starts x.lens x.top (room_in x) (count_of x.lens) new_laid (opened x.kept).begins (opened x.kept).lengths
+  new_kept = keeps (with_list (layout_of x) new (room_in x)) x.starts x.lens new_laid (opened x.kept).begins (opened x.kept).lengths
 
-  new_first : (p : ℕ) → word_at (all_layers new (room_in x) (count_of x.lens) x.top 0 (LAYERS - 1)) 0 p ≡ prefix_word len new p
+  new_first : (p : ℕ) → layer_word LAYERS (with_list (layout_of x) new (room_in x)) 0 p ≡ prefix_word len new p
   new_first p =
       let is : len ≡ count_of x.lens = len-is ∙ length_first x in
-      rw is (lowest_words LAYERS x.words.items new (room_in x) (count_of x.lens) x.top (laid x) long others_here (bounded (laid x).fits) (lit< tt) p)
+      rw is (lowest_words LAYERS (layout_of x) new (laid x) long others_here (bounded (laid x).fits) (lit< tt) p)
 
-  new_above : (l p : ℕ) → l ≢ 0 → word_at (all_layers new (room_in x) (count_of x.lens) x.top 0 (LAYERS - 1)) l p ≡ word_in x l p
+  new_above : (l p : ℕ) → l ≢ 0 → layer_word LAYERS (with_list (layout_of x) new (room_in x)) l p ≡ word_in x l p
   unfolding lists
-  new_above = lowest_above LAYERS x.words.items new (room_in x) (count_of x.lens) x.top (laid x) long others_here (bounded (laid x).fits)
+  new_above = lowest_above LAYERS (layout_of x) new (laid x) long others_here (bounded (laid x).fits)
 
-  new_lengths : (l : ℕ) → length (get_or (all_layers new (room_in x) (count_of x.lens) x.top 0 (LAYERS - 1)) l []) ≡ len_in x l
+  new_lengths : (l : ℕ) → length (list_of LAYERS (with_list (layout_of x) new (room_in x)) l) ≡ len_in x l
   unfolding lists
-  new_lengths = lowest_lengths LAYERS x.words.items new (room_in x) (count_of x.lens) x.top (laid x) long others_here (bounded (laid x).fits)
+  new_lengths = lowest_lengths LAYERS (layout_of x) new (laid x) long others_here (bounded (laid x).fits)
 
-pub merge_words-requires-clause-room : goal.merge_words-requires-clause-room
-merge_words-requires-clause-room g c = let h = slice_within c.args.self.now 0 (lit< tt) in omega (arith, h, c.len-len.ensures)
+pub merge_words-requires-clause-long_enough : goal.merge_words-requires-clause-long_enough
+merge_words-requires-clause-long_enough g c = let h = slice_within c.args.self.now 0 (lit< tt) in omega (arith, h, c.len-len.ensures)
 
 pub merge_words-requires-clause-exact : goal.merge_words-requires-clause-exact
 merge_words-requires-clause-exact g c = summary_same _ _ _ _ (λ p. counted_first c.args.self.now c.len-len.result p c.len-len.ensures) c.requires.exact

@@ -7,9 +7,9 @@ use Rattle.hibitset.proofs.layers.Layers.new.Goals as goal
 pub invariant_of-result : goal.invariant_of-result
 invariant_of-result c = record { kept = keeps_none c.new.result.items c.new.ensures.items }
 
-pub returns-clause-none : goal.returns-clause-none
+pub returns-clause-zero : goal.returns-clause-zero
 unfolding lists
-returns-clause-none c = none_words LAYERS c.new.result.items 0 (empty_laid LAYERS c.new.result.items c.new.ensures.items)
+returns-clause-zero c = none_words LAYERS c.new.result.items 0 (empty_laid LAYERS c.new.result.items c.new.ensures.items)
 
 pub returns-clause-lengths : goal.returns-clause-lengths
 unfolding lists

@@ -6,7 +6,7 @@ use Rattle.hibitset_base.specs.declared.util.TheConstants.{LAYERS}
 use Rattle.hibitset.specs.Layout.{count_of}
 use Rattle.hibitset.specs.Layers.{word_in, len_in, piled, IsFitted}
 use Rattle.hibitset.specs.declared.layers.Layers.{Layers}
-use Rattle.hibitset.proofs.LayoutLemmas.{over_next}
+use Rattle.hibitset.proofs.LayerStartLemmas.{over_next}
 use Rattle.hibitset.proofs.LayerLemmas.{length_of, one_at_top}
 use Rattle.hibitset.proofs.layers.Layers.of_layers.Goals as goal
 

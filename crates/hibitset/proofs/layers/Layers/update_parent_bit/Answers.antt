@@ -8,10 +8,10 @@ use Rattle.hibitset.proofs.ParentBitLemmas.{linked, cleared}
 use Rattle.hibitset.proofs.layers.Layers.update_parent_bit.Goals as goal
 
 pub bounds-slice-place : goal.bounds-slice-place
-bounds-slice-place c = rw c.slice.ensures.length (has_above c.args.self.now c.args.layer c.args.place (omega (arith, c.requires.layer)) c.requires.place)
+bounds-slice-place c = rw c.slice.ensures.length (has_above c.args.self.now c.args.layer c.args.place (omega (arith, c.requires.layer)) c.requires.in_range)
 
-pub store_word-requires-clause-place : goal.store_word-requires-clause-place
-store_word-requires-clause-place c = has_above c.args.self.now c.args.layer c.args.place (omega (arith, c.requires.layer)) c.requires.place
+pub store_word-requires-clause-in_range : goal.store_word-requires-clause-in_range
+store_word-requires-clause-in_range c = has_above c.args.self.now c.args.layer c.args.place (omega (arith, c.requires.layer)) c.requires.in_range
 
 pub became_zero_or_nonzero-requires-clause-cleared : goal.became_zero_or_nonzero-requires-clause-cleared
 became_zero_or_nonzero-requires-clause-cleared c off some =
@@ -34,7 +34,7 @@ returns-clause-done c = λ stays.
     let put = c.store_word.ensures in
     let read : get_or c.slice.result.now (place / 64) 0 ≡ word_in c.args.self.now (layer + 1) (place / 64) = c.slice.ensures.words (place / 64) in
     but_last LAYERS (layer + 1) (place / 64) (word_in c.args.self.now) (word_in c.store_word.new.self) (set_right c) (λ below. but_tells LAYERS layer place (word_in c.args.self.now) c.requires.summed below)
-    (λ p. put.layers (layer + 1 + 1) p (λ e. absurd (omega (arith, e)))) (rw (put.here, ← read) (c.became_zero_or_nonzero.ensures.stays stays))
+    (λ p. put.layers (layer + 1 + 1) p (λ e. absurd (omega (arith, e)))) (rw (put.here, ← read) (c.became_zero_or_nonzero.ensures.same_summary stays))
 
 pub returns-clause-above : goal.returns-clause-above
 returns-clause-above c = λ up. set_right c

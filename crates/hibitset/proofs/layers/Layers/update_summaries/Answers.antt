@@ -1,8 +1,8 @@
-use Rattle.std.proofs.Common.{◌≡◌, ℕ, ◌+◌, ◌-◌, ◌/◌, ◌%◌, ◌<◌, sym, ◌∙◌, arith, lit<}
+use Rattle.std.proofs.Common.{◌≡◌, ℕ, ◌+◌, ◌-◌, ◌/◌, ◌%◌, ◌<◌, ◌∙◌, arith, lit<}
 use Rattle.hibitset_base.specs.declared.util.TheConstants.{LAYERS}
 use Rattle.hibitset.specs.Layers.{word_in, len_in}
 use Rattle.hibitset.specs.declared.layers.Layers.{Layers}
-use Rattle.hibitset.proofs.LayerLemmas.{has_above, shaped, top_word}
+use Rattle.hibitset.proofs.LayerLemmas.{has_above, shaped}
 use Rattle.hibitset.proofs.SummaryUpdateLemmas.{but_top}
 use Rattle.hibitset.proofs.ParentBitLemmas.{linked}
 use Rattle.hibitset.proofs.layers.Layers.update_summaries.Goals as goal
@@ -44,4 +44,4 @@ returns-clause-summed c =
     let first : place / 64 ≡ 0 = omega (arith, small) in
     let same : place % 64 ≡ place = omega (arith, small) in
     but_top LAYERS (layer + 1) (place / 64) (word_in c.store_top.new.self) (omega arith)
-    (linked self c.store_top.new.self layer place self.top c.with_bit.result c.args.stands h.summed h.stands (rw (up, first) (sym (top_word self))) (rw (up, first) put.here) (rw (up, first) put.others) (rw up put.layers) (rw same bit.same) (rw same bit.here))
+    (linked self c.store_top.new.self layer place c.top.result c.with_bit.result c.args.stands h.summed h.stands (rw (up, first) c.top.ensures) (rw (up, first) put.here) (rw (up, first) put.others) (rw up put.layers) (rw same bit.same) (rw same bit.here))

@@ -8,9 +8,9 @@ pub returns-in_err-grow_to-clause-err : goal.returns-in_err-grow_to-clause-err
 unfolding has word_of
 returns-in_err-grow_to-clause-err c = OnErr-always c.from_residual.result (λ i. holds_same (word_of c.args.self.now) (word_of c.grow_to.new.self) i c.grow_to.ensures.same)
 
-pub returns-clause-was : goal.returns-clause-was
+pub returns-clause-was_member : goal.returns-clause-was_member
 unfolding has
-returns-clause-was c = c.set_bit.ensures.was ∙ holds_same (word_of c.args.self.now) (word_of c.grow_to.new.self) c.args.id c.grow_to.ensures.same
+returns-clause-was_member c = c.set_bit.ensures.was_member ∙ holds_same (word_of c.args.self.now) (word_of c.grow_to.new.self) c.args.id c.grow_to.ensures.same
 
 pub returns-clause-added : goal.returns-clause-added
 unfolding has

@@ -5,8 +5,8 @@ use Rattle.hibitset.specs.Layers.{word_in}
 use Rattle.hibitset.proofs.set.BitSet.clear.Goals as goal
 
 pub invariant_of-self : goal.invariant_of-self
-invariant_of-self c = record { summed = summed_none LAYERS (word_in c.clear.new.self) c.clear.ensures.none }
+invariant_of-self c = record { summed = summed_none LAYERS (word_in c.clear.new.self) c.clear.ensures.zero }
 
 pub returns-clause-empty : goal.returns-clause-empty
 unfolding has word_of
-returns-clause-empty c = holds_none (word_in c.clear.new.self) c.clear.ensures.none
+returns-clause-empty c = holds_none (word_in c.clear.new.self) c.clear.ensures.zero

@@ -12,8 +12,8 @@ returns-clause-flipped c =
 pub returns-clause-succeeds : goal.returns-clause-succeeds
 returns-clause-succeeds c = λ room. c.bitxor_assign.ensures.succeeds (no_words c.args.start c.args.end (slice_len c.args.self.now 0) (inl room))
 
-pub returns-clause-none : goal.returns-clause-none
-returns-clause-none c = λ empty. c.bitxor_assign.ensures.succeeds (no_words c.args.start c.args.end (slice_len c.args.self.now 0) (inr empty))
+pub returns-clause-succeeds_empty : goal.returns-clause-succeeds_empty
+returns-clause-succeeds_empty c = λ empty. c.bitxor_assign.ensures.succeeds (no_words c.args.start c.args.end (slice_len c.args.self.now 0) (inr empty))
 
 pub returns-clause-len_max : goal.returns-clause-len_max
 returns-clause-len_max c =

@@ -7,7 +7,7 @@ use Rattle.hibitset.specs.Layout.{SummariesExactExceptAt}
 use Rattle.hibitset.specs.Merge.{Summarizes, MergedUnder, MergedAt}
 use Rattle.hibitset.specs.declared.layers.Layers.{Layers}
 use Rattle.hibitset.specs.declared.set.BitSet.{BitSet}
-use Rattle.hibitset.proofs.LayerLemmas.{shaped, has_above}
+use Rattle.hibitset.proofs.LayerLemmas.{shaped}
 use Rattle.hibitset.proofs.MergeLemmas.{block_merged}
 use Rattle.hibitset.proofs.SummaryUpdateLemmas.{but_block}
 use Rattle.hibitset.proofs.set.BitSet.merge_block.Goals as goal
@@ -37,7 +37,7 @@ merged_same merged theirs old new now size q same under = record {
 
 pub returns-then-slice-place-clause-words : goal.returns-then-slice-place-clause-words
 returns-then-slice-place-clause-words g c =
-    no_room c.args.self.now c.args.place (g.O.Operator.merged) (g.B.BitSetLike.word c.args.other.now 0) c.requires.range (let e = c.slice.ensures.length in let t = c.if-slice-place.true in omega (arith, e, t)) c.requires.fits
+    no_room c.args.self.now c.args.place (g.O.Operator.merged) (g.B.BitSetLike.word c.args.other.now 0) c.requires.in_range (let e = c.slice.ensures.length in let t = c.if-slice-place.true in omega (arith, e, t)) c.requires.fits
 
 -- The words below word q have been merged in two turns, and their summary was put over them.
 module _ (s : BitSet) (kept merged new : Layers) (q word : ℕ) (base : (p : ℕ) → p / 64 ≢ q → word_in merged 0 p ≡ word_of s 0 p)
@@ -58,40 +58,20 @@ module _ (s : BitSet) (kept merged new : Layers) (q word : ℕ) (base : (p : ℕ
 merged_base : (merged : ℕ → ℕ → ℕ) (none theirs old mid new : ℕ → ℕ) (q bits bits' : ℕ) → MergedAt merged none old mid 1 q bits → MergedAt merged theirs mid new 1 q bits' → (p : ℕ) → p / 64 ≢ q → new p ≡ old p
 merged_base merged none theirs old mid new q bits bits' first second p other = let same : p / 1 ≡ p = omega arith in second.outside p (rw same other) ∙ first.outside p (rw same other)
 
-pub update_parent_bit-requires-clause-summed : goal.update_parent_bit-requires-clause-summed
+pub update_above-requires-clause-summed : goal.update_above-requires-clause-summed
 unfolding word_of
-update_parent_bit-requires-clause-summed g c =
+update_above-requires-clause-summed g c =
     let kept = c.merge-kept.ensures in
     let merged = c.merge-word.ensures in
     let put = c.store_word.ensures in
     block_but c.args.self.now c.merge-kept.new.self c.merge-word.new.self c.store_word.new.self c.args.place c.merge-word.result (merged_base _ _ _ _ _ _ c.args.place _ _ kept.words merged.words) kept.above merged.above merged.exact put.here put.others put.layers
 
-pub update_summaries-requires-clause-place : goal.update_summaries-requires-clause-place
-update_summaries-requires-clause-place g c =
-    let first = c.slice.ensures.length in
-    let kept = c.merge-kept.ensures.lengths 1 in
-    let merged = c.merge-word.ensures.lengths 1 in
-    let put = c.store_word.ensures.lengths 1 in
-    let within = c.if-slice-place.false in
-    rw (c.update_parent_bit.ensures.lengths 2) (has_above c.store_word.new.self 1 c.args.place (lit< tt) (omega (arith, first, kept, merged, put, within)))
-
-pub returns-then-update_parent_bit-clause-words : goal.returns-then-update_parent_bit-clause-words
+pub returns-clause-words : goal.returns-clause-words
 unfolding word_of
-returns-then-update_parent_bit-clause-words g c =
+returns-clause-words g c =
     let visit = c.visit-visited.ensures in
     let ours : ℕ = get_or c.slice-2.result.now c.args.place 0 in
-    merged_same _ _ _ (word_in c.merge-word.new.self 0) _ 64 c.args.place (λ p. c.update_summaries.ensures.lower 0 p (omega arith) ∙ (c.update_parent_bit.ensures.lower 0 p (omega arith) ∙ c.store_word.ensures.layers 0 p (λ e. absurd (omega (arith, e)))))
-    (block_merged _ _ _ _ _ c.args.place ours c.args.theirs c.visit-visited.result (omega arith)
-    (λ b x y off here there. g.met.O.Operator.keeps ours c.args.theirs b x y (rw visit at off) here there)
-    (summary_of c.args.self.now c.args.place ours (c.slice-2.ensures.words c.args.place)) c.requires.theirs
-    c.merge-kept.ensures.words c.merge-word.ensures.words)
-
-pub returns-else-update_parent_bit-clause-words : goal.returns-else-update_parent_bit-clause-words
-unfolding word_of
-returns-else-update_parent_bit-clause-words g c =
-    let visit = c.visit-visited.ensures in
-    let ours : ℕ = get_or c.slice-2.result.now c.args.place 0 in
-    merged_same _ _ _ (word_in c.merge-word.new.self 0) _ 64 c.args.place (λ p. c.update_parent_bit.ensures.lower 0 p (omega arith) ∙ c.store_word.ensures.layers 0 p (λ e. absurd (omega (arith, e))))
+    merged_same _ _ _ (word_in c.merge-word.new.self 0) _ 64 c.args.place (λ p. c.update_above.ensures.lower 0 p (omega arith) ∙ c.store_word.ensures.layers 0 p (λ e. absurd (omega (arith, e))))
     (block_merged _ _ _ _ _ c.args.place ours c.args.theirs c.visit-visited.result (omega arith)
     (λ b x y off here there. g.met.O.Operator.keeps ours c.args.theirs b x y (rw visit at off) here there)
     (summary_of c.args.self.now c.args.place ours (c.slice-2.ensures.words c.args.place)) c.requires.theirs

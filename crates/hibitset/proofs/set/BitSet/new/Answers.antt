@@ -5,8 +5,8 @@ use Rattle.hibitset.specs.Layers.{word_in}
 use Rattle.hibitset.proofs.set.BitSet.new.Goals as goal
 
 pub invariant_of-result : goal.invariant_of-result
-invariant_of-result c = record { summed = summed_none LAYERS (word_in c.new.result) c.new.ensures.none }
+invariant_of-result c = record { summed = summed_none LAYERS (word_in c.new.result) c.new.ensures.zero }
 
 pub returns-clause-empty : goal.returns-clause-empty
 unfolding has word_of
-returns-clause-empty c = holds_none (word_in c.new.result) c.new.ensures.none
+returns-clause-empty c = holds_none (word_in c.new.result) c.new.ensures.zero

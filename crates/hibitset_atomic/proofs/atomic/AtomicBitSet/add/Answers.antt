@@ -8,9 +8,9 @@ pub returns-in_err-make-clause-err : goal.returns-in_err-make-clause-err
 unfolding has word_of
 returns-in_err-make-clause-err c = OnErr-always c.from_residual.result (λ i. holds_same (layer_word c.args.self.now.layers) (layer_word c.make.new.self) i c.make.ensures.same)
 
-pub returns-clause-was : goal.returns-clause-was
+pub returns-clause-was_member : goal.returns-clause-was_member
 unfolding has word_of
-returns-clause-was c = c.set_bit.ensures.was ∙ holds_same (layer_word c.args.self.now.layers) (layer_word c.make.new.self) c.args.id c.make.ensures.same
+returns-clause-was_member c = c.set_bit.ensures.was_member ∙ holds_same (layer_word c.args.self.now.layers) (layer_word c.make.new.self) c.args.id c.make.ensures.same
 
 pub returns-clause-added : goal.returns-clause-added
 unfolding has word_of

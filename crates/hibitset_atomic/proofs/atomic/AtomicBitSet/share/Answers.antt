@@ -1,7 +1,7 @@
 use Rattle.std.proofs.Common.{◌≡◌, ℕ, ◌<◌, ap, arith, sym, ◌∙◌, slice_index}
 use Rattle.hibitset_atomic.specs.AtomicBitSet.{word_of, has}
 use Rattle.hibitset_atomic.specs.Seats.{BelongsTo, IsKnown, IsOld, weight_of, reports_of}
-use Rattle.hibitset_atomic.proofs.InvariantLemmas.{opens_}
+use Rattle.hibitset_atomic.proofs.InvariantLemmas.{opens}
 use Rattle.hibitset_atomic.proofs.LayerLemmas.{layers_fit, held_below}
 use Rattle.hibitset_atomic.proofs.RowLemmas.{row_rooted, row_summed, lit_held, held_lit, in_layer0}
 use Rattle.hibitset_atomic.proofs.atomic.AtomicBitSet.share.Goals as goal
@@ -13,7 +13,7 @@ of_words-requires c =
     let set = c.args.self in
     let row = c.in-Ok.row.items in
     let e = c.in-Ok.ensures in
-    opens_ _ _ row (ap (λ v. v.items) c.of-about.ensures) c.as_slice.ensures.value e.long
+    opens _ _ row (ap (λ v. v.items) c.of-about.ensures) c.as_slice.ensures.value e.long
     (row_rooted (word_of set) row set.summed (layers_fit set.layers) e.long e.words) (row_summed (word_of set) row set.summed (layers_fit set.layers) e.long e.words)
 
 pub returns-clause-old : goal.returns-clause-old

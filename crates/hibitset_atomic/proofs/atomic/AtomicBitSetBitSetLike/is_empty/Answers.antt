@@ -1,5 +1,6 @@
-use Rattle.std.proofs.Common.{arith, ◌≡◌, ℕ, ◌==◌, ◌-◌, true, sym, ◌∙◌}
-use Rattle.std.proofs.lemmas.Bool.Decides.{nat_tests}
+use Rattle.std.proofs.Common.{◌-◌, sym, ◌∙◌}
+use Rattle.std.proofs.lemmas.Bool.{eqb-true}
+use Rattle.hibitset_base.specs.Decisions.{eq_same}
 use Rattle.hibitset_base.specs.declared.util.TheConstants.{LAYERS}
 use Rattle.hibitset_base.proofs.ReadBoundLemmas.{top_tells_empty}
 use Rattle.hibitset_atomic.specs.declared.layers.TheConstants.{ATOMIC_LAYERS}
@@ -9,12 +10,6 @@ use Rattle.hibitset_atomic.specs.TopLayerLemmas.{topped_exact, topped_fits}
 use Rattle.hibitset_atomic.proofs.LayerLemmas.{layers_fit}
 use Rattle.hibitset_atomic.proofs.atomic.AtomicBitSetBitSetLike.is_empty.Goals as goal
 
-zero_test : (x : ℕ) → (x == 0) ≡ true → x ≡ 0
-zero_test x h = grind (arith, nat_tests)
-
-test_zero : (x : ℕ) → x ≡ 0 → (x == 0) ≡ true
-test_zero x h = grind (arith, nat_tests)
-
 pub returns : goal.returns
 unfolding word_of
 returns c =
@@ -23,4 +18,4 @@ returns c =
     let fits = topped_fits (ATOMIC_LAYERS - 1) (word_of self) (layers_fit self.layers) in
     let top = top_tells_empty (LAYERS - 1) (has self) (topped_word self) (topped_is_lawful self) exact fits in
     let is = c.layer4.ensures in
-    (λ h. top.0 (sym is ∙ zero_test c.layer4.result h), λ h. test_zero c.layer4.result (is ∙ top.1 h))
+    (λ h. top.0 (sym is ∙ eqb-true c.layer4.result 0 h), λ h. eq_same c.layer4.result 0 (is ∙ top.1 h))

@@ -14,16 +14,16 @@ loop-left-preserved c =
     let at : ℕ = 64 * c.args.place + c.take_bit.result in
     let e = c.clear_block.ensures in
     let v : ℕ → ℕ → ℕ = word_over (block_word c.clear_block.new.self) (set self.layer1.items at 0 ∷ self.layer2.items ∷ (self.layer3 ∷ []) ∷ []) in
-    let here : v 1 at ≡ 0 = get_or-set_same self.layer1.items at 0 0 (let w = self.whole1 in let p = c.requires.place in let b = bit.below in omega (arith, w, p, b)) in
+    let here : v 1 at ≡ 0 = get_or-set_same self.layer1.items at 0 0 (let w = self.whole1 in let p = c.requires.in_range in let b = bit.in_word in omega (arith, w, p, b)) in
     let others : (k : ℕ) → k ≢ at → v 1 k ≡ layer_word self 1 k = λ k other. get_or-set_other self.layer1.items at k 0 0 other in
     record {
       here = i.invariant.here;
-      layer1 = layer1_more (layer_word self) v c.args.place c.take_bit.result i.left c.take_bit.new.word bit.below bit.same (λ k. refl) here others e.inside e.outside i.invariant.layer1;
-      layer0 = layer0_more (layer_word self) v c.args.place c.take_bit.result i.left c.take_bit.new.word bit.below bit.same (λ k. refl) here others e.inside e.outside i.invariant.layer0;
-      outside = (let o = beside_more (layer_word self) v c.args.place c.take_bit.result i.left c.take_bit.new.word bit.below bit.same (λ k. refl) here others e.inside e.outside (layer_word c.args.self.now) i.invariant.outside in record { layer2 = o.layer2; layer1 = o.layer1; layer0 = o.layer0 });
+      layer1 = layer1_more (layer_word self) v c.args.place c.take_bit.result i.left c.take_bit.new.word bit.in_word bit.same (λ k. refl) here others e.inside e.outside i.invariant.layer1;
+      layer0 = layer0_more (layer_word self) v c.args.place c.take_bit.result i.left c.take_bit.new.word bit.in_word bit.same (λ k. refl) here others e.inside e.outside i.invariant.layer0;
+      outside = (let o = beside_more (layer_word self) v c.args.place c.take_bit.result i.left c.take_bit.new.word bit.in_word bit.same (λ k. refl) here others e.inside e.outside (layer_word c.args.self.now) i.invariant.outside in record { layer2 = o.layer2; layer1 = o.layer1; layer0 = o.layer0 });
       top = i.invariant.top;
       blocks = e.made ∙ i.invariant.blocks;
-      room = e.room ∙ i.invariant.room;
+      room = e.same_capacity ∙ i.invariant.room;
     }
 
 pub returns-clause-inside : goal.returns-clause-inside

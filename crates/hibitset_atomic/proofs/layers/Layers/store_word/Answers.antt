@@ -34,7 +34,7 @@ returns-then-not-replace-clause-summed c =
     let room1 : c.args.place / 64 < length self.layer1.items = (let whole = self.whole1 in omega (arith, whole, within)) in
     let up0 = over_first (block_word self.layer0) (block_word c.store_word.new.self) (upper_layers self) c.args.place p.others in
     let up1 = over_up 0 (block_word c.store_word.new.self) (upper_layers self) up0 (lit< tt) (puts e.length e.here e.others) room1 c.index-before1.ensures (sets_bit bit1.same bit1.here) refl (rw one refl) (rw one p.here) in
-    let stays = e.stays c.if-not-replace.true in
+    let stays = e.same_summary c.if-not-replace.true in
     mended_last ATOMIC_LAYERS 1 _ _ c.args.place up1 (λ _. rw e.here stays) c.requires.summed
 
 pub returns-then-not-replace-2-clause-summed : goal.returns-then-not-replace-2-clause-summed
@@ -52,7 +52,7 @@ returns-then-not-replace-2-clause-summed c =
     let up0 = over_first (block_word self.layer0) (block_word c.store_word.new.self) (upper_layers self) c.args.place p.others in
     let up1 = over_up 0 (block_word c.store_word.new.self) (upper_layers self) up0 (lit< tt) (puts e.length e.here e.others) room1 c.index-before1.ensures (sets_bit bit1.same bit1.here) refl (rw one refl) (rw one p.here) in
     let up2 = over_up 1 (block_word c.store_word.new.self) (set (upper_layers self) 0 c.replace.new.words.items) up1 (lit< tt) (puts f.length f.here f.others) room2 c.index-before2.ensures (sets_bit bit2.same bit2.here) refl refl e.here in
-    let stays = f.stays c.if-not-replace-2.true in
+    let stays = f.same_summary c.if-not-replace-2.true in
     mended_last ATOMIC_LAYERS 2 _ _ c.args.place up2 (λ _. rw f.here stays) c.requires.summed
 
 pub returns-clause-summed : goal.returns-clause-summed

@@ -15,26 +15,26 @@ module _ (i l first place bit : ℕ) (id : i < ATOMIC_MAX_EID) (layer : l < 4) (
 
 pub overflow_add-result : goal.overflow_add-result
 overflow_add-result c =
-    let lt = is_within c.args.id c.args.layer c.first_word.result c.bit_over-place.result.0 c.bit_over-place.result.1 c.requires.id c.requires.layer c.first_word.ensures c.bit_over-place.ensures.place c.bit_over-place.ensures.bit in
+    let lt = is_within c.args.id c.args.layer c.first_word.result c.bit_over-place.result.0 c.bit_over-place.result.1 c.requires.id c.requires.layer c.first_word.ensures c.bit_over-place.ensures.word_index c.bit_over-place.ensures.bit in
     omega (arith, lt)
 
 pub overflow_mul-result : goal.overflow_mul-result
 overflow_mul-result c =
-    let lt = is_within c.args.id c.args.layer c.first_word.result c.bit_over-place.result.0 c.bit_over-place.result.1 c.requires.id c.requires.layer c.first_word.ensures c.bit_over-place.ensures.place c.bit_over-place.ensures.bit in
+    let lt = is_within c.args.id c.args.layer c.first_word.result c.bit_over-place.result.0 c.bit_over-place.result.1 c.requires.id c.requires.layer c.first_word.ensures c.bit_over-place.ensures.word_index c.bit_over-place.ensures.bit in
     omega (arith, lt)
 
 pub overflow_cast-result : goal.overflow_cast-result
 overflow_cast-result c =
-    let lt = is_within c.args.id c.args.layer c.first_word.result c.bit_over-place.result.0 c.bit_over-place.result.1 c.requires.id c.requires.layer c.first_word.ensures c.bit_over-place.ensures.place c.bit_over-place.ensures.bit in
+    let lt = is_within c.args.id c.args.layer c.first_word.result c.bit_over-place.result.0 c.bit_over-place.result.1 c.requires.id c.requires.layer c.first_word.ensures c.bit_over-place.ensures.word_index c.bit_over-place.ensures.bit in
     omega (arith, lt)
 
 pub overflow_add-result-2 : goal.overflow_add-result-2
 overflow_add-result-2 c =
-    let lt = is_within c.args.id c.args.layer c.first_word.result c.bit_over-place.result.0 c.bit_over-place.result.1 c.requires.id c.requires.layer c.first_word.ensures c.bit_over-place.ensures.place c.bit_over-place.ensures.bit in
+    let lt = is_within c.args.id c.args.layer c.first_word.result c.bit_over-place.result.0 c.bit_over-place.result.1 c.requires.id c.requires.layer c.first_word.ensures c.bit_over-place.ensures.word_index c.bit_over-place.ensures.bit in
     omega (arith, lt)
 
 pub returns-clause-mark : goal.returns-clause-mark
-returns-clause-mark c = is_mark c.args.id c.args.layer c.first_word.result c.bit_over-place.result.0 c.bit_over-place.result.1 c.requires.id c.requires.layer c.first_word.ensures c.bit_over-place.ensures.place c.bit_over-place.ensures.bit
+returns-clause-mark c = is_mark c.args.id c.args.layer c.first_word.result c.bit_over-place.result.0 c.bit_over-place.result.1 c.requires.id c.requires.layer c.first_word.ensures c.bit_over-place.ensures.word_index c.bit_over-place.ensures.bit
 
 pub returns-clause-within : goal.returns-clause-within
-returns-clause-within c = is_within c.args.id c.args.layer c.first_word.result c.bit_over-place.result.0 c.bit_over-place.result.1 c.requires.id c.requires.layer c.first_word.ensures c.bit_over-place.ensures.place c.bit_over-place.ensures.bit
+returns-clause-within c = is_within c.args.id c.args.layer c.first_word.result c.bit_over-place.result.0 c.bit_over-place.result.1 c.requires.id c.requires.layer c.first_word.ensures c.bit_over-place.ensures.word_index c.bit_over-place.ensures.bit

@@ -14,14 +14,14 @@ returns-clause-goes c =
     let one : c.args.layer ≡ suc l = (let a = c.requires.above in omega (arith, a)) in
     let told = c.load-word.ensures in
     rw (one, c.push_bits.ensures.left, told.reads)
-    (goes_down c.args.set.now c.args.seat.now c.load-word.new.seat c.args.reads.now.count l c.args.position c.load-word.result (cursor_places c.args.cursor.now) (let a = c.requires.layer in omega (arith, a)) told.keeps
-    (rw one at c.requires.stands) (omega arith) told.some told.seen told.due told.counted)
+    (goes_down c.args.set.now c.args.seat.now c.load-word.new.seat c.args.reads.now.count l c.args.position c.load-word.result (cursor_places c.args.cursor.now) (let a = c.requires.layer in omega (arith, a)) told.keeps_known
+    (rw one at c.requires.stands) (omega arith) told.nonzero told.seen told.due told.counted)
 
 pub returns-clause-fewer : goal.returns-clause-fewer
 returns-clause-fewer c =
     let l : ℕ = c.args.layer - 1 in
     let one : c.args.layer ≡ suc l = (let a = c.requires.above in omega (arith, a)) in
     let told = c.load-word.ensures in
-    let fewer = fewer_after c.args.set.now c.args.seat.now c.load-word.new.seat c.args.reads.now.count l c.args.position c.load-word.result (cursor_places c.args.cursor.now) (let a = c.requires.layer in omega (arith, a)) told.keeps
-    (rw one at c.requires.stands) (omega arith) told.some told.seen told.due told.counted in
+    let fewer = fewer_after c.args.set.now c.args.seat.now c.load-word.new.seat c.args.reads.now.count l c.args.position c.load-word.result (cursor_places c.args.cursor.now) (let a = c.requires.layer in omega (arith, a)) told.keeps_known
+    (rw one at c.requires.stands) (omega arith) told.nonzero told.seen told.due told.counted in
     rw c.push_bits.ensures.left (omega (arith, fewer, one))

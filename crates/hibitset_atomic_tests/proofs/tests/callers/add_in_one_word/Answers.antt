@@ -4,5 +4,5 @@ use Rattle.hibitset_atomic_tests.proofs.tests.callers.add_in_one_word.Goals as g
 
 pub returns-clause-exchanges : goal.returns-clause-exchanges
 returns-clause-exchanges c =
-    let few = spared-below c.args.set.now c.add_atomic.new.seat c.add_atomic-2.new.seat c.args.second c.args.first 1 c.add_atomic-2.ensures.spared (inr c.add_atomic.ensures.known.0) (omega (arith, c.requires.word)) in
+    let few = spared-below c.args.set.now c.add_atomic.new.seat c.add_atomic-2.new.seat c.args.second c.args.first 1 c.add_atomic-2.ensures.spares_shared (inr c.add_atomic.ensures.known) (omega (arith, c.requires.word)) in
     omega (arith, few, c.add_atomic.ensures.exchanges)

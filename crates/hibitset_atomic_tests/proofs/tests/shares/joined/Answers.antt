@@ -18,7 +18,7 @@ others-preserved c =
     let more = sum_by-cons weight_of seat left in
     let together = c.join-all.ensures.weight.0 in
     record {
-      came = c.join-all.ensures.came;
+      came = c.join-all.ensures.belongs;
       left = All-rest (BelongsTo c.args.set.now) seat left (into_iter_items c.others.seat-iterator) step inv.left;
       weight = omega (arith, weights, more, together);
       reports =

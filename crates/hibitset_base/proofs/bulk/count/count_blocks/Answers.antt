@@ -14,7 +14,7 @@ overflow_add-count g c =
     omega (arith, count, under, so_far, few)
 
 pub parts-smaller : goal.parts-smaller
-parts-smaller g c = fewer_after_block c.in-Some.start c.in-Some.word (cursor_places c.take_next_block.new.cursor) c.in-Some.ensures.goes c.in-Some.ensures.some.0 c.in-Some.ensures.some.1
+parts-smaller g c = fewer_after_block c.in-Some.start c.in-Some.word (cursor_places c.take_next_block.new.cursor) c.in-Some.ensures.goes c.in-Some.ensures.nonzero.0 c.in-Some.ensures.nonzero.1
 
 pub parts-preserved : goal.parts-preserved
 parts-preserved g c =
@@ -22,4 +22,4 @@ parts-preserved g c =
     let count = taken.count in
     let under = c.count_subtree-count.ensures in
     let so_far = c.parts.invariant.0 in
-    (omega (arith, count, under, so_far), c.in-Some.ensures.below)
+    (omega (arith, count, under, so_far), c.in-Some.ensures.empty_below)

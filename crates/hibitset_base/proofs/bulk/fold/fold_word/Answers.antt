@@ -3,7 +3,7 @@ use Rattle.hibitset_base.proofs.PlaceLemmas.{bits-none}
 use Rattle.hibitset_base.proofs.bulk.fold.fold_word.Goals as goal
 
 pub bits-preserved : goal.bits-preserved
-bits-preserved g c = (c.bits.invariant.0, λ last h. c.bits.invariant.1 last (rw c.take_bit.ensures.taken (c.step-so_far.result, c.step-so_far.ensures, h)))
+bits-preserved g c = (c.bits.invariant.0, λ last h. c.bits.invariant.1 last (rw c.take_index.ensures.taken (c.step-so_far.result, c.step-so_far.ensures, h)))
 
 pub returns : goal.returns
 returns g c =

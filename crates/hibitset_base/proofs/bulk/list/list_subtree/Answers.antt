@@ -20,7 +20,7 @@ bits-preserved g c =
     record {
       listed = listed_on c.bits.list.items c.flush_if_full.new.list.items (take c.bits.end c.bits.buffer) (take c.in_ok-end.end c.bits.buffer) (take c.write_bits-end.result c.write_bits-end.new.buffer) (bits_from taken.result.0 taken.result.1)
           (items_of holds (places_in 1 (bits_from c.args.start c.bits.rest))) (items_of holds (places_in 1 (bits_from c.args.start taken.new.rest))) _ c.write_bits-end.ensures.written c.in_ok-end.ensures.same taken.ensures.items c.bits.invariant.listed;
-      within = (let room = c.in_ok-end.ensures.room in let few = c.write_bits-end.ensures.few in omega (arith, room, few));
+      within = (let room = c.in_ok-end.ensures.long_enough in let few = c.write_bits-end.ensures.max in omega (arith, room, few));
     }
 
 pub returns-clause-listed : goal.returns-clause-listed

@@ -15,13 +15,13 @@ words-init g c =
       room = ap (λ v. vec_capacity v) same;
     }
 
-pub push_word-taken-requires-clause-room : goal.push_word-taken-requires-clause-room
-push_word-taken-requires-clause-room g c =
+pub push_word-taken-requires-clause-capacity : goal.push_word-taken-requires-clause-capacity
+push_word-taken-requires-clause-capacity g c =
     let old = c.args.list.now.items in
     let some = members (g.T.BitSetLike.holds c.args.set.now) (c.args.start * 64) (64 * c.words.word) in
     let long : length c.words.taken.items ≡ length old + length some = rw c.words.invariant.pushed (length-append old some) in
     let few = members-length (g.T.BitSetLike.holds c.args.set.now) (c.args.start * 64) (64 * c.words.word) in
-    let room = c.requires.room in
+    let room = c.requires.capacity in
     let same = c.words.invariant.room in
     omega (arith, long, few, room, same)
 
@@ -35,5 +35,5 @@ words-preserved g c =
     record {
       pushed = rw (c.push_word-taken.ensures.pushed, c.words.invariant.pushed, first, c.layer0.ensures)
           (one_word_listed LAYERS holds word (g.met.T.BitSetLike.lawful c.args.set.now) (omega arith) c.args.start c.words.word c.args.list.now.items (omega (arith, within)));
-      room = c.push_word-taken.ensures.room ∙ c.words.invariant.room;
+      room = c.push_word-taken.ensures.same_capacity ∙ c.words.invariant.room;
     }

@@ -6,14 +6,14 @@ use Rattle.hibitset_base.proofs.OneCountLemmas.{count_front}
 use Rattle.hibitset_base.proofs.WriteLemmas.{written_on, places_left}
 use Rattle.hibitset_base.proofs.bulk.slice.write_subtree.Goals as goal
 
-pub write_word-end-requires-clause-room : goal.write_word-end-requires-clause-room
-write_word-end-requires-clause-room g c =
+pub write_word-end-requires-clause-long_enough : goal.write_word-end-requires-clause-long_enough
+write_word-end-requires-clause-long_enough g c =
     let holds = g.T.BitSetLike.holds c.args.set.now in
     let taken = c.take_child-first in
     let count = count_front taken.result.0 taken.result.1 _ _ taken.ensures.items taken.ensures.fits in
     let here = places_left c.bits.list (items_of holds (places_in 1 (bits_from c.args.start c.bits.rest))) _ c.bits.end c.bits.invariant.within c.bits.invariant.written in
     let both = length-append (take c.args.at c.args.list.now) (items_of holds (places_in 1 (bits_from c.args.start c.args.word))) in
-    let room = c.requires.room in
+    let room = c.requires.long_enough in
     let front = length-take-le c.args.at c.args.list.now (omega (arith, room)) in
     omega (arith, count, here, both, front, room)
 

@@ -8,9 +8,9 @@ use Rattle.hibitset_base.proofs.OneCountLemmas.{count_front}
 use Rattle.hibitset_base.proofs.WriteLemmas.{written_on, places_left}
 use Rattle.hibitset_base.proofs.bulk.slice.write_walk.Goals as goal
 
-pub write_word-end-requires-clause-room : goal.write_word-end-requires-clause-room
+pub write_word-end-requires-clause-long_enough : goal.write_word-end-requires-clause-long_enough
 unfolding items_left
-write_word-end-requires-clause-room g c =
+write_word-end-requires-clause-long_enough g c =
     let holds = g.T.BitSetLike.holds c.args.walk.now.set in
     let first = c.take_lowest_word-first in
     let same = ap (λ ps. length (items_of holds ps)) c.copied-cursor.ensures.left in
@@ -27,12 +27,12 @@ parts-init g c =
       written = ap (λ xs. xs ++ items_of holds (cursor_places first.new.cursor)) c.write_word-end.ensures.written
           ∙ (append_assoc (take c.args.at c.args.list.now) (bits_from first.result.0 first.result.1) (items_of holds (cursor_places first.new.cursor))
           ∙ ap (λ xs. take c.args.at c.args.list.now ++ xs) (sym (first.ensures.items holds) ∙ ap (items_of holds) c.copied-cursor.ensures.left));
-      below = first.ensures.below;
+      below = first.ensures.empty_below;
       within = c.write_word-end.ensures.within;
     }
 
-pub write_subtree-end-requires-clause-room : goal.write_subtree-end-requires-clause-room
-write_subtree-end-requires-clause-room g c =
+pub write_subtree-end-requires-clause-long_enough : goal.write_subtree-end-requires-clause-long_enough
+write_subtree-end-requires-clause-long_enough g c =
     let holds = g.T.BitSetLike.holds c.args.walk.now.set in
     let taken = takes_block holds (cursor_places c.parts.cursor) c.in-Some.start c.in-Some.word (cursor_places c.take_next_block.new.cursor) c.in-Some.ensures.goes.items in
     let count = taken.count in
@@ -43,7 +43,7 @@ write_subtree-end-requires-clause-room g c =
     omega (arith, count, here, both, front, room)
 
 pub parts-smaller : goal.parts-smaller
-parts-smaller g c = fewer_after_block c.in-Some.start c.in-Some.word (cursor_places c.take_next_block.new.cursor) c.in-Some.ensures.goes c.in-Some.ensures.some.0 c.in-Some.ensures.some.1
+parts-smaller g c = fewer_after_block c.in-Some.start c.in-Some.word (cursor_places c.take_next_block.new.cursor) c.in-Some.ensures.goes c.in-Some.ensures.nonzero.0 c.in-Some.ensures.nonzero.1
 
 pub parts-preserved : goal.parts-preserved
 parts-preserved g c =
@@ -52,6 +52,6 @@ parts-preserved g c =
     record {
       written = written_on (take c.parts.end c.parts.list) (take c.write_subtree-end.result c.write_subtree-end.new.list) (items_of holds (places_in 1 (bits_from c.in-Some.start c.in-Some.word))) (items_of holds (cursor_places c.parts.cursor))
           (items_of holds (cursor_places c.take_next_block.new.cursor)) _ c.write_subtree-end.ensures.written taken.items c.parts.invariant.written;
-      below = c.in-Some.ensures.below;
+      below = c.in-Some.ensures.empty_below;
       within = c.write_subtree-end.ensures.within;
     }

@@ -15,6 +15,6 @@ bytes-preserved c =
     let step = c.push_byte-list.ensures in
     record {
       pushed = wrote_bytes c.args.list.items _ c.args.start c.args.word c.bytes.place (rw c.bytes.invariant.pushed at step.pushed);
-      few = (let few = step.few in let so_far = c.bytes.invariant.few in omega (arith, few, so_far));
-      room = step.room ∙ c.bytes.invariant.room;
+      few = (let few = step.len_max in let so_far = c.bytes.invariant.few in omega (arith, few, so_far));
+      room = step.same_capacity ∙ c.bytes.invariant.room;
     }

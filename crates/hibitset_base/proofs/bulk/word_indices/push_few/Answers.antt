@@ -9,7 +9,7 @@ pub returns-clause-pushed : goal.returns-clause-pushed
 returns-clause-pushed c =
     let old = c.args.list.items in
     let end : c.len.result + c.args.count ≡ length old + count_ones c.args.word = (let len = c.len.ensures in let count = c.requires.count in omega (arith, len, count)) in
-    let few = c.requires.few in
+    let few = c.requires.max in
     let begun = pushed_none old c.args.start c.args.word (omega arith) in
     let four = c.push_first-list.ensures.written (length old) (count_ones c.args.word) (old ++ bits_from c.args.start c.args.word) begun in
     let first = c.push_first-list.ensures.longer in

@@ -20,10 +20,10 @@ eights-init c = record {
   from = omega arith;
 }
 
-pub write_bit-rest-requires-clause-room : goal.write_bit-rest-requires-clause-room
-write_bit-rest-requires-clause-room c =
+pub write_bit-rest-requires-clause-long_enough : goal.write_bit-rest-requires-clause-long_enough
+write_bit-rest-requires-clause-long_enough c =
     let more = room_left c.eights.buffer c.args.at c.eights.end c.args.start c.args.word c.eights.rest _ c.eights.invariant.written (omega arith) (omega arith) c.eights.invariant.eights c.eights.invariant.from in
-    let room = c.requires.room in
+    let room = c.requires.long_enough in
     omega (arith, more, room)
 
 pub eights-smaller : goal.eights-smaller

@@ -16,5 +16,5 @@ returns-clause-written c =
     let end : c.places.place ≡ 8 = omega arith in
     rw (row_ones c.args.byte) (wrote_byte c.places.buffer c.args.buffer.now c.args.at c.args.start c.args.byte (omega arith) (omega arith) (rw end at c.places.invariant))
 
-pub returns-clause-few : goal.returns-clause-few
-returns-clause-few c = let same = row_ones c.args.byte in let few = few_in_byte c.args.byte (omega arith) in omega (arith, same, few)
+pub returns-clause-max : goal.returns-clause-max
+returns-clause-max c = let same = row_ones c.args.byte in let few = few_in_byte c.args.byte (omega arith) in omega (arith, same, few)

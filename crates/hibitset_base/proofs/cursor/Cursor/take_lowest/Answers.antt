@@ -6,13 +6,13 @@ pub returns-in_default-clause-taken : goal.returns-in_default-clause-taken
 returns-in_default-clause-taken g c =
     let cursor = c.args.self.now in
     let long = cursor.formed.long in
-    left-none 0 cursor.masks cursor.prefix (λ j below. c.in_default.ensures.none j (omega (arith, below, long)))
+    left-none 0 cursor.masks cursor.prefix (λ j below. c.in_default.ensures.empty j (omega (arith, below, long)))
 
-pub returns-in_default-clause-ended : goal.returns-in_default-clause-ended
-returns-in_default-clause-ended g c = returns-in_default-clause-taken g c
+pub returns-in_default-clause-end : goal.returns-in_default-clause-end
+returns-in_default-clause-end g c = returns-in_default-clause-taken g c
 
 pub returns-in_default-clause-rest : goal.returns-in_default-clause-rest
 returns-in_default-clause-rest g c =
     let cursor = c.args.self.now in
     let long = cursor.formed.long in
-    left-none 0 cursor.masks cursor.prefix (λ j below. c.in_default.ensures.none j (omega (arith, below, long)))
+    left-none 0 cursor.masks cursor.prefix (λ j below. c.in_default.ensures.empty j (omega (arith, below, long)))

@@ -7,4 +7,4 @@ returns-clause-runs g c = drain_runs g.T.BitSetLike.holds g.T.DrainableBitSet.ke
 
 pub returns-clause-fits : goal.returns-clause-fits
 unfolding items_to_drain
-returns-clause-fits g c = few_items _ c.root_cursor-cursor.ensures.items
+returns-clause-fits g c = few_items _ c.root_cursor-cursor.ensures.start.items

@@ -22,7 +22,7 @@ returns-clause-steps g c =
     let r : ℕ → Bool = g.T.BitSetLike.holds c.remove.new.self in
     let same : (j : ℕ) → j ≢ i → p j ≡ r j = λ j other. kept (p j) (j == i) (r j) (c.remove.ensures.removed j) (eq_other j i other) in
     let later = later_than LAYERS cursor.masks cursor.prefix i c.in_ok-index.ensures.before cursor.formed.long in
-    (sym c.in_ok-index.ensures.goes.items ∙ ap (λ xs. i ∷ xs) (items_without p r i same (cursor_places cursor) later), refl, c.remove.ensures.removed, c.remove.ensures.room)
+    (sym c.in_ok-index.ensures.goes.items ∙ ap (λ xs. i ∷ xs) (items_without p r i same (cursor_places cursor) later), refl, c.remove.ensures.removed, c.remove.ensures.keeps_room)
 
 pub returns-clause-goes : goal.returns-clause-goes
 returns-clause-goes g c =

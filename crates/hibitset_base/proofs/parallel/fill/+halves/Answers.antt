@@ -16,14 +16,14 @@ pub fill-sum_of_counts-requires : goal.fill-sum_of_counts-requires
 fill-sum_of_counts-requires g t c =
     let rest = high-rest (items_left (λ s. g.T.BitSetLike.holds s.now)) (length c.args.parts.now / 2) c.args.parts.now c.args.counts.now c.requires.counts in
     let same = ap sum c.split_at-2.ensures.front in
-    let room = c.requires.room in
+    let room = c.requires.exact_length in
     omega (arith, rest, same, room)
 
 pub fill-split_at_mut-front-requires : goal.fill-split_at_mut-front-requires
 fill-split_at_mut-front-requires g t c =
     let rest = high-rest (items_left (λ s. g.T.BitSetLike.holds s.now)) (length c.args.parts.now / 2) c.args.parts.now c.args.counts.now c.requires.counts in
     let same = ap sum c.split_at-2.ensures.front in
-    let room = c.requires.room in
+    let room = c.requires.exact_length in
     let added = c.sum_of_counts.ensures in
     omega (arith, rest, same, room, added)
 
@@ -47,7 +47,7 @@ fill-fill_both-requires-clause-back g t c κs within =
     let rest = high-rest items (length c.args.parts.now / 2) c.args.parts.now c.args.counts.now c.requires.counts in
     let same = ap sum c.split_at-2.ensures.front in
     let behind = ap (λ ps. length (flat_map items ps)) c.split_at.ensures.back in
-    let room = c.requires.room in
+    let room = c.requires.exact_length in
     let added = c.sum_of_counts.ensures in
     let back = c.split_at_mut-front.ensures.back_len in
     omega (arith, rest, same, behind, room, added, back)

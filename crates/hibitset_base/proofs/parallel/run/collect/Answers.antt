@@ -8,12 +8,12 @@ pub sum_of_counts-requires : goal.sum_of_counts-requires
 sum_of_counts-requires g c =
     let counted = rw c.as_slice.ensures.value at c.in_ok-counts.ensures in
     let total = sum-lengths (items_left (λ s. g.T.BitSetLike.holds s.now)) c.in_ok-parts.parts.items c.in_ok-counts.counts.items counted in
-    let few = subst (λ xs. length xs < 2 ^ 64) (sym c.in_ok-parts.ensures) c.requires.few in
+    let few = subst (λ xs. length xs < 2 ^ 64) (sym c.in_ok-parts.ensures) c.requires.len_max in
     let same = ap sum c.as_slice-2.ensures.value in
     subst (λ k. k < 2 ^ 64) (sym (same ∙ total)) few
 
-pub fill-requires-clause-room : goal.fill-requires-clause-room
-fill-requires-clause-room g c κs within =
+pub fill-requires-clause-exact_length : goal.fill-requires-clause-exact_length
+fill-requires-clause-exact_length g c κs within =
     let items : _ → List ℕ = items_left (λ s. g.T.BitSetLike.holds s.now) in
     let counted = rw c.as_slice.ensures.value at c.in_ok-counts.ensures in
     let total = sum-lengths items c.in_ok-parts.parts.items c.in_ok-counts.counts.items counted in

@@ -13,5 +13,5 @@ invariant_of-result g c = record {
 pub returns-clause-left : goal.returns-clause-left
 returns-clause-left g c = rev-none _ _ g.row.N (λ j below. none_left g.row.N j)
 
-pub returns-clause-below : goal.returns-clause-below
-returns-clause-below g c = λ l below. none_left g.row.N l
+pub returns-clause-empty_below : goal.returns-clause-empty_below
+returns-clause-empty_below g c = λ l below. none_left g.row.N l

@@ -23,7 +23,7 @@ overflow_add-result g c =
     let layer : ℕ = c.args.layer in
     let self = c.args.self.now in
     let at = self.aligned layer c.requires.layer in
-    let inside = bit_inside g.row.N layer (get_or self.starts layer 0) c.take_last_bit-bit.result c.requires.layer at.0 at.1 c.take_last_bit-bit.ensures.below in
+    let inside = bit_inside g.row.N layer (get_or self.starts layer 0) c.take_last_bit-bit.result c.requires.layer at.0 at.1 c.take_last_bit-bit.ensures.in_word in
     let fits = bit_fits g.row.N layer (get_or self.starts layer 0 + c.take_last_bit-bit.result) self.positions_fit inside in
     omega (arith, fits)
 
@@ -40,14 +40,14 @@ returns-clause-taken g c =
     let here : get_or (set masks layer mask) layer 0 ≡ mask = get_or-set_same masks layer mask 0 (omega arith) in
     rev-take (λ l. get_or masks l 0) (λ l. get_or starts l 0) (λ l. get_or (set masks layer mask) l 0) (λ l. get_or starts l 0) layer g.row.N c.requires.layer (λ j other. get_or-set_other masks layer j mask 0 other) (λ j other. refl)
     c.requires.lowest (get_or starts layer 0 + c.take_last_bit-bit.result)
-    (bits_last (get_or starts layer 0) (get_or masks layer 0) mask c.take_last_bit-bit.result bit.below bit.stood bit.last bit.gone bit.same ∙ ap (λ m. bits_from (get_or starts layer 0) m ++ ((get_or starts layer 0 + c.take_last_bit-bit.result) ∷ [])) (sym here))
+    (bits_last (get_or starts layer 0) (get_or masks layer 0) mask c.take_last_bit-bit.result bit.in_word bit.bit_was_set bit.highest bit.bit_cleared bit.same ∙ ap (λ m. bits_from (get_or starts layer 0) m ++ ((get_or starts layer 0 + c.take_last_bit-bit.result) ∷ [])) (sym here))
 
 pub returns-clause-within : goal.returns-clause-within
 returns-clause-within g c =
     let layer : ℕ = c.args.layer in
     let self = c.args.self.now in
     let at = self.aligned layer c.requires.layer in
-    bit_inside g.row.N layer (get_or self.starts layer 0) c.take_last_bit-bit.result c.requires.layer at.0 at.1 c.take_last_bit-bit.ensures.below
+    bit_inside g.row.N layer (get_or self.starts layer 0) c.take_last_bit-bit.result c.requires.layer at.0 at.1 c.take_last_bit-bit.ensures.in_word
 
 pub returns-clause-others : goal.returns-clause-others
 returns-clause-others g c = λ l other. get_or-set_other c.args.self.now.masks c.args.layer l c.take_last_bit-bit.new.word 0 other

@@ -18,6 +18,6 @@ returns g c =
     let shorter = c.are_shorter-shorter.ensures.shorter in
     let some = c.if-count-eq0.false in
     rw c.container_size-size.ensures.size (sizes_push words (chosen_are_runs c.args.optimized (stands_in words)) c.args.key c.args.self.count c.args.self.some c.args.self.bytes c.requires.sizes count runs
-    (sym c.count_under-count.ensures.count) (omega (arith, some)) c.count_under-count.ensures.few c.kind_of-runs.ensures.kind c.kind_of-runs.ensures.exact (c.args.self.some || c.are_shorter-shorter.result)
+    (sym c.count_under-count.ensures.count) (omega (arith, some)) c.count_under-count.ensures.max c.kind_of-runs.ensures.kind c.kind_of-runs.ensures.exact (c.args.self.some || c.are_shorter-shorter.result)
     (λ on. elim (or_cases c.args.self.some c.are_shorter-shorter.result on) [ inl before ↦ inl before | inr here ↦ inr (sym shorter ∙ here) ])
     (λ off. (let both = or_parts c.args.self.some c.are_shorter-shorter.result off in (both.0, sym shorter ∙ both.1))))

@@ -11,8 +11,8 @@ write_kind-requires-clause-count g c =
     let set = c.args.self.now.0.now in
     c.requires.count ∙ sym (gathered_ones (g.T.BitSetLike.holds set) (g.T.BitSetLike.word set) (g.met.T.BitSetLike.lawful set) c.gather.new.words c.gather.new.above c.args.key c.requires.key (omega arith) c.gather.ensures.words c.gather.ensures.above)
 
-pub write_kind-requires-clause-above : goal.write_kind-requires-clause-above
-write_kind-requires-clause-above g c =
+pub write_kind-requires-clause-summaries : goal.write_kind-requires-clause-summaries
+write_kind-requires-clause-summaries g c =
     let set = c.args.self.now.0.now in
     gathered_summaries (g.T.BitSetLike.holds set) (g.T.BitSetLike.word set) (g.met.T.BitSetLike.lawful set) c.gather.new.words c.gather.new.above c.args.key c.requires.key (omega arith) c.gather.ensures.words c.gather.ensures.above
 

@@ -40,8 +40,8 @@ returns-then-key-end-clause-fault c =
       high = omega (arith, high, key);
     }
 
-pub returns-clause-least : goal.returns-clause-least
-returns-clause-least c = λ bound below.
+pub returns-clause-least_bound : goal.returns-clause-least_bound
+returns-clause-least_bound c = λ bound below.
     let h = c.keys.invariant in
     let k : ℕ = c.keys.k in
     let t = c.keys-test.false in

@@ -19,7 +19,7 @@ returns-clause-header c =
       keys_is = reckoned_keys c.args.bytes.now c.in_ok-runs.runs c.in_ok-runs.count c.keys_after-keys.result c.offsets_are-offsets.result c.first_after-first.result c.in_ok-runs.ensures.runs c.in_ok-runs.ensures.count c.keys_after-keys.ensures c.offsets_are-offsets.ensures c.first_after-first.ensures;
       offsets_is = reckoned_offsets c.args.bytes.now c.in_ok-runs.runs c.in_ok-runs.count c.keys_after-keys.result c.offsets_are-offsets.result c.first_after-first.result c.in_ok-runs.ensures.runs c.in_ok-runs.ensures.count c.keys_after-keys.ensures c.offsets_are-offsets.ensures c.first_after-first.ensures;
       first_is = reckoned_first c.args.bytes.now c.in_ok-runs.runs c.in_ok-runs.count c.keys_after-keys.result c.offsets_are-offsets.result c.first_after-first.result c.in_ok-runs.ensures.runs c.in_ok-runs.ensures.count c.keys_after-keys.ensures c.offsets_are-offsets.ensures c.first_after-first.ensures;
-      few = c.in_ok-runs.ensures.few;
+      few = c.in_ok-runs.ensures.max;
       within = within;
       flags = λ yes. (let f = flags_within c.args.bytes.now c.in_ok-runs.runs c.in_ok-runs.count c.keys_after-keys.result c.offsets_are-offsets.result c.first_after-first.result c.in_ok-runs.ensures.runs c.in_ok-runs.ensures.count c.keys_after-keys.ensures c.offsets_are-offsets.ensures c.first_after-first.ensures yes in omega (arith, f, within));
       fields = omega (arith, fields, within);

@@ -12,5 +12,5 @@ returns-then-is_run-clause-size c = ap (λ n. 2 + 4 * n) (c.read_u16.ensures.num
 pub returns-clause-size : goal.returns-clause-size
 returns-clause-size c =
     size_flat c.args.bytes.now c.args.k c.args.at (sym c.is_run.ensures ∙ c.if-is_run.false) c.flat_size.result
-    (λ few. c.flat_size.ensures.small (omega (arith, few, c.cardinality.ensures.cardinality)) ∙ ap (λ n. 2 * n) c.cardinality.ensures.cardinality)
+    (λ few. c.flat_size.ensures.array_size (omega (arith, few, c.cardinality.ensures.cardinality)) ∙ ap (λ n. 2 * n) c.cardinality.ensures.cardinality)
     (λ more. c.flat_size.ensures.large (omega (arith, more, c.cardinality.ensures.cardinality)))

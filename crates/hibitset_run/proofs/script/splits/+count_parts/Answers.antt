@@ -9,9 +9,9 @@ cut t c =
     let exact = c.laws.ensures.exact c.args.part.0.set.now in
     let items = rw c.in-Some.is at c.split-lower.ensures.items in
     let apart = rw c.in-Some.is at c.split-lower.ensures.apart in
-    let some = rw c.in-Some.is at (c.split-lower.ensures.some exact.0 exact.1 may.drawn) in
+    let some = rw c.in-Some.is at (c.split-lower.ensures.nonempty exact.0 exact.1 may.from_set) in
     let same = rw c.in-Some.is at c.split-lower.ensures.same in
-    let drawn = rw c.in-Some.is at (c.split-lower.ensures.drawn may.drawn) in
+    let drawn = rw c.in-Some.is at (c.split-lower.ensures.from_set may.from_set) in
     let one_mask = rw c.in-Some.is at (c.split-lower.ensures.one_mask may.one_mask) in
     is_cut c.args.part may c.split-lower.result.0 c.in-Some.higher items apart some.0 some.1 same.0 same.1 drawn one_mask
 
@@ -37,7 +37,7 @@ overflow_add-result t c =
 
 pub returns-in-None : goal.returns-in-None
 returns-in-None t c =
-    let one = is_one c.args.part c.requires (c.split-lower.ensures.none c.requires.one_mask c.in-None.is) in
+    let one = is_one c.args.part c.requires (c.split-lower.ensures.indivisible c.requires.one_mask c.in-None.is) in
     omega (arith, one)
 
 pub returns-in-Some : goal.returns-in-Some

@@ -4,7 +4,7 @@ use Rattle.hibitset_run.proofs.StepLemmas.{divided}
 use Rattle.hibitset_run.proofs.script.splits.split.Goals as goal
 
 pub count_parts-requires : goal.count_parts-requires
-count_parts-requires c = begun c.args.layers (get_or c.args.sets.now c.number.result c.index-sets-number.result) (c.iter.result, c.number-2.result) c.number-2.ensures c.iter.ensures.items c.iter.ensures.one_mask c.iter.ensures.drawn
+count_parts-requires c = begun c.args.layers (get_or c.args.sets.now c.number.result c.index-sets-number.result) (c.iter.result, c.number-2.result) c.number-2.ensures c.iter.ensures.items c.iter.ensures.one_mask c.iter.ensures.from_set
 
 pub returns : goal.returns
 returns c =

@@ -13,12 +13,12 @@ invariant_of-self-2 c =
     let nonzero : 0 < c.with_bit-2.result = some-word c.with_bit-2.result (c.args.i % 64) 1 (omega arith) c.with_bit-2.ensures.here in
     record { nonzero = nonzero-put (value_at c.args.self.now.words) (value_at c.write.new.self) (c.args.i / 64) c.with_bit-2.result nonzero (omega arith) c.write.ensures.put c.args.self.now.nonzero }
 
-pub returns-clause-was : goal.returns-clause-was
-returns-clause-was c = c.is_set.ensures ∙ sym (ap (λ o. bit_is_set (or_zero o) (c.args.i % 64)) (c.in-Some.ensures.some.1 ∙ slice_get_read c.args.self.now.words.items.items (length c.args.self.now.words.items.items) c.in-Some.at c.index-word.result.now (omega arith) c.in-Some.ensures.some.0 c.index-word.ensures))
+pub returns-clause-was_member : goal.returns-clause-was_member
+returns-clause-was_member c = c.is_set.ensures ∙ sym (ap (λ o. bit_is_set (or_zero o) (c.args.i % 64)) (c.in-Some.ensures.found.1 ∙ slice_get_read c.args.self.now.words.items.items (length c.args.self.now.words.items.items) c.in-Some.at c.index-word.result.now (omega arith) c.in-Some.ensures.found.0 c.index-word.ensures))
 
 pub returns-clause-added : goal.returns-clause-added
 returns-clause-added c = λ j low.
-    let is : value_at c.args.self.now.words (c.args.i / 64) ≡ Some c.index-word.result.now = (c.in-Some.ensures.some.1 ∙ slice_get_read c.args.self.now.words.items.items (length c.args.self.now.words.items.items) c.in-Some.at c.index-word.result.now (omega arith) c.in-Some.ensures.some.0 c.index-word.ensures) in
+    let is : value_at c.args.self.now.words (c.args.i / 64) ≡ Some c.index-word.result.now = (c.in-Some.ensures.found.1 ∙ slice_get_read c.args.self.now.words.items.items (length c.args.self.now.words.items.items) c.in-Some.at c.index-word.result.now (omega arith) c.in-Some.ensures.found.0 c.index-word.ensures) in
     let written : IsWritten c.with_bit-2.result (or_zero (value_at c.args.self.now.words (c.args.i / 64))) (c.args.i % 64) 1 = record {
       here = c.with_bit-2.ensures.here;
       same = λ b small other. c.with_bit-2.ensures.same b small other ∙ ap (λ o. bit_at (or_zero o) b) (sym is);

@@ -3,8 +3,8 @@ use Rattle.std.proofs.lemmas.Nat.{and_le_r}
 use Rattle.hibitset_sparse.proofs.KeptLemmas.{members-of_word, ne-false, ne-true, word-gone, word-kept}
 use Rattle.hibitset_sparse.proofs.kept.ChunkPartChangeUsize.change.Goals as goal
 
-pub returns-clause-stays : goal.returns-clause-stays
-returns-clause-stays g c = λ yes.
+pub returns-clause-leaves : goal.returns-clause-leaves
+returns-clause-leaves g c = λ yes.
     let s = c.args.self.now in
     let less = and_le_r c.args.value.now c.layer0.result in
     word-kept (g.K.BitSetLike.holds s.kept.now) (4096 * s.c + c.args.i) c.args.value.now c.layer0.result

@@ -12,7 +12,7 @@ invariant_of-self-2 g c =
     let fits : word < 2 ^ 64 = omega arith in
     let bit = c.with_bit-self.ensures in
     let small = c.requires.bit in
-    let ones = ones-set word row.word c.args.bit fits row.fits small (c.requires.last c.args.bit (omega arith) small) bit.here bit.same in
+    let ones = ones-set word row.word c.args.bit fits row.fits small (c.requires.none_above c.args.bit (omega arith) small) bit.here bit.same in
     let len = c.in_ok-push.ensures.len in
     record {
       fits = fits;
@@ -27,9 +27,9 @@ returns g c = record {
       let within = c.requires.bit in
       let set : IsSetAt c.with_bit-self.result row.word c.args.bit = record {
         within = within;
-        clear = c.requires.last c.args.bit (omega arith) within;
+        clear = c.requires.none_above c.args.bit (omega arith) within;
         set = bit.here;
         same = bit.same;
       } in
-      array-pushed c.with_bit-self.result row.word c.args.bit row.items.items c.push.new.self.items c.args.value set row.fits c.requires.last row.counted c.in_ok-push.ensures.items b small;
+      array-pushed c.with_bit-self.result row.word c.args.bit row.items.items c.push.new.self.items c.args.value set row.fits c.requires.none_above row.counted c.in_ok-push.ensures.items b small;
 }

@@ -33,8 +33,8 @@ invariant_of-self g c =
       counted = omega (arith, counted, ones, items, long);
     }
 
-pub returns-clause-was : goal.returns-clause-was
-returns-clause-was g c =
+pub returns-clause-old_value : goal.returns-clause-old_value
+returns-clause-old_value g c =
     let row = c.args.self.now in
     let rank = rank-within row.word c.args.bit (set-is-one row.word c.args.bit c.requires.taken) in
     let counted = row.counted in

@@ -24,27 +24,27 @@ invariant_of-self c =
     let id : ℕ = c.args.id in
     let was : Chunk = c.index_mut.result.now in
     let now : Chunk = c.add.new.self in
-    let is : value_at chunks (id / 262144) ≡ Some was = (c.in-Some.ensures.some.1 ∙ slice_get_read chunks.items.items (length chunks.items.items) c.in-Some.at c.index_mut.result.now (omega arith) c.in-Some.ensures.some.0 c.index_mut.ensures.value) in
+    let is : value_at chunks (id / 262144) ≡ Some was = (c.in-Some.ensures.found.1 ∙ slice_get_read chunks.items.items (length chunks.items.items) c.in-Some.at c.index_mut.result.now (omega arith) c.in-Some.ensures.found.0 c.index_mut.ensures.value) in
     let put : (k : ℕ) → k < 4096 → value_of_place (value_in chunks.groups) (set chunks.items.items c.in-Some.at now) k ≡ (if k == id / 262144 then Some now else value_at chunks k) =
-    set-values (value_in chunks.groups) (length chunks.items.items) (id / 262144) c.in-Some.at chunks.items.items now chunks.laid_out (omega arith) c.in-Some.ensures.place c.in-Some.ensures.some.0 in
+    set-values (value_in chunks.groups) (length chunks.items.items) (id / 262144) c.in-Some.at chunks.items.items now chunks.laid_out (omega arith) c.in-Some.ensures.is_place c.in-Some.ensures.found.0 in
     let new : ℕ → Option Chunk = value_of_place (value_in chunks.groups) (set chunks.items.items c.in-Some.at now) in
     let old_past = place-past chunks.groups chunks.items.items in
     let new_past = place-past chunks.groups (set chunks.items.items c.in-Some.at now) in
-    let root = root-kept c.add.result was now c.add.ensures.some c.add.ensures.err (c.args.self.now.full (id / 262144) was (omega arith) is) in
+    let root = root-kept c.add.result was now c.add.ensures.nonempty c.add.ensures.err (c.args.self.now.full (id / 262144) was (omega arith) is) in
     let full = full-put (value_at chunks) new id now put old_past new_past root c.args.self.now.full in
     let long : length (set chunks.items.items c.in-Some.at now) ≡ length chunks.items.items = length-set chunks.items.items c.in-Some.at now in
     let laid : AreLaidOut (value_in chunks.groups) (length (set chunks.items.items c.in-Some.at now)) = rw long chunks.laid_out in
     ((laid, tt), (full, (full-summed _ full, tt)))
 
-pub returns-in-Some-clause-was : goal.returns-in-Some-clause-was
+pub returns-in-Some-clause-was_member : goal.returns-in-Some-clause-was_member
 unfolding has word_of
-returns-in-Some-clause-was c =
+returns-in-Some-clause-was_member c =
     let chunks = c.args.self.now.chunks in
     let id : ℕ = c.args.id in
     let was : Chunk = c.index_mut.result.now in
-    let is : value_at chunks (id / 262144) ≡ Some was = (c.in-Some.ensures.some.1 ∙ slice_get_read chunks.items.items (length chunks.items.items) c.in-Some.at c.index_mut.result.now (omega arith) c.in-Some.ensures.some.0 c.index_mut.ensures.value) in
+    let is : value_at chunks (id / 262144) ≡ Some was = (c.in-Some.ensures.found.1 ∙ slice_get_read chunks.items.items (length chunks.items.items) c.in-Some.at c.index_mut.result.now (omega arith) c.in-Some.ensures.found.0 c.index_mut.ensures.value) in
     let there : holds_at (word_in chunks) id ≡ has_in was (id % 262144) = holds-under chunks id ∙ ap (λ o. has_under o (id % 262144)) is in
-    if_ok c.add.result c.add.ensures.was (λ x e. e ∙ sym there)
+    if_ok c.add.result c.add.ensures.was_member (λ x e. e ∙ sym there)
 
 pub returns-in-Some-clause-added : goal.returns-in-Some-clause-added
 unfolding has word_of
@@ -53,9 +53,9 @@ returns-in-Some-clause-added c =
     let id : ℕ = c.args.id in
     let was : Chunk = c.index_mut.result.now in
     let now : Chunk = c.add.new.self in
-    let is : value_at chunks (id / 262144) ≡ Some was = (c.in-Some.ensures.some.1 ∙ slice_get_read chunks.items.items (length chunks.items.items) c.in-Some.at c.index_mut.result.now (omega arith) c.in-Some.ensures.some.0 c.index_mut.ensures.value) in
+    let is : value_at chunks (id / 262144) ≡ Some was = (c.in-Some.ensures.found.1 ∙ slice_get_read chunks.items.items (length chunks.items.items) c.in-Some.at c.index_mut.result.now (omega arith) c.in-Some.ensures.found.0 c.index_mut.ensures.value) in
     let put : (k : ℕ) → k < 4096 → value_of_place (value_in chunks.groups) (set chunks.items.items c.in-Some.at now) k ≡ (if k == id / 262144 then Some now else value_at chunks k) =
-    set-values (value_in chunks.groups) (length chunks.items.items) (id / 262144) c.in-Some.at chunks.items.items now chunks.laid_out (omega arith) c.in-Some.ensures.place c.in-Some.ensures.some.0 in
+    set-values (value_in chunks.groups) (length chunks.items.items) (id / 262144) c.in-Some.at chunks.items.items now chunks.laid_out (omega arith) c.in-Some.ensures.is_place c.in-Some.ensures.found.0 in
     let new : ℕ → Option Chunk = value_of_place (value_in chunks.groups) (set chunks.items.items c.in-Some.at now) in
     let old_past = place-past chunks.groups chunks.items.items in
     let new_past = place-past chunks.groups (set chunks.items.items c.in-Some.at now) in
@@ -71,9 +71,9 @@ returns-in-Some-clause-err c =
     let id : ℕ = c.args.id in
     let was : Chunk = c.index_mut.result.now in
     let now : Chunk = c.add.new.self in
-    let is : value_at chunks (id / 262144) ≡ Some was = (c.in-Some.ensures.some.1 ∙ slice_get_read chunks.items.items (length chunks.items.items) c.in-Some.at c.index_mut.result.now (omega arith) c.in-Some.ensures.some.0 c.index_mut.ensures.value) in
+    let is : value_at chunks (id / 262144) ≡ Some was = (c.in-Some.ensures.found.1 ∙ slice_get_read chunks.items.items (length chunks.items.items) c.in-Some.at c.index_mut.result.now (omega arith) c.in-Some.ensures.found.0 c.index_mut.ensures.value) in
     let put : (k : ℕ) → k < 4096 → value_of_place (value_in chunks.groups) (set chunks.items.items c.in-Some.at now) k ≡ (if k == id / 262144 then Some now else value_at chunks k) =
-    set-values (value_in chunks.groups) (length chunks.items.items) (id / 262144) c.in-Some.at chunks.items.items now chunks.laid_out (omega arith) c.in-Some.ensures.place c.in-Some.ensures.some.0 in
+    set-values (value_in chunks.groups) (length chunks.items.items) (id / 262144) c.in-Some.at chunks.items.items now chunks.laid_out (omega arith) c.in-Some.ensures.is_place c.in-Some.ensures.found.0 in
     let new : ℕ → Option Chunk = value_of_place (value_in chunks.groups) (set chunks.items.items c.in-Some.at now) in
     let old_past = place-past chunks.groups chunks.items.items in
     let new_past = place-past chunks.groups (set chunks.items.items c.in-Some.at now) in
@@ -88,25 +88,25 @@ returns-in-Some-clause-succeeds c = λ some.
     let chunks = c.args.self.now.chunks in
     let id : ℕ = c.args.id in
     let was : Chunk = c.index_mut.result.now in
-    let is : value_at chunks (id / 262144) ≡ Some was = (c.in-Some.ensures.some.1 ∙ slice_get_read chunks.items.items (length chunks.items.items) c.in-Some.at c.index_mut.result.now (omega arith) c.in-Some.ensures.some.0 c.index_mut.ensures.value) in
+    let is : value_at chunks (id / 262144) ≡ Some was = (c.in-Some.ensures.found.1 ∙ slice_get_read chunks.items.items (length chunks.items.items) c.in-Some.at c.index_mut.result.now (omega arith) c.in-Some.ensures.found.0 c.index_mut.ensures.value) in
     let word : word_in chunks 0 (id / 64) ≡ chunk_word was 0 (id % 262144 / 64) = word-under chunks id ∙ ap (λ o. word_under o 0 (id % 262144 / 64)) is in
     c.add.ensures.succeeds (omega (arith, word, some))
 
 pub returns-in_err-add-clause-succeeds : goal.returns-in_err-add-clause-succeeds
 unfolding word_of
 returns-in_err-add-clause-succeeds c = λ some.
-    let none = no-word c.args.self.now.chunks c.args.id c.in_default.ensures.none in
+    let none = no-word c.args.self.now.chunks c.args.id c.in_default.ensures.absent in
     absurd (omega (arith, none, some))
 
 pub returns-in_err-insert-clause-succeeds : goal.returns-in_err-insert-clause-succeeds
 unfolding word_of
 returns-in_err-insert-clause-succeeds c = λ some.
-    let none = no-word c.args.self.now.chunks c.args.id c.in_default.ensures.none in
+    let none = no-word c.args.self.now.chunks c.args.id c.in_default.ensures.absent in
     absurd (omega (arith, none, some))
 
 pub invariant_of-self-2 : goal.invariant_of-self-2
 invariant_of-self-2 c =
-    let full = full-insert c.insert.result c.args.self.now.chunks c.insert.new.self c.args.id c.add-2.new.self c.insert.ensures.put c.insert.ensures.err c.in_ok-add.ensures.some c.args.self.now.full in
+    let full = full-insert c.insert.result c.args.self.now.chunks c.insert.new.self c.args.id c.add-2.new.self c.insert.ensures.put c.insert.ensures.err c.in_ok-add.ensures.nonempty c.args.self.now.full in
     record { full = full; summed = full-summed c.insert.new.self full }
 
 pub returns-in_err-insert-clause-err : goal.returns-in_err-insert-clause-err
@@ -116,11 +116,11 @@ returns-in_err-insert-clause-err c = on_err_always c.from_residual-in_err-insert
     ∙ (ap (λ o. has_under o (i % 262144)) (same-value c.args.self.now.chunks c.insert.new.self c.in_err-insert.ensures.err (i / 262144))
     ∙ sym (holds-under c.args.self.now.chunks i)))
 
-pub returns-clause-was : goal.returns-clause-was
+pub returns-clause-was_member : goal.returns-clause-was_member
 unfolding has word_of
-returns-clause-was c =
+returns-clause-was_member c =
     let chunks = c.args.self.now.chunks in
-    let none : value_at chunks (c.args.id / 262144) ≡ None = c.in_default.ensures.none in
+    let none : value_at chunks (c.args.id / 262144) ≡ None = c.in_default.ensures.absent in
     sym (holds-under chunks c.args.id ∙ (ap (λ o. has_under o (c.args.id % 262144)) none ∙ none-under (c.args.id % 262144)))
 
 pub returns-clause-added : goal.returns-clause-added
@@ -128,7 +128,7 @@ unfolding has word_of
 returns-clause-added c = λ i.
     let chunks = c.args.self.now.chunks in
     let id : ℕ = c.args.id in
-    let none : value_at chunks (id / 262144) ≡ None = c.in_default.ensures.none in
+    let none : value_at chunks (id / 262144) ≡ None = c.in_default.ensures.absent in
     holds-under c.insert.new.self i
     ∙ (set-added (value_at chunks) (value_at c.insert.new.self) id c.add-2.new.self c.in_ok-insert.ensures.put (place-past chunks.groups chunks.items.items) (place-past c.insert.new.self.groups c.insert.new.self.items.items) c.requires
     (λ r low. c.in_ok-add.ensures.added r low ∙ ap (λ b. b || r == id % 262144) (c.new-chunk.ensures r ∙ sym (ap (λ o. has_under o r) none ∙ none-under r))) i

@@ -22,13 +22,13 @@ invariant_of-self c =
     let id : ℕ = c.args.id in
     let was : Chunk = c.index_mut.result.now in
     let now : Chunk = c.add_bits.new.self in
-    let is : value_at chunks (id / 262144) ≡ Some was = (c.in-Some.ensures.some.1 ∙ slice_get_read chunks.items.items (length chunks.items.items) c.in-Some.at c.index_mut.result.now (omega arith) c.in-Some.ensures.some.0 c.index_mut.ensures.value) in
+    let is : value_at chunks (id / 262144) ≡ Some was = (c.in-Some.ensures.found.1 ∙ slice_get_read chunks.items.items (length chunks.items.items) c.in-Some.at c.index_mut.result.now (omega arith) c.in-Some.ensures.found.0 c.index_mut.ensures.value) in
     let put : (k : ℕ) → k < 4096 → value_of_place (value_in chunks.groups) (set chunks.items.items c.in-Some.at now) k ≡ (if k == id / 262144 then Some now else value_at chunks k) =
-    set-values (value_in chunks.groups) (length chunks.items.items) (id / 262144) c.in-Some.at chunks.items.items now chunks.laid_out (omega arith) c.in-Some.ensures.place c.in-Some.ensures.some.0 in
+    set-values (value_in chunks.groups) (length chunks.items.items) (id / 262144) c.in-Some.at chunks.items.items now chunks.laid_out (omega arith) c.in-Some.ensures.is_place c.in-Some.ensures.found.0 in
     let new : ℕ → Option Chunk = value_of_place (value_in chunks.groups) (set chunks.items.items c.in-Some.at now) in
     let old_past = place-past chunks.groups chunks.items.items in
     let new_past = place-past chunks.groups (set chunks.items.items c.in-Some.at now) in
-    let root = root-kept c.add_bits.result was now c.add_bits.ensures.some c.add_bits.ensures.err (c.args.self.now.full (id / 262144) was (omega arith) is) in
+    let root = root-kept c.add_bits.result was now c.add_bits.ensures.nonempty c.add_bits.ensures.err (c.args.self.now.full (id / 262144) was (omega arith) is) in
     let full = full-put (value_at chunks) new id now put old_past new_past root c.args.self.now.full in
     let long : length (set chunks.items.items c.in-Some.at now) ≡ length chunks.items.items = length-set chunks.items.items c.in-Some.at now in
     let laid : AreLaidOut (value_in chunks.groups) (length (set chunks.items.items c.in-Some.at now)) = rw long chunks.laid_out in
@@ -41,9 +41,9 @@ returns-in-Some-clause-added c =
     let id : ℕ = c.args.id in
     let was : Chunk = c.index_mut.result.now in
     let now : Chunk = c.add_bits.new.self in
-    let is : value_at chunks (id / 262144) ≡ Some was = (c.in-Some.ensures.some.1 ∙ slice_get_read chunks.items.items (length chunks.items.items) c.in-Some.at c.index_mut.result.now (omega arith) c.in-Some.ensures.some.0 c.index_mut.ensures.value) in
+    let is : value_at chunks (id / 262144) ≡ Some was = (c.in-Some.ensures.found.1 ∙ slice_get_read chunks.items.items (length chunks.items.items) c.in-Some.at c.index_mut.result.now (omega arith) c.in-Some.ensures.found.0 c.index_mut.ensures.value) in
     let put : (k : ℕ) → k < 4096 → value_of_place (value_in chunks.groups) (set chunks.items.items c.in-Some.at now) k ≡ (if k == id / 262144 then Some now else value_at chunks k) =
-    set-values (value_in chunks.groups) (length chunks.items.items) (id / 262144) c.in-Some.at chunks.items.items now chunks.laid_out (omega arith) c.in-Some.ensures.place c.in-Some.ensures.some.0 in
+    set-values (value_in chunks.groups) (length chunks.items.items) (id / 262144) c.in-Some.at chunks.items.items now chunks.laid_out (omega arith) c.in-Some.ensures.is_place c.in-Some.ensures.found.0 in
     let new : ℕ → Option Chunk = value_of_place (value_in chunks.groups) (set chunks.items.items c.in-Some.at now) in
     let old_past = place-past chunks.groups chunks.items.items in
     let new_past = place-past chunks.groups (set chunks.items.items c.in-Some.at now) in
@@ -59,9 +59,9 @@ returns-in-Some-clause-err c =
     let id : ℕ = c.args.id in
     let was : Chunk = c.index_mut.result.now in
     let now : Chunk = c.add_bits.new.self in
-    let is : value_at chunks (id / 262144) ≡ Some was = (c.in-Some.ensures.some.1 ∙ slice_get_read chunks.items.items (length chunks.items.items) c.in-Some.at c.index_mut.result.now (omega arith) c.in-Some.ensures.some.0 c.index_mut.ensures.value) in
+    let is : value_at chunks (id / 262144) ≡ Some was = (c.in-Some.ensures.found.1 ∙ slice_get_read chunks.items.items (length chunks.items.items) c.in-Some.at c.index_mut.result.now (omega arith) c.in-Some.ensures.found.0 c.index_mut.ensures.value) in
     let put : (k : ℕ) → k < 4096 → value_of_place (value_in chunks.groups) (set chunks.items.items c.in-Some.at now) k ≡ (if k == id / 262144 then Some now else value_at chunks k) =
-    set-values (value_in chunks.groups) (length chunks.items.items) (id / 262144) c.in-Some.at chunks.items.items now chunks.laid_out (omega arith) c.in-Some.ensures.place c.in-Some.ensures.some.0 in
+    set-values (value_in chunks.groups) (length chunks.items.items) (id / 262144) c.in-Some.at chunks.items.items now chunks.laid_out (omega arith) c.in-Some.ensures.is_place c.in-Some.ensures.found.0 in
     let new : ℕ → Option Chunk = value_of_place (value_in chunks.groups) (set chunks.items.items c.in-Some.at now) in
     let old_past = place-past chunks.groups chunks.items.items in
     let new_past = place-past chunks.groups (set chunks.items.items c.in-Some.at now) in
@@ -72,7 +72,7 @@ returns-in-Some-clause-err c =
 
 pub invariant_of-self-2 : goal.invariant_of-self-2
 invariant_of-self-2 c =
-    let full = full-insert c.insert.result c.args.self.now.chunks c.insert.new.self c.args.id c.add_bits-2.new.self c.insert.ensures.put c.insert.ensures.err c.in_ok-add_bits.ensures.some c.args.self.now.full in
+    let full = full-insert c.insert.result c.args.self.now.chunks c.insert.new.self c.args.id c.add_bits-2.new.self c.insert.ensures.put c.insert.ensures.err c.in_ok-add_bits.ensures.nonempty c.args.self.now.full in
     record { full = full; summed = full-summed c.insert.new.self full }
 
 pub returns-in_err-insert-clause-err : goal.returns-in_err-insert-clause-err
@@ -87,7 +87,7 @@ unfolding has word_of
 returns-clause-added c = λ i.
     let chunks = c.args.self.now.chunks in
     let id : ℕ = c.args.id in
-    let none : value_at chunks (id / 262144) ≡ None = c.in_default.ensures.none in
+    let none : value_at chunks (id / 262144) ≡ None = c.in_default.ensures.absent in
     holds-under c.insert.new.self i
     ∙ (set-word-added (value_at chunks) (value_at c.insert.new.self) id c.args.bits c.add_bits-2.new.self c.in_ok-insert.ensures.put (place-past chunks.groups chunks.items.items) (place-past c.insert.new.self.groups c.insert.new.self.items.items) c.requires.index
     (λ r low. c.in_ok-add_bits.ensures.added r low ∙ ap (λ b. b || is_in_word (id % 262144) c.args.bits r) (c.new-chunk.ensures r ∙ sym (ap (λ o. has_under o r) none ∙ none-under r))) i

@@ -15,10 +15,10 @@ pub returns-in_default-clause-members : goal.returns-in_default-clause-members
 unfolding has word_of
 returns-in_default-clause-members c = λ i low. elim (same_or_not (i / 262144) c.args.c) [
   | inl same ↦
-      let none : value_at c.args.self.now.chunks (i / 262144) ≡ None = ap (value_at c.args.self.now.chunks) same ∙ c.in_default.ensures.none in
+      let none : value_at c.args.self.now.chunks (i / 262144) ≡ None = ap (value_at c.args.self.now.chunks) same ∙ c.in_default.ensures.absent in
       let root : c.args.chunk.words.groups.word ≡ 0 = elim (same_or_not c.args.chunk.words.groups.word 0) [
         | inl empty ↦ empty
-        | inr some ↦ absurd (let there = c.requires.there (omega (arith, some)) in none-some there.0 (sym c.in_default.ensures.none ∙ there.1))
+        | inr some ↦ absurd (let there = c.requires.has_value (omega (arith, some)) in none-some there.0 (sym c.in_default.ensures.absent ∙ there.1))
       ] in
       rw (eq_same (i / 262144) c.args.c same) (holds-under c.args.self.now.chunks i ∙ (ap (λ o. has_under o (i % 262144)) none ∙ (none-under (i % 262144) ∙ sym (root-none c.args.chunk root (i % 262144)))))
   | inr other ↦ rw (eq_other (i / 262144) c.args.c other) refl

@@ -12,17 +12,17 @@ groups-init g c = covers-first c.args.self.now c.args.other.now
 
 pub groups-preserved : goal.groups-preserved
 groups-preserved g c =
-    let bit = c.take_lowest-q.ensures in
-    let takes : TakesLowest c.groups.left c.take_lowest-q.new.word c.take_lowest-q.result = record {
-      below = bit.below;
-      stood = bit.stood;
+    let bit = c.take_bit-q.ensures in
+    let takes : TakesLowest c.groups.left c.take_bit-q.new.word c.take_bit-q.result = record {
+      below = bit.in_word;
+      stood = bit.bit_was_set;
       lowest = bit.lowest;
-      gone = bit.gone;
+      gone = bit.bit_cleared;
       same = bit.same;
     } in
-    covers-more c.args.self.now c.args.other.now c.groups.left c.take_lowest-q.new.word c.take_lowest-q.result (bit_or c.word.result c.word-word.result) takes
+    covers-more c.args.self.now c.args.other.now c.groups.left c.take_bit-q.new.word c.take_bit-q.result (bit_or c.word.result c.word-word.result) takes
     (λ b. bit_at_or c.word.result c.word-word.result b
-    ∙ (ap (λ w. max (bit_at w b) (bit_at c.word-word.result b)) c.word.ensures ∙ ap (λ w. max (bit_at (group_word c.args.other.now c.take_lowest-q.result) b) (bit_at w b)) c.word-word.ensures))
+    ∙ (ap (λ w. max (bit_at w b) (bit_at c.word-word.result b)) c.word.ensures ∙ ap (λ w. max (bit_at (group_word c.args.other.now c.take_bit-q.result) b) (bit_at w b)) c.word-word.ensures))
     (c.if-word.false ∙ c.word-word.ensures) c.groups.invariant
 
 pub returns : goal.returns

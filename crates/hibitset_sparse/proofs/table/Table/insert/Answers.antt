@@ -44,8 +44,8 @@ widen-requires-clause-free g c =
       | inr off ↦ off
     ]
 
-pub widen-requires-clause-room : goal.widen-requires-clause-room
-widen-requires-clause-room g c = laid-room c.args.self.now.groups (length c.args.self.now.items.items) c.args.self.now.laid_out
+pub widen-requires-clause-have_room : goal.widen-requires-clause-have_room
+widen-requires-clause-have_room g c = laid-room c.args.self.now.groups (length c.args.self.now.items.items) c.args.self.now.laid_out
 
 pub widen-requires-clause-fits : goal.widen-requires-clause-fits
 widen-requires-clause-fits g c =

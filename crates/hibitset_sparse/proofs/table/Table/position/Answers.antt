@@ -18,8 +18,8 @@ overflow_add-result g c =
     let few = laid-few (value_in table.groups) (length table.items.items) table.laid_out in
     omega (arith, inside, rank, few)
 
-pub returns-clause-some : goal.returns-clause-some
-returns-clause-some g c =
+pub returns-clause-found : goal.returns-clause-found
+returns-clause-found g c =
     let table = c.args.self.now in
     let group = c.in_ok-group.group.now in
     let on : bit_is_set group.word (c.args.i % 64) ≡ true = sym c.is_set.ensures ∙ c.if-not-is_set.false in
@@ -30,8 +30,8 @@ returns-clause-some g c =
           ∙ (value-on (λ k. slice_get table.items.items (group.start + k)) group.word (c.args.i % 64) on ∙ ap (λ k. slice_get table.items.items (group.start + k)) (sym rank)),
     )
 
-pub returns-clause-place : goal.returns-clause-place
-returns-clause-place g c =
+pub returns-clause-is_place : goal.returns-clause-is_place
+returns-clause-is_place g c =
     let group = c.in_ok-group.group.now in
     let on : bit_is_set group.word (c.args.i % 64) ≡ true = sym c.is_set.ensures ∙ c.if-not-is_set.false in
     record {

@@ -15,8 +15,8 @@ invariant_of-self g c =
     let q : ℕ = c.args.i / 64 in
     let bit : ℕ = c.args.i % 64 in
     let is = c.narrow.ensures.narrower in
-    let place = c.in_ok-at.ensures.place in
-    let inside = c.in_ok-at.ensures.some.0 in
+    let place = c.in_ok-at.ensures.is_place in
+    let inside = c.in_ok-at.ensures.found.0 in
     let n : ℕ = length table.items.items - 1 in
     let count : n + 1 ≡ length table.items.items = omega (arith, inside) in
     let laid : AreLaidOut (value_in table.groups) (n + 1) = rw count table.laid_out in
@@ -27,10 +27,10 @@ invariant_of-self g c =
     let same : length c.remove.new.self.items ≡ n = omega (arith, items, long, count) in
     record { laid_out = rw same narrow }
 
-pub returns-clause-was : goal.returns-clause-was
-returns-clause-was g c =
+pub returns-clause-old_value : goal.returns-clause-old_value
+returns-clause-old_value g c =
     let table = c.args.self.now in
-    sym (c.in_ok-at.ensures.some.1 ∙ slice_get_read table.items.items (length table.items.items) c.in_ok-at.at c.remove.result refl c.in_ok-at.ensures.some.0 c.remove.ensures.value)
+    sym (c.in_ok-at.ensures.found.1 ∙ slice_get_read table.items.items (length table.items.items) c.in_ok-at.at c.remove.result refl c.in_ok-at.ensures.found.0 c.remove.ensures.value)
 
 pub returns-clause-put : goal.returns-clause-put
 returns-clause-put g c = λ j low.
@@ -38,8 +38,8 @@ returns-clause-put g c = λ j low.
     let q : ℕ = c.args.i / 64 in
     let bit : ℕ = c.args.i % 64 in
     let is = c.narrow.ensures.narrower in
-    let place = c.in_ok-at.ensures.place in
-    let inside = c.in_ok-at.ensures.some.0 in
+    let place = c.in_ok-at.ensures.is_place in
+    let inside = c.in_ok-at.ensures.found.0 in
     let n : ℕ = length table.items.items - 1 in
     let count : n + 1 ≡ length table.items.items = omega (arith, inside) in
     let laid : AreLaidOut (value_in table.groups) (n + 1) = rw count table.laid_out in
@@ -54,10 +54,10 @@ returns-clause-put g c = λ j low.
     (longer-remove c.remove.new.self.items table.items.items (is.of.start + rank_in is.word bit) within items) (omega arith) j low
 
 -- a group behind one with values does not begin at 0
-pub narrow-requires-clause-room : goal.narrow-requires-clause-room
-narrow-requires-clause-room g c = λ p h more low some.
+pub narrow-requires-clause-can_lower : goal.narrow-requires-clause-can_lower
+narrow-requires-clause-can_lower g c = λ p h more low some.
     let table = c.args.self.now in
-    let place = c.in_ok-at.ensures.place in
+    let place = c.in_ok-at.ensures.is_place in
     let q : ℕ = c.args.i / 64 in
     let starts = table.laid_out.starts p h low some in
     let here = place-within (value_in table.groups) (length table.items.items) q (c.args.i % 64) place.of table.laid_out (omega arith) place.is place.on in

@@ -21,112 +21,112 @@ groups-init g c =
 
 pub index-group-requires : goal.index-group-requires
 index-group-requires g c =
-    let bit = c.take_lowest-q.ensures in
-    let takes : TakesLowest c.groups.left c.take_lowest-q.new.word c.take_lowest-q.result = record {
-      below = bit.below;
-      stood = bit.stood;
+    let bit = c.take_bit-q.ensures in
+    let takes : TakesLowest c.groups.left c.take_bit-q.new.word c.take_bit-q.result = record {
+      below = bit.in_word;
+      stood = bit.bit_was_set;
       lowest = bit.lowest;
-      gone = bit.gone;
+      gone = bit.bit_cleared;
       same = bit.same;
     } in
     let row = c.args.self.groups in
     let list = c.groups.list.items in
-    let on = c.groups.invariant.groups.part c.take_lowest-q.result bit.below bit.stood in
-    let ranked = rank-within row.word c.take_lowest-q.result on in
+    let on = c.groups.invariant.groups.part c.take_bit-q.result bit.in_word bit.bit_was_set in
+    let ranked = rank-within row.word c.take_bit-q.result on in
     let rank = c.rank.ensures in
     let counted = row.counted in
     let long = c.groups.invariant.groups.long in
-    let inside : rank_in row.word c.take_lowest-q.result < length list = omega (arith, ranked, counted, long) in
+    let inside : rank_in row.word c.take_bit-q.result < length list = omega (arith, ranked, counted, long) in
     omega (arith, inside, rank, c.groups.list.ok.0)
 
 pub retain_group-word-requires-clause-order : goal.retain_group-word-requires-clause-order
 retain_group-word-requires-clause-order g c =
-    let bit = c.take_lowest-q.ensures in
-    let takes : TakesLowest c.groups.left c.take_lowest-q.new.word c.take_lowest-q.result = record {
-      below = bit.below;
-      stood = bit.stood;
+    let bit = c.take_bit-q.ensures in
+    let takes : TakesLowest c.groups.left c.take_bit-q.new.word c.take_bit-q.result = record {
+      below = bit.in_word;
+      stood = bit.bit_was_set;
       lowest = bit.lowest;
-      gone = bit.gone;
+      gone = bit.bit_cleared;
       same = bit.same;
     } in
     let row = c.args.self.groups in
     let list = c.groups.list.items in
-    let on = c.groups.invariant.groups.part c.take_lowest-q.result bit.below bit.stood in
-    let ranked = rank-within row.word c.take_lowest-q.result on in
+    let on = c.groups.invariant.groups.part c.take_bit-q.result bit.in_word bit.bit_was_set in
+    let ranked = rank-within row.word c.take_bit-q.result on in
     let rank = c.rank.ensures in
     let counted = row.counted in
     let long = c.groups.invariant.groups.long in
-    let inside : rank_in row.word c.take_lowest-q.result < length list = omega (arith, ranked, counted, long) in
-    let read : slice_get list (rank_in row.word c.take_lowest-q.result) ≡ Some c.index-group.result.now =
+    let inside : rank_in row.word c.take_bit-q.result < length list = omega (arith, ranked, counted, long) in
+    let read : slice_get list (rank_in row.word c.take_bit-q.result) ≡ Some c.index-group.result.now =
     ap (slice_get list) (sym rank) ∙ slice_get_read list (length list) c.rank.result c.index-group.result.now refl (omega (arith, inside, rank)) c.index-group.ensures in
-    retain-order (g.G.GroupChange.leaves c.args.by.now) c.args.self.groups.word c.args.self.groups.items.items c.args.self.items.items c.args.self.laid_out c.groups.left c.take_lowest-q.new.word c.take_lowest-q.result c.groups.root c.groups.at c.groups.to list c.groups.items.items takes c.groups.invariant c.index-group.result.now read
+    retain-order (g.G.GroupChange.leaves c.args.by.now) c.args.self.groups.word c.args.self.groups.items.items c.args.self.items.items c.args.self.laid_out c.groups.left c.take_bit-q.new.word c.take_bit-q.result c.groups.root c.groups.at c.groups.to list c.groups.items.items takes c.groups.invariant c.index-group.result.now read
 
 pub retain_group-word-requires-clause-within : goal.retain_group-word-requires-clause-within
 retain_group-word-requires-clause-within g c =
-    let bit = c.take_lowest-q.ensures in
-    let takes : TakesLowest c.groups.left c.take_lowest-q.new.word c.take_lowest-q.result = record {
-      below = bit.below;
-      stood = bit.stood;
+    let bit = c.take_bit-q.ensures in
+    let takes : TakesLowest c.groups.left c.take_bit-q.new.word c.take_bit-q.result = record {
+      below = bit.in_word;
+      stood = bit.bit_was_set;
       lowest = bit.lowest;
-      gone = bit.gone;
+      gone = bit.bit_cleared;
       same = bit.same;
     } in
     let row = c.args.self.groups in
     let list = c.groups.list.items in
-    let on = c.groups.invariant.groups.part c.take_lowest-q.result bit.below bit.stood in
-    let ranked = rank-within row.word c.take_lowest-q.result on in
+    let on = c.groups.invariant.groups.part c.take_bit-q.result bit.in_word bit.bit_was_set in
+    let ranked = rank-within row.word c.take_bit-q.result on in
     let rank = c.rank.ensures in
     let counted = row.counted in
     let long = c.groups.invariant.groups.long in
-    let inside : rank_in row.word c.take_lowest-q.result < length list = omega (arith, ranked, counted, long) in
-    let read : slice_get list (rank_in row.word c.take_lowest-q.result) ≡ Some c.index-group.result.now =
+    let inside : rank_in row.word c.take_bit-q.result < length list = omega (arith, ranked, counted, long) in
+    let read : slice_get list (rank_in row.word c.take_bit-q.result) ≡ Some c.index-group.result.now =
     ap (slice_get list) (sym rank) ∙ slice_get_read list (length list) c.rank.result c.index-group.result.now refl (omega (arith, inside, rank)) c.index-group.ensures in
-    retain-within (g.G.GroupChange.leaves c.args.by.now) c.args.self.groups.word c.args.self.groups.items.items c.args.self.items.items c.args.self.laid_out c.groups.left c.take_lowest-q.new.word c.take_lowest-q.result c.groups.root c.groups.at c.groups.to list c.groups.items.items takes c.groups.invariant c.index-group.result.now read
+    retain-within (g.G.GroupChange.leaves c.args.by.now) c.args.self.groups.word c.args.self.groups.items.items c.args.self.items.items c.args.self.laid_out c.groups.left c.take_bit-q.new.word c.take_bit-q.result c.groups.root c.groups.at c.groups.to list c.groups.items.items takes c.groups.invariant c.index-group.result.now read
 
 pub index_mut-requires : goal.index_mut-requires
 index_mut-requires g c =
-    let bit = c.take_lowest-q.ensures in
-    let takes : TakesLowest c.groups.left c.take_lowest-q.new.word c.take_lowest-q.result = record {
-      below = bit.below;
-      stood = bit.stood;
+    let bit = c.take_bit-q.ensures in
+    let takes : TakesLowest c.groups.left c.take_bit-q.new.word c.take_bit-q.result = record {
+      below = bit.in_word;
+      stood = bit.bit_was_set;
       lowest = bit.lowest;
-      gone = bit.gone;
+      gone = bit.bit_cleared;
       same = bit.same;
     } in
     let row = c.args.self.groups in
     let list = c.groups.list.items in
-    let on = c.groups.invariant.groups.part c.take_lowest-q.result bit.below bit.stood in
-    let ranked = rank-within row.word c.take_lowest-q.result on in
+    let on = c.groups.invariant.groups.part c.take_bit-q.result bit.in_word bit.bit_was_set in
+    let ranked = rank-within row.word c.take_bit-q.result on in
     let rank = c.rank.ensures in
     let counted = row.counted in
     let long = c.groups.invariant.groups.long in
-    let inside : rank_in row.word c.take_lowest-q.result < length list = omega (arith, ranked, counted, long) in
-    let upto = at-upto (λ p h o. Unit {0}) row.word 0 0 row.items.items (omega arith) c.groups.left c.take_lowest-q.new.word c.take_lowest-q.result c.groups.root c.groups.at list takes c.groups.invariant.groups in
+    let inside : rank_in row.word c.take_bit-q.result < length list = omega (arith, ranked, counted, long) in
+    let upto = at-upto (λ p h o. Unit {0}) row.word 0 0 row.items.items (omega arith) c.groups.left c.take_bit-q.new.word c.take_bit-q.result c.groups.root c.groups.at list takes c.groups.invariant.groups in
     omega (arith, inside, upto, c.groups.list.ok.0)
 
 pub groups-preserved-then-word-ne0 : goal.groups-preserved-then-word-ne0
 groups-preserved-then-word-ne0 g c =
-    let bit = c.take_lowest-q.ensures in
-    let takes : TakesLowest c.groups.left c.take_lowest-q.new.word c.take_lowest-q.result = record {
-      below = bit.below;
-      stood = bit.stood;
+    let bit = c.take_bit-q.ensures in
+    let takes : TakesLowest c.groups.left c.take_bit-q.new.word c.take_bit-q.result = record {
+      below = bit.in_word;
+      stood = bit.bit_was_set;
       lowest = bit.lowest;
-      gone = bit.gone;
+      gone = bit.bit_cleared;
       same = bit.same;
     } in
     let row = c.args.self.groups in
     let list = c.groups.list.items in
-    let on = c.groups.invariant.groups.part c.take_lowest-q.result bit.below bit.stood in
-    let ranked = rank-within row.word c.take_lowest-q.result on in
+    let on = c.groups.invariant.groups.part c.take_bit-q.result bit.in_word bit.bit_was_set in
+    let ranked = rank-within row.word c.take_bit-q.result on in
     let rank = c.rank.ensures in
     let counted = row.counted in
     let long = c.groups.invariant.groups.long in
-    let inside : rank_in row.word c.take_lowest-q.result < length list = omega (arith, ranked, counted, long) in
-    let read : slice_get list (rank_in row.word c.take_lowest-q.result) ≡ Some c.index-group.result.now =
+    let inside : rank_in row.word c.take_bit-q.result < length list = omega (arith, ranked, counted, long) in
+    let read : slice_get list (rank_in row.word c.take_bit-q.result) ≡ Some c.index-group.result.now =
     ap (slice_get list) (sym rank) ∙ slice_get_read list (length list) c.rank.result c.index-group.result.now refl (omega (arith, inside, rank)) c.index-group.ensures in
-    let upto = at-upto (λ p h o. Unit {0}) row.word 0 0 row.items.items (omega arith) c.groups.left c.take_lowest-q.new.word c.take_lowest-q.result c.groups.root c.groups.at list takes c.groups.invariant.groups in
+    let upto = at-upto (λ p h o. Unit {0}) row.word 0 0 row.items.items (omega arith) c.groups.left c.take_bit-q.new.word c.take_bit-q.result c.groups.root c.groups.at list takes c.groups.invariant.groups in
     let some : 0 < c.retain_group-word.result = (let other = c.if-word-ne0.true in omega (arith, other)) in
-    group-kept (g.G.GroupChange.leaves c.args.by.now) c.args.self.groups.word c.args.self.groups.items.items c.args.self.items.items c.args.self.laid_out c.groups.left c.take_lowest-q.new.word c.take_lowest-q.result c.groups.root c.groups.at c.groups.to list c.groups.items.items takes c.groups.invariant c.index-group.result.now read c.retain_group-word.result c.retain_group-word.new.items.items c.retain_group-word.ensures
+    group-kept (g.G.GroupChange.leaves c.args.by.now) c.args.self.groups.word c.args.self.groups.items.items c.args.self.items.items c.args.self.laid_out c.groups.left c.take_bit-q.new.word c.take_bit-q.result c.groups.root c.groups.at c.groups.to list c.groups.items.items takes c.groups.invariant c.index-group.result.now read c.retain_group-word.result c.retain_group-word.new.items.items c.retain_group-word.ensures
     c.with_bit-root.result (set list c.groups.at (record { word = c.retain_group-word.result; start = c.groups.to })) some (omega arith) (omega arith) c.with_bit-root.ensures.here c.with_bit-root.ensures.same
     (get-set_at list c.groups.at (record { word = c.retain_group-word.result; start = c.groups.to }) (omega (arith, inside, upto)))
     (λ k apart. get-set_other list c.groups.at (record { word = c.retain_group-word.result; start = c.groups.to }) k apart)
@@ -134,25 +134,25 @@ groups-preserved-then-word-ne0 g c =
 
 pub groups-preserved : goal.groups-preserved
 groups-preserved g c =
-    let bit = c.take_lowest-q.ensures in
-    let takes : TakesLowest c.groups.left c.take_lowest-q.new.word c.take_lowest-q.result = record {
-      below = bit.below;
-      stood = bit.stood;
+    let bit = c.take_bit-q.ensures in
+    let takes : TakesLowest c.groups.left c.take_bit-q.new.word c.take_bit-q.result = record {
+      below = bit.in_word;
+      stood = bit.bit_was_set;
       lowest = bit.lowest;
-      gone = bit.gone;
+      gone = bit.bit_cleared;
       same = bit.same;
     } in
     let row = c.args.self.groups in
     let list = c.groups.list.items in
-    let on = c.groups.invariant.groups.part c.take_lowest-q.result bit.below bit.stood in
-    let ranked = rank-within row.word c.take_lowest-q.result on in
+    let on = c.groups.invariant.groups.part c.take_bit-q.result bit.in_word bit.bit_was_set in
+    let ranked = rank-within row.word c.take_bit-q.result on in
     let rank = c.rank.ensures in
     let counted = row.counted in
     let long = c.groups.invariant.groups.long in
-    let inside : rank_in row.word c.take_lowest-q.result < length list = omega (arith, ranked, counted, long) in
-    let read : slice_get list (rank_in row.word c.take_lowest-q.result) ≡ Some c.index-group.result.now =
+    let inside : rank_in row.word c.take_bit-q.result < length list = omega (arith, ranked, counted, long) in
+    let read : slice_get list (rank_in row.word c.take_bit-q.result) ≡ Some c.index-group.result.now =
     ap (slice_get list) (sym rank) ∙ slice_get_read list (length list) c.rank.result c.index-group.result.now refl (omega (arith, inside, rank)) c.index-group.ensures in
-    group-gone (g.G.GroupChange.leaves c.args.by.now) c.args.self.groups.word c.args.self.groups.items.items c.args.self.items.items c.args.self.laid_out c.groups.left c.take_lowest-q.new.word c.take_lowest-q.result c.groups.root c.groups.at c.groups.to list c.groups.items.items takes c.groups.invariant c.index-group.result.now read c.retain_group-word.result c.retain_group-word.new.items.items c.retain_group-word.ensures c.if-word-ne0.false
+    group-gone (g.G.GroupChange.leaves c.args.by.now) c.args.self.groups.word c.args.self.groups.items.items c.args.self.items.items c.args.self.laid_out c.groups.left c.take_bit-q.new.word c.take_bit-q.result c.groups.root c.groups.at c.groups.to list c.groups.items.items takes c.groups.invariant c.index-group.result.now read c.retain_group-word.result c.retain_group-word.new.items.items c.retain_group-word.ensures c.if-word-ne0.false
 
 pub invariant_of-result-2 : goal.invariant_of-result-2
 invariant_of-result-2 g c = record {

@@ -7,7 +7,7 @@ use Rattle.hibitset_sparse.proofs.table_iter.TableIter.next.Goals as goal
 pub groups-preserved : goal.groups-preserved
 groups-preserved g c =
     let walk = c.groups.self in
-    let taken = group-next walk.root c.take_first_bit.new.word c.take_first_bit.result c.in-Some-split_first.group.now c.in-Some-split_first.groups.now walk.groups.now c.in-Some-split_first.ensures.cases.0 c.take_first_bit.ensures.first in
+    let taken = group-next walk.root c.take_bit.new.word c.take_bit.result c.in-Some-split_first.group.now c.in-Some-split_first.groups.now walk.groups.now c.in-Some-split_first.ensures.cases.0 c.take_bit.ensures.first in
     record { places = sym taken ∙ (sym (group-over walk.first walk.word _ c.groups-test.true) ∙ c.groups.invariant.places); items = c.groups.invariant.items }
 
 pub returns-in_default-clause-steps : goal.returns-in_default-clause-steps
@@ -36,6 +36,6 @@ pub returns-clause-steps : goal.returns-clause-steps
 unfolding entries_left
 returns-clause-steps g c =
     let walk = c.groups.self in
-    place-next walk.first walk.word c.take_first_bit-2.new.word c.take_first_bit-2.result _
+    place-next walk.first walk.word c.take_bit-2.new.word c.take_bit-2.result _
     (places_left c.args.self.now) c.in-Some.item.now c.in-Some.items.now c.args.self.now.items.now
-    c.groups.invariant.places c.in-Some.ensures.cases.0 c.take_first_bit-2.ensures.first
+    c.groups.invariant.places c.in-Some.ensures.cases.0 c.take_bit-2.ensures.first

@@ -7,14 +7,14 @@ use Rattle.hibitset_store.proofs.PageLemmas.{no_value}
 use Rattle.hibitset_store.proofs.CapacityLemmas.{slots-bounded, room-of_some}
 use Rattle.hibitset_store.proofs.columns.Column.insert.Goals as goal
 
-pub returns-then-contains-clause-made : goal.returns-then-contains-clause-made
+pub returns-then-contains-clause-has_room : goal.returns-then-contains-clause-has_room
 unfolding value_of slots table_len list_len words_len IsPageTable
-returns-then-contains-clause-made g c =
+returns-then-contains-clause-has_room g c =
     let column = c.args.self.now in
     let some : is_some (value_of column c.args.id) ≡ true = sym (column.covers c.args.id) ∙ (sym c.contains.ensures ∙ c.if-contains.true) in
     let (page, word) = room-of_some column.mask column.pages column.covers column.laid_out c.args.id some in
-    let words = c.write_over.ensures.keeps.words in
-    (c.write_over.ensures.keeps.pages (c.args.id / PAGE) ∙ page, omega (arith, word, words))
+    let words = c.write_over.ensures.keeps_room.words in
+    (c.write_over.ensures.keeps_room.pages (c.args.id / PAGE) ∙ page, omega (arith, word, words))
 
 pub returns-then-contains-clause-list : goal.returns-then-contains-clause-list
 unfolding slots table_len list_len IsPageTable
@@ -24,9 +24,9 @@ pub returns-in_err-insert_new-clause-list : goal.returns-in_err-insert_new-claus
 unfolding slots table_len list_len IsPageTable
 returns-in_err-insert_new-clause-list g c = slots-bounded _ c.insert_new.new.self.laid_out
 
-pub returns-clause-was : goal.returns-clause-was
+pub returns-clause-old_value : goal.returns-clause-old_value
 unfolding value_of
-returns-clause-was g c = let column = c.args.self.now in sym (no_value _ _ (column.covers c.args.id) (sym c.contains.ensures ∙ c.if-contains.false))
+returns-clause-old_value g c = let column = c.args.self.now in sym (no_value _ _ (column.covers c.args.id) (sym c.contains.ensures ∙ c.if-contains.false))
 
 pub returns-clause-list : goal.returns-clause-list
 unfolding slots table_len list_len IsPageTable

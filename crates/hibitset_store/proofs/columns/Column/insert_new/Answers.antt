@@ -27,22 +27,22 @@ invariant_of-self-2 g c =
     let column = c.args.self.now in
     let add = c.in-Ok-add.ensures in
     let put = c.swap_value.ensures.put c.args.id c.in-Ok.ensures.slot in
-    let new : has column.mask c.args.id ≡ false = column.covers c.args.id ∙ ap is_some c.requires.none in
+    let new : has column.mask c.args.id ≡ false = column.covers c.args.id ∙ ap is_some c.requires.absent in
     record {
       covers = λ i. add.added i ∙ is_some-with i c.args.id _ _ _ c.args.value (column.covers i ∙ ap is_some (sym (c.in-Ok.ensures.same i))) (put i);
       laid_out = PageTableInvariant-put _ _ c.args.id _ c.in-Ok.ensures.laid_out c.swap_value.ensures.many c.in-Ok.ensures.made put;
-      counts = count-with (has column.mask) (has c.add.new.self) c.args.id MAX_EID column.count 1 false add.added (sym new) refl column.counts c.requires.below;
+      counts = count-with (has column.mask) (has c.add.new.self) c.args.id MAX_EID column.count 1 false add.added (sym new) refl column.counts c.requires.in_range;
     }
 
 pub returns-clause-inserted : goal.returns-clause-inserted
 unfolding value_of
 returns-clause-inserted g c = λ i. c.swap_value.ensures.put c.args.id c.in-Ok.ensures.slot i ∙ ap (λ rest. if i == c.args.id then Some c.args.value else rest) (c.in-Ok.ensures.same i)
 
-pub returns-clause-unused : goal.returns-clause-unused
+pub returns-clause-keeps_room : goal.returns-clause-keeps_room
 unfolding slots table_len list_len words_len
-returns-clause-unused g c = λ room.
+returns-clause-keeps_room g c = λ room.
     let (page, word) = room in
-    let made = c.in-Ok.ensures.unused page in
+    let made = c.in-Ok.ensures.keeps_slots page in
     let keeps = c.in-Ok-add.ensures.len_min in
     let most = c.in-Ok-add.ensures.len_max in
     record {
@@ -52,22 +52,22 @@ returns-clause-unused g c = λ room.
       words = omega (arith, keeps, most, word);
     }
 
-pub returns-clause-made : goal.returns-clause-made
+pub returns-clause-has_room : goal.returns-clause-has_room
 unfolding slots words_len
-returns-clause-made g c =
+returns-clause-has_room g c =
     let there : has c.add.new.self c.args.id ≡ true = let put = c.in-Ok-add.ensures.added c.args.id in grind (arith, nat_tests, put) in
     let page = c.in-Ok.ensures.made in
     (slots_in-many _ _ c.swap_value.ensures.many (c.args.id / PAGE) ∙ page, word-of_member c.add.new.self c.args.id there)
 
-pub returns-clause-most : goal.returns-clause-most
+pub returns-clause-makes_room : goal.returns-clause-makes_room
 unfolding slots table_len words_len
-returns-clause-most g c =
+returns-clause-makes_room g c =
     let many = c.swap_value.ensures.many in
     let same = ap length many.starts in
     let before = c.args.self.now.pages.starts.ok.0 in
     let after = c.make_slot.new.self.starts.ok.0 in
-    let keeps = c.in-Ok.ensures.keeps in
-    let most = c.in-Ok.ensures.most in
+    let keeps = c.in-Ok.ensures.len_min in
+    let most = c.in-Ok.ensures.len_max in
     record {
       page = inr (slots_in-many _ _ many (c.args.id / PAGE) ∙ c.in-Ok.ensures.made);
       others = λ p other. slots_in-many _ _ many p ∙ c.in-Ok.ensures.others p other;

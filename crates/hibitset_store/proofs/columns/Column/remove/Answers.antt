@@ -14,7 +14,7 @@ use Rattle.hibitset_store.proofs.columns.Column.remove.Goals as goal
 pub overflow_sub-self : goal.overflow_sub-self
 overflow_sub-self g c =
     let mask = c.args.self.now.mask in
-    let there : has mask c.args.id ≡ true = sym c.remove.ensures.was ∙ c.if-not-remove.false in
+    let there : has mask c.args.id ≡ true = sym c.remove.ensures.was_member ∙ c.if-not-remove.false in
     let less = members-without (has mask) (has c.remove.new.self) c.args.id MAX_EID c.remove.ensures.removed there (has_within mask c.args.id there) in
     omega (arith, less, c.args.self.now.counts)
 
@@ -22,7 +22,7 @@ pub invariant_of-self-2 : goal.invariant_of-self-2
 unfolding IsPageTable
 invariant_of-self-2 g c =
     let mask = c.args.self.now.mask in
-    let there : has mask c.args.id ≡ true = sym c.remove.ensures.was ∙ c.if-not-remove.false in
+    let there : has mask c.args.id ≡ true = sym c.remove.ensures.was_member ∙ c.if-not-remove.false in
     let less = members-without (has mask) (has c.remove.new.self) c.args.id MAX_EID c.remove.ensures.removed there (has_within mask c.args.id there) in
     record {
       covers = λ i. c.remove.ensures.removed i ∙ is_some-without i c.args.id _ _ _ (c.args.self.now.covers i) (c.swap_value.ensures.put c.args.id c.slot-slot.ensures i);
@@ -30,10 +30,10 @@ invariant_of-self-2 g c =
       counts = omega (arith, less, c.args.self.now.counts);
     }
 
-pub returns-clause-room : goal.returns-clause-room
+pub returns-clause-has_room : goal.returns-clause-has_room
 unfolding slots words_len IsPageTable
-returns-clause-room g c = λ some.
+returns-clause-has_room g c = λ some.
     let column = c.args.self.now in
-    let was = ap is_some (ap (value_in column.pages.slots.items) (sym c.slot-slot.ensures) ∙ sym c.swap_value.ensures.was) ∙ some in
+    let was = ap is_some (ap (value_in column.pages.slots.items) (sym c.slot-slot.ensures) ∙ sym c.swap_value.ensures.old_value) ∙ some in
     let (page, word) = room-of_some column.mask column.pages column.covers column.laid_out c.args.id was in
     (slots_in-many _ _ c.swap_value.ensures.many (c.args.id / PAGE) ∙ page, rw c.remove.ensures.length word)

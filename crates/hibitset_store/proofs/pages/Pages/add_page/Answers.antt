@@ -15,4 +15,4 @@ returns-then-page-self-clause-laid_out g c =
       | then-is_worth_order+in_ok-put_in_order w ↦ rw w.self-is w.put_in_order.ensures.starts
       | else-is_worth_order w ↦ rw w.self-is refl
     ] in
-    PageTableInvariant-ordered pages _ c.args.page laid (rw starts c.requires.within) c.if-page-self.true (rw starts c.requires.none) refl refl refl
+    PageTableInvariant-ordered pages _ c.args.page laid (rw starts c.requires.within) c.if-page-self.true (rw starts c.requires.no_page) refl refl refl

@@ -15,16 +15,16 @@ pub returns-in_err-add_slots-clause-laid_out : goal.returns-in_err-add_slots-cla
 returns-in_err-add_slots-clause-laid_out g c = PageTableInvariant-equal c.args.self.now _ refl c.in_err-add_slots.ensures.err refl c.requires.laid_out
 
 pub returns-then-start-self-clause-same : goal.returns-then-start-self-clause-same
-returns-then-start-self-clause-same g c = value_at-made_next c.args.self.now (record { starts = with_item c.args.self.now.starts c.args.page c.len-start.result; slots = c.add_slots.new.slots; in_order = c.args.self.now.in_order + PAGE }) c.args.page c.len-start.result (c.len-start.ensures ∙ c.args.self.now.slots.ok.0) c.requires.laid_out c.requires.within (sym c.if-start-page.true ∙ c.if-start-self.true) c.if-start-page.true c.requires.none refl refl c.add_slots.ensures.same c.in_ok-add_slots.ensures.added
+returns-then-start-self-clause-same g c = value_at-made_next c.args.self.now (record { starts = with_item c.args.self.now.starts c.args.page c.len-start.result; slots = c.add_slots.new.slots; in_order = c.args.self.now.in_order + PAGE }) c.args.page c.len-start.result (c.len-start.ensures ∙ c.args.self.now.slots.ok.0) c.requires.laid_out c.requires.within (sym c.if-start-page.true ∙ c.if-start-self.true) c.if-start-page.true c.requires.no_page refl refl c.add_slots.ensures.same c.in_ok-add_slots.ensures.added
 
 pub returns-then-start-self-clause-laid_out : goal.returns-then-start-self-clause-laid_out
-returns-then-start-self-clause-laid_out g c = PageTableInvariant-made_next c.args.self.now _ c.args.page c.len-start.result (c.len-start.ensures ∙ c.args.self.now.slots.ok.0) c.requires.laid_out c.requires.within (sym c.if-start-page.true ∙ c.if-start-self.true) c.if-start-page.true c.requires.none refl refl c.add_slots.ensures.same c.in_ok-add_slots.ensures.added
+returns-then-start-self-clause-laid_out g c = PageTableInvariant-made_next c.args.self.now _ c.args.page c.len-start.result (c.len-start.ensures ∙ c.args.self.now.slots.ok.0) c.requires.laid_out c.requires.within (sym c.if-start-page.true ∙ c.if-start-self.true) c.if-start-page.true c.requires.no_page refl refl c.add_slots.ensures.same c.in_ok-add_slots.ensures.added
 
 pub returns-else-start-page-clause-same : goal.returns-else-start-page-clause-same
-returns-else-start-page-clause-same g c = value_at-made c.args.self.now (record { starts = with_item c.args.self.now.starts c.args.page c.len-start.result; slots = c.add_slots.new.slots; in_order = c.args.self.now.in_order }) c.args.page c.len-start.result (c.len-start.ensures ∙ c.args.self.now.slots.ok.0) c.requires.laid_out c.requires.within c.requires.behind c.requires.none refl refl c.add_slots.ensures.same c.in_ok-add_slots.ensures.added
+returns-else-start-page-clause-same g c = value_at-made c.args.self.now (record { starts = with_item c.args.self.now.starts c.args.page c.len-start.result; slots = c.add_slots.new.slots; in_order = c.args.self.now.in_order }) c.args.page c.len-start.result (c.len-start.ensures ∙ c.args.self.now.slots.ok.0) c.requires.laid_out c.requires.within c.requires.behind c.requires.no_page refl refl c.add_slots.ensures.same c.in_ok-add_slots.ensures.added
 
 pub returns-else-start-page-clause-laid_out : goal.returns-else-start-page-clause-laid_out
-returns-else-start-page-clause-laid_out g c = PageTableInvariant-made c.args.self.now _ c.args.page c.len-start.result (c.len-start.ensures ∙ c.args.self.now.slots.ok.0) c.requires.laid_out c.requires.within c.requires.behind c.requires.none refl refl c.add_slots.ensures.same c.in_ok-add_slots.ensures.added
+returns-else-start-page-clause-laid_out g c = PageTableInvariant-made c.args.self.now _ c.args.page c.len-start.result (c.len-start.ensures ∙ c.args.self.now.slots.ok.0) c.requires.laid_out c.requires.within c.requires.behind c.requires.no_page refl refl c.add_slots.ensures.same c.in_ok-add_slots.ensures.added
 
 pub returns-else-start-page-clause-made : goal.returns-else-start-page-clause-made
-returns-else-start-page-clause-made g c = made-here c.args.self.now (record { starts = with_item c.args.self.now.starts c.args.page c.len-start.result; slots = c.add_slots.new.slots; in_order = c.args.self.now.in_order }) c.args.page c.len-start.result (c.len-start.ensures ∙ c.args.self.now.slots.ok.0) c.requires.laid_out c.requires.within c.requires.behind c.requires.none refl refl c.add_slots.ensures.same c.in_ok-add_slots.ensures.added
+returns-else-start-page-clause-made g c = made-here c.args.self.now (record { starts = with_item c.args.self.now.starts c.args.page c.len-start.result; slots = c.add_slots.new.slots; in_order = c.args.self.now.in_order }) c.args.page c.len-start.result (c.len-start.ensures ∙ c.args.self.now.slots.ok.0) c.requires.laid_out c.requires.within c.requires.behind c.requires.no_page refl refl c.add_slots.ensures.same c.in_ok-add_slots.ensures.added

@@ -19,11 +19,11 @@ keys-init g c = record {
   long = refl;
 }
 
-pub slot_of_key-slot-requires-clause-some : goal.slot_of_key-slot-requires-clause-some
-slot_of_key-slot-requires-clause-some g c = first-left c.args.self.now _ _ c.in-Some.id c.keys.self c.keys.slots.items c.keys.invariant.moving c.in-Some.ensures.steps.0
+pub slot_of_key-slot-requires-clause-has_value : goal.slot_of_key-slot-requires-clause-has_value
+slot_of_key-slot-requires-clause-has_value g c = first-left c.args.self.now _ _ c.in-Some.id c.keys.self c.keys.slots.items c.keys.invariant.moving c.in-Some.ensures.steps.0
 
-pub swap_value-requires-clause-there : goal.swap_value-requires-clause-there
-swap_value-requires-clause-there g c =
+pub swap_value-requires-clause-in_range : goal.swap_value-requires-clause-in_range
+swap_value-requires-clause-in_range g c =
     let some = first-left c.args.self.now _ _ c.in-Some.id c.keys.self c.keys.slots.items c.keys.invariant.moving c.in-Some.ensures.steps.0 in
     let there = slot_of-some c.keys.self c.in-Some.id some in
     let slot = c.slot_of_key-slot.ensures in
@@ -48,7 +48,7 @@ keys-preserved-in-Some g c =
     let long = inv.long in
     let room = c.requires.long in
     record {
-      moving = AreMoving-next c.args.self.now _ _ c.in-Some.id c.keys.self c.swap_value.new.self c.keys.slots.items c.swap_value.result inv.moving c.in-Some.ensures.steps.0 (c.swap_value.ensures.was ∙ ap (value_in c.keys.self.slots.items) c.slot_of_key-slot.ensures) (omega (arith, within, starts, long, room)) c.swap_value.ensures.many (c.swap_value.ensures.put c.in-Some.id c.slot_of_key-slot.ensures);
+      moving = AreMoving-next c.args.self.now _ _ c.in-Some.id c.keys.self c.swap_value.new.self c.keys.slots.items c.swap_value.result inv.moving c.in-Some.ensures.steps.0 (c.swap_value.ensures.old_value ∙ ap (value_in c.keys.self.slots.items) c.slot_of_key-slot.ensures) (omega (arith, within, starts, long, room)) c.swap_value.ensures.many (c.swap_value.ensures.put c.in-Some.id c.slot_of_key-slot.ensures);
       long = length-set c.keys.slots.items c.in-Some.id c.swap_value.result ∙ long;
     }
 
@@ -61,7 +61,7 @@ keys-preserved g c =
     let long = inv.long in
     let room = c.requires.long in
     record {
-      moving = AreMoving-next c.args.self.now _ _ c.in-Some.id c.keys.self c.swap_value.new.self c.keys.slots.items c.swap_value.result inv.moving c.in-Some.ensures.steps.0 (c.swap_value.ensures.was ∙ ap (value_in c.keys.self.slots.items) c.slot_of_key-slot.ensures) (omega (arith, within, starts, long, room)) c.swap_value.ensures.many (c.swap_value.ensures.put c.in-Some.id c.slot_of_key-slot.ensures);
+      moving = AreMoving-next c.args.self.now _ _ c.in-Some.id c.keys.self c.swap_value.new.self c.keys.slots.items c.swap_value.result inv.moving c.in-Some.ensures.steps.0 (c.swap_value.ensures.old_value ∙ ap (value_in c.keys.self.slots.items) c.slot_of_key-slot.ensures) (omega (arith, within, starts, long, room)) c.swap_value.ensures.many (c.swap_value.ensures.put c.in-Some.id c.slot_of_key-slot.ensures);
       long = length-set c.keys.slots.items c.in-Some.id c.swap_value.result ∙ long;
     }
 

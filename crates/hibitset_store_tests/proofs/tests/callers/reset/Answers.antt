@@ -56,7 +56,7 @@ loop-id-init c =
     let copy = has c.in_ok-mask.mask in
     record {
       done = λ i gone.
-          let none : old i ≡ None = none_unlisted old copy (λ j. c.in_ok-mask.ensures.cases.members j ∙ c.mask.ensures.keys j) c.mask.ensures.within i (rw (← c.into_iter-id-iterator.ensures.into_iter_gives.items) gone) in
+          let none : old i ≡ None = none_unlisted old copy (λ j. c.in_ok-mask.ensures.cases.members j ∙ c.mask.ensures.keys j) c.mask.ensures.in_range i (rw (← c.into_iter-id-iterator.ensures.into_iter_gives.items) gone) in
           none ∙ sym (over_none (old i) (ap is_some none));
       keys = λ i. refl;
     }

@@ -9,8 +9,8 @@ ends c = rw c.unwrap_or.ensures (run_end (has c.args.self.now.used) c.args.start
 pub returns-clause-from : goal.returns-clause-from
 returns-clause-from c = (ends c).from
 
-pub returns-clause-within : goal.returns-clause-within
-returns-clause-within c = (ends c).within
+pub returns-clause-in_range : goal.returns-clause-in_range
+returns-clause-in_range c = (ends c).within
 
 pub returns-clause-free : goal.returns-clause-free
 returns-clause-free c = (ends c).free

@@ -17,6 +17,6 @@ loop-page-preserved c =
 pub returns-clause-clean : goal.returns-clause-clean
 returns-clause-clean c = λ i.
     let set = drained_set c.loop-page.page-iterator in
-    let none = none_at_all MAX_EID (has set) (c.laws.ensures.within set) (sym c.loop-page.invariant.left ∙ c.in-None.ensures.steps.0.0) i in
+    let none = none_at_all MAX_EID (has set) (c.laws.ensures.in_range set) (sym c.loop-page.invariant.left ∙ c.in-None.ensures.steps.0.0) i in
     let same = c.in-None.ensures.steps.2 in
     search (rules, none, same)

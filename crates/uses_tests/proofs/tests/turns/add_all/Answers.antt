@@ -10,8 +10,8 @@ loop-id-init c =
     let world = c.new-world.result in
     record {
       old = c.new-world.ensures.old;
-      rest = rests_none 4 (past_of world) c.new-world.ensures.past;
-      members = members_begin (is_in world) (has c.args.set) (λ i. none_put_in (old_of world) (past_of world) c.new-world.ensures.past i ∙ ap (λ old. old i) c.new-world.ensures.old);
+      rest = rests_none 4 (past_of world) c.new-world.ensures.no_history;
+      members = members_begin (is_in world) (has c.args.set) (λ i. none_put_in (old_of world) (past_of world) c.new-world.ensures.no_history i ∙ ap (λ old. old i) c.new-world.ensures.old);
     }
 
 pub loop-id-preserved : goal.loop-id-preserved

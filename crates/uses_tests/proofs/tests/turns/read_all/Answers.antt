@@ -66,6 +66,6 @@ returns-clause-all c = λ i done.
     let v = c.words.invariant.there.0 in
     let is = c.words.invariant.there.1 in
     let first = c.args.world.now in
-    let within = c.world_laws.ensures.within first i (done_is_there (old_of first) (past_of first) i done) in
+    let within = c.world_laws.ensures.in_range first i (done_is_there (old_of first) (past_of first) i done) in
     let item = (c.world_laws.ensures.honest c.words.world c.args.walk v is).complete (c.words.invariant.there.2 c.words-test.false) i within (c.words.invariant.before i done) in
     subst (λ xs. Contains xs i) (sym (ap items_or_none is)) item

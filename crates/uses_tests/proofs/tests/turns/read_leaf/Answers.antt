@@ -6,4 +6,4 @@ pub returns : goal.returns
 returns c =
     let world = c.args.world.now in
     leaf_read (old_of world) (old_of c.apply.new.self) (past_of world) (past_of c.apply.new.self) c.args.walk c.apply.ensures.old c.in_ok-apply.ensures.appended
-    (c.world_laws.ensures.lowest world c.args.walk) (c.world_laws.ensures.none_empty world c.args.walk) c.requires.begun c.requires.leaf
+    (c.world_laws.ensures.lowest world c.args.walk) (c.world_laws.ensures.none_empty world c.args.walk) c.requires.read c.requires.leaf

@@ -1,5 +1,5 @@
 use Rattle.std.proofs.Common.{arith}
-use Rattle.hibitset_atomic.proofs.InvariantLemmas.{splits}
+use Rattle.hibitset_atomic.proofs.SeatPairLemmas.{splits}
 use Rattle.hibitset_atomic.specs.Seats.{BelongsTo, IsKnown, IsOld, weight_of, reports_of}
 use Rattle.hibitset_atomic.proofs.shared.types.SharedBitSet.divide.Goals as goal
 

@@ -5,9 +5,9 @@ use Rattle.hibitset_atomic.proofs.shared.types.SharedBitSet.fetch_or_summary.Goa
 
 pub fetch_or-requires : goal.fetch_or-requires
 fetch_or-requires c = (
-  c.requires.came,
+  c.requires.same_table,
   (let e = c.args.self.now.counts.0 in let l = c.mark_of-mark.ensures.within in omega (arith, e, l)),
-  marks_ _ _ _ _ _ _ (c.mark_of-mark.ensures.mark ∙ sym (mark_up c.args.id c.args.layer (omega arith))) (lower_mark-lt c.args.id c.args.layer c.requires.id c.requires.layer) c.requires.below,
+  marks_ _ _ _ _ _ _ (c.mark_of-mark.ensures.mark ∙ sym (mark_up c.args.id c.args.layer (omega arith))) (lower_mark-lt c.args.id c.args.layer c.requires.id c.requires.layer) c.requires.seen_below,
 )
 
 pub returns-clause-same : goal.returns-clause-same

@@ -1,6 +1,6 @@
 use Rattle.std.proofs.Common.{arith, refl, sym, subst, ap, inl, inr, ⊎_elim, ◌∙◌, length}
 use Rattle.std.proofs.lemmas.List.{nil_from_length, length-append}
-use Rattle.hibitset_atomic.proofs.InvariantLemmas.{joins, both_fit}
+use Rattle.hibitset_atomic.proofs.SeatPairLemmas.{joins, both_fit}
 use Rattle.hibitset_atomic.proofs.CallerStepLemmas.{looked_once, united_parts, united_knows, united_settled, united_counts, looked_honest}
 use Rattle.hibitset_atomic.proofs.ListLemmas.{has-from_contains, is_distinct-from}
 use Rattle.hibitset_atomic.specs.Rule.{IsSet}
@@ -26,9 +26,9 @@ invariant_of-result c =
     let l = length-append c.args.a.pass.me.0.shares c.args.b.pass.me.0.shares in let d = c.args.a.counted in let e = c.args.b.counted in let k = ap length t.2 in let p = c.args.a.some_share.0 in
     record { counted = omega (arith, l, d, e, k); some_share = (omega (arith, p), omega (arith, f, d, e)); empty_handed = ap length t.0 ∙ c.args.a.empty_handed }
 
-pub returns-clause-came : goal.returns-clause-came
+pub returns-clause-belongs : goal.returns-clause-belongs
 unfolding BelongsTo IsKnown IsOld weight_of reports_of
-returns-clause-came c =
+returns-clause-belongs c =
     let t = united_parts LAYER3_START c.load.result c.args.a.pass.me.0 c.args.b.pass.me.0 c.args.a.pass.me.1 _ _ c.load.ensures.found c.join_seat.ensures.2 c.requires.0.2 c.requires.1.2 in (
       c.load.ensures.same.0 ∙ c.join_seat.ensures.0 ∙ c.requires.0.0,
       t.1 ∙ c.requires.0.1,
@@ -49,9 +49,9 @@ returns-clause-apart c = λ i first second.
     let apart = (both_fit LAYER3_START c.load.result c.args.a.pass.me.0 c.args.b.pass.me.0 _ _ c.load.ensures.found (ap (λ m. m.0) c.join_seat.ensures.2)).0 in
     apart i (has-from_contains _ i first) (has-from_contains _ i second)
 
-pub returns-clause-once : goal.returns-clause-once
+pub returns-clause-distinct : goal.returns-clause-distinct
 unfolding BelongsTo IsKnown IsOld weight_of reports_of
-returns-clause-once c = is_distinct-from _ (looked_once _ _ _ _ c.load.ensures.found)
+returns-clause-distinct c = is_distinct-from _ (looked_once _ _ _ _ c.load.ensures.found)
 
 pub returns-clause-honest : goal.returns-clause-honest
 unfolding BelongsTo IsKnown IsOld weight_of reports_of

@@ -6,14 +6,14 @@ use Rattle.hibitset_atomic.proofs.shared.types.SharedBitSet.load_word.Goals as g
 pub overflow_add-first_word : goal.overflow_add-first_word
 overflow_add-first_word c = let w = within_row c.args.layer c.args.position c.requires.layer c.requires.position in let e = c.first_word.ensures in omega (arith, w, e)
 
-pub load-requires-clause-place : goal.load-requires-clause-place
-load-requires-clause-place c = let w = within_row c.args.layer c.args.position c.requires.layer c.requires.position in let e = c.first_word.ensures in omega (arith, w, e)
+pub load-requires-clause-in_range : goal.load-requires-clause-in_range
+load-requires-clause-in_range c = let w = within_row c.args.layer c.args.position c.requires.layer c.requires.position in let e = c.first_word.ensures in omega (arith, w, e)
 
 pub returns-clause-same : goal.returns-clause-same
 returns-clause-same c = let t = looked _ _ _ _ c.load.ensures.found in (c.load.ensures.same.0, c.load.ensures.same.1, t.0, t.1)
 
-pub returns-clause-some : goal.returns-clause-some
-returns-clause-some c = load_some c.args.layer c.args.position c.requires.layer c.load.result _ _ (rw c.first_word.ensures at c.load.ensures.found)
+pub returns-clause-nonzero : goal.returns-clause-nonzero
+returns-clause-nonzero c = load_some c.args.layer c.args.position c.requires.layer c.load.result _ _ (rw c.first_word.ensures at c.load.ensures.found)
 
 pub returns-clause-seen : goal.returns-clause-seen
 returns-clause-seen c = load_seen c.args.layer c.args.position c.requires.layer c.load.result _ _ (rw c.first_word.ensures at c.load.ensures.found)

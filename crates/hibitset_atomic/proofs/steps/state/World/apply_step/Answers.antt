@@ -29,7 +29,7 @@ pub fetch_or-requires-clause-position : goal.fetch_or-requires-clause-position
 fetch_or-requires-clause-position c =
     let s = c.args.self.now in
     let fits = step-fits (old_of s) (past_of s) (layer_word s.layers) s.calls s.walks c.args.number c.in-Some.call s.of_past c.in-Some.ensures c.if-call-eq4.false in
-    rw c.bit_over-place.ensures.place (place_fits c.in-Some.call.passed c.in-Some.call.index fits.0 fits.1)
+    rw c.bit_over-place.ensures.word_index (place_fits c.in-Some.call.passed c.in-Some.call.index fits.0 fits.1)
 
 pub invariant_of-self-in_default-fetch_or : goal.invariant_of-self-in_default-fetch_or
 invariant_of-self-in_default-fetch_or c =
@@ -54,7 +54,7 @@ invariant_of-self-2 c =
     record {
       of_past = after-step (old_of s) (past_of s) (reverse c.push_reserved.new.self.items) (layer_word s.layers) (layer_word c.fetch_or.new.self) s.calls c.set.new.self s.walks c.args.number (c.in-Some.call.index / 64 ^ c.in-Some.call.passed) c.in-Some.call s.of_past
           fits.2 c.if-call-eq4.false refl
-          (set_at (layer_word s.layers) (layer_word c.fetch_or.new.self) c.in-Some.call.passed c.bit_over-place.result.0 c.bit_over-place.result.1 (c.in-Some.call.index / 64 ^ c.in-Some.call.passed) c.bit_over-place.ensures.place c.bit_over-place.ensures.bit c.in-Ok.ensures.after)
+          (set_at (layer_word s.layers) (layer_word c.fetch_or.new.self) c.in-Some.call.passed c.bit_over-place.result.0 c.bit_over-place.result.1 (c.in-Some.call.index / 64 ^ c.in-Some.call.passed) c.bit_over-place.ensures.word_index c.bit_over-place.ensures.bit c.in-Ok.ensures.after)
           c.set.ensures past-is;
     }
 
@@ -67,7 +67,7 @@ returns-then-call-eq0-clause-outcome c =
     let call-is = fits.2 in (
       c.push_reserved.ensures.items ∙ ap (λ (xs : List Event). xs ++ Step c.args.number ∷ []) c.reserve.ensures.items,
       step_ok c.in-Some.call (call_of (past_of s) c.args.number) call-is c.if-call-eq4.false,
-      rw call-is (c.if-call-eq0.true, first-at (old_of s) (past_of s) (layer_word s.layers) s.calls s.walks c.in-Ok.before c.bit_over-place.result.0 c.bit_over-place.result.1 c.in-Some.call.passed c.in-Some.call.index s.of_past c.in-Ok.ensures.before c.if-call-eq0.true c.bit_over-place.ensures.place c.bit_over-place.ensures.bit),
+      rw call-is (c.if-call-eq0.true, first-at (old_of s) (past_of s) (layer_word s.layers) s.calls s.walks c.in-Ok.before c.bit_over-place.result.0 c.bit_over-place.result.1 c.in-Some.call.passed c.in-Some.call.index s.of_past c.in-Ok.ensures.before c.if-call-eq0.true c.bit_over-place.ensures.word_index c.bit_over-place.ensures.bit),
     )
 
 pub overflow_cast-result-2 : goal.overflow_cast-result-2

@@ -18,8 +18,8 @@ returns-then-self-clause-left c =
     left-high (layer_word c.args.layers.now) s.items.items (left_of s) [] 3 0 c.word-word.result (a_new s.is_new (top_word 4) (cursor_places s.cursor) c.if-self.true) c.word-word.ensures _ (lit< tt)
     (ap words_below c.at_top-self.ensures.left ∙ below-only 3 (bits_from 0 c.word-word.result))
 
-pub returns-then-self-clause-ended : goal.returns-then-self-clause-ended
-returns-then-self-clause-ended c = done_below c.is_done.result (cursor_places c.at_top-self.result) c.is_done.ensures
+pub returns-then-self-clause-end : goal.returns-then-self-clause-end
+returns-then-self-clause-end c = done_below c.is_done.result (cursor_places c.at_top-self.result) c.is_done.ensures
 
 -- the words that were left, where the first place is taken
 first_left : (new : Bool) (top : Place) (ps rest : List Place) (layer position : ℕ) → new ≡ false → ps ≡ (record { layer = layer; position = position }) ∷ rest
@@ -39,8 +39,8 @@ returns-then-layer-eq1-clause-items c =
     (first_left s.is_new (top_word 4) (cursor_places s.cursor) (cursor_places c.take_lowest.new.self) layer c.in-Some.position c.if-self.false c.in-Some.ensures.taken) c.word-word-2.ensures
     c.push_bits.new.items.items (omega arith) e
 
-pub returns-then-layer-eq1-clause-ended : goal.returns-then-layer-eq1-clause-ended
-returns-then-layer-eq1-clause-ended c = ended_on c.args.self.now.is_new c.is_done-then-layer-eq1.result (top_word 4) (cursor_places c.take_lowest.new.self) c.if-self.false c.is_done-then-layer-eq1.ensures
+pub returns-then-layer-eq1-clause-end : goal.returns-then-layer-eq1-clause-end
+returns-then-layer-eq1-clause-end c = ended_on c.args.self.now.is_new c.is_done-then-layer-eq1.result (top_word 4) (cursor_places c.take_lowest.new.self) c.if-self.false c.is_done-then-layer-eq1.ensures
 
 pub invariant_of-self-2 : goal.invariant_of-self-2
 invariant_of-self-2 c =
@@ -67,5 +67,5 @@ returns-clause-left c =
     (first_left s.is_new (top_word 4) (cursor_places s.cursor) rest layer c.in-Some.position c.if-self.false c.in-Some.ensures.taken) c.word-word-2.ensures _ high
     (not_new s.is_new (top_word 4) (cursor_places c.push_bits-2.new.self) c.if-self.false ∙ (ap words_below c.push_bits-2.ensures.left ∙ below-places (layer - 1) (bits_from (64 * c.in-Some.position) c.word-word-2.result) rest))
 
-pub returns-clause-ended : goal.returns-clause-ended
-returns-clause-ended c = ended_on c.args.self.now.is_new c.is_done-2.result (top_word 4) (cursor_places c.push_bits-2.new.self) c.if-self.false c.is_done-2.ensures
+pub returns-clause-end : goal.returns-clause-end
+returns-clause-end c = ended_on c.args.self.now.is_new c.is_done-2.result (top_word 4) (cursor_places c.push_bits-2.new.self) c.if-self.false c.is_done-2.ensures
