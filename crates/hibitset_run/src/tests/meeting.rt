@@ -12,8 +12,8 @@ use std::sync::atomic::{AtomicU32, Ordering};
 use std::test::Fail;
 use std::thread::Threads;
 
-// How often each side looks for the other, at most.
-const TURNS: u32 = 200_000_000;
+// How often each side looks for the other, at most: a second and more, for the other may wait for a processor.
+const TURNS: u32 = 2_000_000_000;
 
 // So many full words of layer 0 hold the indices below 524,288.
 const RUN: usize = 8_192;
