@@ -29,9 +29,9 @@ def run(*calls):
         thread.start()
     for thread in threads:
         thread.join(30)
+        if wrong:
+            raise wrong[0]
         assert not thread.is_alive(), "a call waits for ever"
-    if wrong:
-        raise wrong[0]
 
 
 def test_each_addition_is_new_once(kind):
@@ -111,16 +111,16 @@ def test_changes_that_move_the_words():
 
 def test_two_sets_in_both_orders(kind, other_kind):
     a, b = kind(range(0, 1 << 21, 2)), other_kind(range(1, 1 << 21, 2))
-    left = [2]
+    ended = []
 
     def assign(to, of):
         for _ in range(60):
             to |= of
             to.discard(5)
-        left[0] -= 1
+        ended.append(True)
 
     def read(first, second):
-        while left[0]:
+        while len(ended) < 2:
             first.union_len(second)
 
     run(lambda: assign(a, b), lambda: assign(b, a), lambda: read(a, b), lambda: read(b, a))
@@ -228,10 +228,10 @@ def test_each_call_has_its_turn(kind):
 
 def test_streams_and_arrays_beside_changes(kind):
     """Which the set may have between the parts of a call."""
-    some, left = kind(range(1 << 20)), [2]
+    some, ended = kind(range(1 << 20)), []
 
     def change():
-        while left[0]:
+        while len(ended) < 2:
             some.add_range(1 << 20, (1 << 20) + (1 << 19))
             some.remove_range(1 << 20, 1 << 30)
 
@@ -239,9 +239,19 @@ def test_streams_and_arrays_beside_changes(kind):
         for _ in range(4):
             for made in [kind.deserialize(some.serialize()), kind.from_numpy(some.to_numpy())]:
                 assert len(made) in (1 << 20, (1 << 20) + (1 << 19))
-        left[0] -= 1
+        ended.append(True)
 
     run(change, read, read)
+
+
+def test_an_array_whose_length_is_never_counted_in_time():
+    """Another thread adds members after each count, and takes them out before the next one."""
+
+    class Changing(BitSet):
+        def len_range(self, start=0, stop=None):
+            return 3
+
+    assert Changing(range(100)).to_numpy().tolist() == list(range(100))
 
 
 def test_others_run_during_a_long_call():

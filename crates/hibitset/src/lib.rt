@@ -29,8 +29,8 @@
 //! - `BitSet` is a set that one thread changes: `add`, `remove`, ranges, assignments, comparisons.
 //! - `BitSetLike` has what every set offers: `contains`, `iter`, `par_iter`, `len`, `rank`, `first`, `to_vec`.
 //! - `DrainableBitSet` takes members out while it walks: `drain`, `retain`, `pop_first`.
-//! - `AtomicBitSet` and `SharedBitSet` are for threads that add side by side, each with a `Seat`; `steps::World` says
-//!   what every interleaving of theirs can do.
+//! - `AtomicBitSet` and `SharedBitSet` are for threads that add side by side, each with a `Seat`; `steps::World` is a
+//!   model of additions and walks in any order.
 //! - `laws` has what holds of all sets, for proofs of callers. CALLING.md beside this crate has proved callers.
 #![tactic(auto)]
 
