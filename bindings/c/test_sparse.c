@@ -658,6 +658,23 @@ static void without_memory(void) {
     hibitset_free(&dense);
 }
 
+/* Of two sets with the same members the one that was shrunk has no capacity for another word. */
+static void shrinking(void) {
+    hibitset_sparse_t grown = hibitset_sparse_new(), shrunk = hibitset_sparse_new();
+    uint32_t word;
+    for (word = 0; word < 17; word++) {
+        CHECK(hibitset_sparse_add(&grown, 64 * word) == HIBITSET_OK);
+        CHECK(hibitset_sparse_add(&shrunk, 64 * word) == HIBITSET_OK);
+    }
+    hibitset_sparse_shrink_to_fit(&shrunk);
+    CHECK(hibitset_sparse_equals(&grown, &shrunk));
+    allocations = 0;
+    CHECK(hibitset_sparse_add(&grown, 64 * 17) == HIBITSET_OK && allocations == 0);
+    CHECK(hibitset_sparse_add(&shrunk, 64 * 17) == HIBITSET_OK && allocations > 0);
+    hibitset_sparse_free(&grown);
+    hibitset_sparse_free(&shrunk);
+}
+
 /* ---- Sets that go to other threads ---- */
 
 static void *sum_and_free(void *param) {
@@ -707,6 +724,7 @@ int main(void) {
     failing_allocations();
     without_counts();
     without_memory();
+    shrinking();
     copies_for_threads();
     puts("test_sparse.c: ok");
     return 0;

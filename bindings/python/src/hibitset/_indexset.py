@@ -88,7 +88,7 @@ class IndexSet(Algebra[Made]):
         """An array of what is written of each member from start on."""
         room, count = 0, 1
         while count > room:  # Another thread may add members meanwhile, and take them out before they are counted.
-            room = max(2 * room, self.len_range(start, MAX_INDEX + 1))
+            room = min(max(2 * room, self.len_range(start, MAX_INDEX + 1)), MAX_INDEX + 1)
             found = _arrays.numpy().empty(room + 1, dtype)
             count = write(found)
         return found[:count]
