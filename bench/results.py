@@ -86,8 +86,8 @@ def own_head(table, results):
 
 
 def readable(cell):
-    """A number without an exponent, and from 10,000 on with commas."""
-    number = f"{float(cell):.0f}" if re.fullmatch(r"[\d.]+e\+\d+", cell) else cell
+    """A number without an exponent, from 10,000 on with commas, its star close to it."""
+    number = f"{float(cell):.0f}" if re.fullmatch(r"[\d.]+e\+\d+", cell) else cell.replace(" *", "*")
     return f"{int(number):,}" if re.fullmatch(r"\d{5,}", number) else number
 
 
@@ -133,7 +133,7 @@ def named(names):
 
 def pair(row):
     """Both ratios of a row in one cell."""
-    return f"{row.cells['ratio']}/{row.cells['its ratio']}".replace(" *", "*")
+    return f"{row.cells['ratio']}/{row.cells['its ratio']}"
 
 
 def greatest(rows):
@@ -197,10 +197,10 @@ def columns(results):
 
 
 def parallel(results):
-    """The parts on calls that take threads."""
-    for table, picture, title in (("threads", "parallel", "Parallel calls"), ("steps", "steps", "Parallel calls whose step takes time")):
-        words = "Time over the number of members, as part of the original's and of our own iteration in one thread"
-        yield f"## {title}\n\n{own_head(table, results)}.\n\n![{words}](../docs/pictures/{picture}.svg)\n"
+    """The part on calls that take threads."""
+    yield "## Parallel calls\n\nTime over the number of members, as part of the original's and of our own iteration in one thread.\n"
+    for table, picture, title in (("threads", "parallel", "Calls"), ("steps", "steps", "Calls whose step takes time")):
+        yield f"![{title}: time over the number of members](../docs/pictures/{picture}.svg)\n\n{own_head(table, results)}.\n"
 
 
 def shared(results):
@@ -282,7 +282,7 @@ def sparse(results):
 PARTS = (one_thread, beside_others, sparse, columns, parallel, shared, streams)
 WORDS = (
     "Cells `crate/Rattle` have two ratios to the original: of the Rust crate, and of the same source by Rattle's own compiler. A star says that one lies above its aim. "
-    "[README.md](README.md) says how rows are measured, what their sets are, and why some lie above; [results.txt](results.txt) has every row and column, all times, and the aims. "
+    "[README.md](README.md) says how rows are measured, what their sets are, and why some lie above; [results.txt](results.txt) has every row, time and aim. "
     "The first line holds for all tables, but for what the line above a table says. `-`: not measured."
 )
 
