@@ -32,6 +32,7 @@ FAR = {
     "100 clusters of 10,000 below 2^30": "clusters",
     "100 clusters of 10,000 below 2^30 and the same, 5,000 further": "clusters",
 }
+MEMORY = r"Memory of (.*): ([\d.]+) MB here .*, ([\d.]+) MB in fixedbitset, ([\d.]+) MB in CRoaring"
 BELOW = {"below 1,000,000": "below 1M", "below 2^24": "below 2^24", "below 2^30": "below 2^30"}
 THREADS = {"one thread": "one thread", "all processors": "all"}
 # Calls whose ratios all lie below this have a line in the place of a row.
@@ -183,10 +184,10 @@ def beside_others(results):
         call, end = split_name(row.name, FAR)
         if end and row.cells["ratio"] == "-":
             far.setdefault(call, {})[FAR[end]] = row
-    yield from across(far, {name: name for name in FAR.values()}, "nanoseconds a member", named(("Rattle", "fixedbitset", "CRoaring")))
-    memory = "\n".join(f"- {line}" for line in block_of("results", results) if line.startswith("Memory of"))
-    first, *others = re.split(r"(?= \(8 bytes)", memory)
-    yield "".join([first, *others[:1], *(re.sub(r"^ \([^)]*\)", "", other) for other in others[1:])]) + "\n"
+    *lines, end = across(far, {name: name for name in FAR.values()}, "nanoseconds a member", named(("Rattle", "fixedbitset", "CRoaring")))
+    found = (re.match(MEMORY, line) for line in block_of("results", results))
+    megabytes = zip(*sorted((each.groups() for each in found if each), key=lambda each: list(FAR).index(each[0])))
+    yield from [*lines, "| memory, in MB | " + " | ".join(cell for column in list(megabytes)[1:] for cell in column) + " |", end]
 
 
 def columns(results):
