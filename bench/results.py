@@ -193,7 +193,7 @@ def beside_others(results):
 def columns(results):
     """The part on values by index."""
     rows = [row._replace(name=re.sub("column |100,000 random ", "", row.name)) for row in rows_of("results", results) if "crate" not in row.cells]
-    yield "## Values by index\n\nOf a column; the original is its set beside a flat vector. Nanoseconds are per call, of a join per key of either column.\n"
+    yield "## Values by index\n\nNanoseconds are per call, of a join per key of either column.\n"
     yield from across(pivot(rows, BELOW), BELOW, "nanoseconds", named(("ours", "ratio", "HashMap")))
 
 
