@@ -31,7 +31,7 @@ class Names(dict):
 
     def whole(self, name):
         """A name as a cell says it, or on the page of the exports that of an export, with its prefix."""
-        return PREFIX + name if self.where.startswith(EXPORTING) and PREFIX + name in self else name
+        return PREFIX + name if self.where.startswith(f"{EXPORTING} ") and PREFIX + name in self else name
 
     def add_functions(self, crate):
         for function in crate.functions:
