@@ -186,8 +186,9 @@ def beside_others(results):
             far.setdefault(call, {})[FAR[end]] = row
     *lines, end = across(far, {name: name for name in FAR.values()}, "nanoseconds a member", named(("Rattle", "fixedbitset", "CRoaring")))
     found = (re.match(MEMORY, line) for line in block_of("results", results))
-    megabytes = zip(*sorted((each.groups() for each in found if each), key=lambda each: list(FAR).index(each[0])))
-    yield from [*lines, "| memory, in MB | " + " | ".join(cell for column in list(megabytes)[1:] for cell in column) + " |", end]
+    megabytes = sorted((each.groups() for each in found if each), key=lambda each: list(FAR).index(each[0]))
+    cells = [cell for column in list(zip(*megabytes))[1:] for cell in column]
+    yield from [*lines, *([f"| memory, in MB | {' | '.join(cells)} |"] if cells else []), end]
 
 
 def columns(results):
