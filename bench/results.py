@@ -32,8 +32,12 @@ FAR = {
     "100 clusters of 10,000 below 2^30": "clusters",
     "100 clusters of 10,000 below 2^30 and the same, 5,000 further": "clusters",
 }
+MEMORY = r"Memory of (.*): ([\d.]+) MB here .*, ([\d.]+) MB in fixedbitset, ([\d.]+) MB in CRoaring"
 BELOW = {"below 1,000,000": "below 1M", "below 2^24": "below 2^24", "below 2^30": "below 2^30"}
 THREADS = {"one thread": "one thread", "all processors": "all"}
+# Calls whose ratios all lie below this have a line in the place of a row.
+LOW = 0.10
+
 
 def cells_of(line):
     return [cell.strip() for cell in re.split(r"(?<!\\)\|", line.strip())[1:-1]]
@@ -83,8 +87,8 @@ def own_head(table, results):
 
 
 def readable(cell):
-    """A number without an exponent, and from 10,000 on with commas."""
-    number = f"{float(cell):.0f}" if re.fullmatch(r"[\d.]+e\+\d+", cell) else cell
+    """A number without an exponent, from 10,000 on with commas, its star close to it."""
+    number = f"{float(cell):.0f}" if re.fullmatch(r"[\d.]+e\+\d+", cell) else cell.replace(" *", "*")
     return f"{int(number):,}" if re.fullmatch(r"\d{5,}", number) else number
 
 
@@ -114,29 +118,37 @@ def pivot(rows, ends):
     return found
 
 
-def unit_of(row):
-    if "of walks" not in row.unit:
-        return row.unit
-    return "item" if row.name.startswith("walk") else "call"
-
-
-def across(calls, ends, title, columns, unit=False):
-    """The table of pivoted rows; columns: what the head says beside the end, and the column."""
+def across(calls, ends, title, columns):
+    """The table of pivoted rows; columns: what the head says beside the end, and what gives the cell of a row."""
     shown = [end for end in ends if any(end in cells for cells in calls.values())]
     lines = []
     for call, cells in calls.items():
-        numbers = [cells[end].cells[column] if end in cells else "" for column in columns.values() for end in shown]
-        lines.append([call, *([unit_of(next(iter(cells.values())))] if unit else []), *numbers])
-    heads = [" ".join([ends[end], words]).strip() for words in columns for end in shown]
-    return table_of([title, *(["per"] if unit else []), *heads], lines, 1 + unit)
+        lines.append([call, *(cell(cells[end]) if end in cells else "" for cell in columns.values() for end in shown)])
+    return table_of([title, *(" ".join([ends[end], words]).strip() for words in columns for end in shown)], lines)
 
 
-def down(rows, title, columns):
-    """The table of these columns of the rows, one below the other."""
-    return table_of([title, "per", *columns], [[row.name, unit_of(row), *(row.cells[column] for column in columns)] for row in rows], 2)
+def named(names):
+    """The columns of these names, for across."""
+    return {name: lambda row, name=name: row.cells[name] for name in names}
 
 
-NUMBERS = {"the crate: nanoseconds": "crate", "the crate: ratio": "ratio", "Rattle: ratio": "its ratio"}
+def pair(row):
+    """Both ratios of a row in one cell."""
+    return f"{row.cells['ratio']}/{row.cells['its ratio']}"
+
+
+def greatest(rows):
+    """The greatest ratio of these rows; None if one of them has a star."""
+    cells = [row.cells[column] for row in rows for column in ("ratio", "its ratio")]
+    return None if any("*" in cell for cell in cells) else max(map(float, cells))
+
+
+def in_line(calls):
+    """A line with the calls whose ratios all lie below LOW, each with its greatest, and the other calls."""
+    most = {call: greatest(rows) for call, rows in calls.items()}
+    low = [call for call, ratio in most.items() if ratio is not None and ratio < LOW]
+    words = "; ".join(f"{call}: {most[call]:.2f}" for call in low)
+    return f"Below {LOW:.2f}, with the greatest ratio of each: {words}.\n", [call for call in calls if call not in low]
 
 
 def one_thread(results):
@@ -145,13 +157,16 @@ def one_thread(results):
     one, two = ({call: cells for call, cells in pivot(rows, sets).items() if len(cells) > 1} for sets in (ONE_SET, TWO_SETS))
     there = {row.name for calls in (one, two) for cells in calls.values() for row in cells.values()}
     yield "## One thread, over the share of members\n"
-    for title, column in NUMBERS.items():
-        yield from across(one, ONE_SET, title, {"": column}, "nano" in title)
-    yield "## Two sets\n\nNanoseconds are per member of either set; of what is done in place, per turn.\n"
-    for title, column in NUMBERS.items():
-        yield from across(two, TWO_SETS, title, {"": column})
+    line, shown = in_line({call: cells.values() for call, cells in one.items()})
+    yield from across({call: one[call] for call in shown}, ONE_SET, "crate/Rattle", {"": pair})
+    yield line
+    yield "## Two sets\n"
+    yield from across(two, TWO_SETS, "crate/Rattle", {"": pair})
     yield "## Other work in one thread\n"
-    yield from down([row for row in rows if row.name not in there and "eight sets" not in row.name], "nanoseconds", ["crate", "original", "ratio", "Rattle", "its ratio"])
+    others = {row.name: row for row in rows if row.name not in there and "eight sets" not in row.name}
+    line, shown = in_line({name: [row] for name, row in others.items()})
+    yield from table_of(["", "crate/Rattle"], [[name, pair(others[name])] for name in shown])
+    yield line
 
 
 def beside_others(results):
@@ -160,7 +175,8 @@ def beside_others(results):
     yield "## Beside other libraries\n\n![Time over the share of members, beside fixedbitset and CRoaring](../docs/pictures/density.svg)\n"
     yield "[README](../README.md#speed) has the main rows; here are others.\n"
     shown = [row for row in rows if re.fullmatch(PEERS, row.name) and row.cells.get("fixedbitset", "-") != "-" and row.cells["ratio"] != "-"]
-    yield from down(shown, "nanoseconds", ["crate", "Rattle", "fixedbitset", "bit-set", "CRoaring", "BTreeSet", "HashSet"])
+    names = ["crate", "Rattle", "fixedbitset", "bit-set", "CRoaring", "BTreeSet", "HashSet"]
+    yield from table_of(["nanoseconds an index, item or member of either set", *names], [[row.name, *(row.cells[name] for name in names)] for row in shown])
     yield "## Indices up to 2^30, which the original does not have\n"
     yield "`spread`: a million members; `clusters`: 100 of 10,000. `a &= b`: with another million; with the same clusters, 5,000 further.\n"
     far = {}
@@ -168,24 +184,25 @@ def beside_others(results):
         call, end = split_name(row.name, FAR)
         if end and row.cells["ratio"] == "-":
             far.setdefault(call, {})[FAR[end]] = row
-    yield from across(far, {name: name for name in FAR.values()}, "nanoseconds a member", {name: name for name in ("Rattle", "fixedbitset", "CRoaring")})
-    memory = "\n".join(f"- {line}" for line in block_of("results", results) if line.startswith("Memory of"))
-    first, *others = re.split(r"(?= \(8 bytes)", memory)
-    yield "".join([first, *others[:1], *(re.sub(r"^ \([^)]*\)", "", other) for other in others[1:])]) + "\n"
+    *lines, end = across(far, {name: name for name in FAR.values()}, "nanoseconds a member", named(("Rattle", "fixedbitset", "CRoaring")))
+    found = (re.match(MEMORY, line) for line in block_of("results", results))
+    megabytes = sorted((each.groups() for each in found if each), key=lambda each: list(FAR).index(each[0]))
+    cells = [cell for column in list(zip(*megabytes))[1:] for cell in column]
+    yield from [*lines, *([f"| memory, in MB | {' | '.join(cells)} |"] if cells else []), end]
 
 
 def columns(results):
     """The part on values by index."""
     rows = [row._replace(name=re.sub("column |100,000 random ", "", row.name)) for row in rows_of("results", results) if "crate" not in row.cells]
-    yield "## Values by index\n\nOf a column; the original is its set beside a flat vector. Nanoseconds are per call, of a join per key of either column.\n"
-    yield from across(pivot(rows, BELOW), BELOW, "nanoseconds", {name: name for name in ("ours", "original", "ratio", "HashMap")})
+    yield "## Values by index\n\nNanoseconds are per call, of a join per key of either column.\n"
+    yield from across(pivot(rows, BELOW), BELOW, "nanoseconds", named(("ours", "ratio", "HashMap")))
 
 
 def parallel(results):
-    """The parts on calls that take threads."""
-    for table, picture, title in (("threads", "parallel", "Parallel calls"), ("steps", "steps", "Parallel calls whose step takes time")):
-        words = "Time over the number of members, as part of the original's and of our own iteration in one thread"
-        yield f"## {title}\n\n{own_head(table, results)}.\n\n![{words}](../docs/pictures/{picture}.svg)\n"
+    """The part on calls that take threads."""
+    yield "## Parallel calls\n\nTime over the number of members, as part of the original's and of our own iteration in one thread.\n"
+    for table, picture, title in (("threads", "parallel", "Calls"), ("steps", "steps", "Calls whose step takes time")):
+        yield f"![{title}: time over the number of members](../docs/pictures/{picture}.svg)\n\n{own_head(table, results)}.\n"
 
 
 def shared(results):
@@ -196,8 +213,8 @@ def shared(results):
         parts.setdefault(title, []).append(row._replace(name=row.name.partition(" (")[0]))
     yield f"## The shared set\n\n{own_head('shared', results)}.\n"
     for title, rows in parts.items():
-        names = [name for name in ("ours", "original", "shared", "settled", "ratio") if rows[0].cells.get(name, "-") != "-"]
-        yield from across(pivot(rows, THREADS), THREADS, title, {name: name for name in names})
+        names = [name for name in ("ours", "shared", "settled", "ratio") if rows[0].cells.get(name, "-") != "-"]
+        yield from across(pivot(rows, THREADS), THREADS, title, named(names))
 
 
 def streams(results):
@@ -209,7 +226,7 @@ def streams(results):
     )
     rows = pivot(rows_of("roaring", results), BELOW)
     shown = {end: BELOW[end] for end in list(BELOW)[1:]}
-    yield from across(rows, shown, "microseconds", {name: name for name in ("ours", "CRoaring", "ratio")})
+    yield from across(rows, shown, "microseconds", named(("ours", "CRoaring", "ratio")))
 
 
 # The columns of the tables of sparse sets that are shown as parts of CRoaring's.
@@ -266,8 +283,8 @@ def sparse(results):
 
 PARTS = (one_thread, beside_others, sparse, columns, parallel, shared, streams)
 WORDS = (
-    "`crate` is the Rust crate, `Rattle` the same source by Rattle's own compiler; a ratio is to the original, and a star says that it lies above its aim. "
-    "[README.md](README.md) says how rows are measured, what their sets are, and why some lie above; [results.txt](results.txt) has every row and column, and the aims. "
+    "Cells `crate/Rattle` have two ratios to the original: of the Rust crate, and of the same source by Rattle's own compiler. A star says that one lies above its aim. "
+    "[README.md](README.md) says how rows are measured, what their sets are, and why some lie above; [results.txt](results.txt) has every row, time and aim. "
     "The first line holds for all tables, but for what the line above a table says. `-`: not measured."
 )
 

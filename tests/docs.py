@@ -16,7 +16,9 @@ Clauses   A table with a column 'clause' names in each cell what carries the row
           that is functions (Type::function, Trait::function, function, module::function), types, traits, or records and
           definitions of specs/, of the page's crate or one below it, and their clauses, invariants, facts or fields. A
           function of an impl also has the impl's facts, as `BitIter::next`: `next_gives`. In a table whose first column
-          is 'clause' a cell has clauses alone.
+          is 'clause' a cell has clauses alone. That is a table of common clauses, and if a crate's page has one, each clause of
+          a function that the other cells name is in such a cell or in the table; a cell of hibitset_c may leave out the
+          hibitset_ before a name.
           Each public function of a library crate that has an `ensures`, but for those with #[doc(hidden)], is named in such
           a cell of one of the crate's pages.
 Counts    A number in prose that a script can count or read off a source (counts.py says which) is what it counts.
@@ -61,6 +63,7 @@ OF_PAGES = (
     quotes.misquoted,
     quotes.misquoted_clauses,
     clauses.wrong_cells,
+    clauses.unsaid_clauses,
     module_tables.wrong_modules,
 )
 OF_REPOSITORY = (

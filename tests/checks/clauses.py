@@ -11,6 +11,9 @@ RULE = re.compile(r"\|[ :|-]+\|$")
 # Public functions that no row names: NAME of a crate, as CRATE NAME, each for a reason that its comment says.
 UNNAMED = set()
 
+# What stands before the name of each export for C; a cell of the page of hibitset_c may leave it out.
+EXPORTING, PREFIX = "hibitset_c", "hibitset_"
+
 
 class Names(dict):
     """What a page may name in a cell: each name with its clauses, invariants or fields."""
@@ -25,6 +28,10 @@ class Names(dict):
 
     def add(self, name, labels):
         self.setdefault(name, set()).update(labels)
+
+    def whole(self, name):
+        """A name as a cell says it, or on the page of the exports that of an export, with its prefix."""
+        return PREFIX + name if self.where.startswith(f"{EXPORTING} ") and PREFIX + name in self else name
 
     def add_functions(self, crate):
         for function in crate.functions:
@@ -109,7 +116,7 @@ def unknown_names(names, cell):
     if parts is None:
         yield f"is not of the form `Type::function`: `clause`, `clause`; ..: {cell}"
     for which, labels in parts or []:
-        yield from lacking(names, which, labels)
+        yield from lacking(names, [names.whole(name) for name in which], labels)
 
 
 def lacking(names, which, labels):
@@ -129,17 +136,46 @@ def unnamed_functions(repository):
     for name in LIBRARY:
         pages = repository.promises_of(name)
         if pages:
-            yield from ((pages[0], 1, words) for words in unnamed_in(repository.crate(name), pages))
+            yield from ((pages[0], 1, words) for words in unnamed_in(repository, repository.crate(name), pages))
 
 
-def unnamed_in(crate, pages):
-    cells = (cell for page in pages for *_, cell in clause_cells(page))
-    said = {who for cell in cells for which, _ in carriers(cell) or [] for who in which}
+def unnamed_in(repository, crate, pages):
+    said = set()
+    for page in pages:
+        names = names_for(repository, page)
+        said |= {names.whole(name) for *_, cell in clause_cells(page) for which, _ in carriers(cell) or [] for name in which}
+    for function in promised(crate):
+        if not said & set(function.names()) and f"{crate.name} {function.name_shown()}" not in UNNAMED:
+            yield f"no row of a table with a column 'clause' names {function.name_shown()}"
+
+
+def promised(crate):
+    """The public functions with an `ensures`, each once."""
     seen = set()
     for function in crate.functions:
         shown = function.name_shown()
-        if not function.ensures or not crate.is_public(function) or crate.is_hidden(function) or shown in seen:
-            continue
-        seen.add(shown)
-        if not said & set(function.names()) and f"{crate.name} {shown}" not in UNNAMED:
-            yield f"no row of a table with a column 'clause' names {shown}"
+        if function.ensures and crate.is_public(function) and not crate.is_hidden(function) and shown not in seen:
+            seen.add(shown)
+            yield function
+
+
+def unsaid_clauses(repository, page):
+    """The clauses of the functions of a crate whose page has a table of common clauses, that neither a row of theirs nor that table
+    names, and the common clauses that none of these functions has."""
+    cells = list(clause_cells(page))
+    common = {label: line for line, column, cell in cells if column == 0 for label in re.findall(r"`([^`]+)`", cell)}
+    if not common or page.parent.parent != repository.crates:
+        return
+    names, said, lines, has = names_for(repository, page), {}, {}, set()
+    for line, column, cell in cells:
+        for which, labels in (carriers(cell) or []) if column else []:
+            for name in map(names.whole, which):
+                said.setdefault(name, set()).update(labels)
+                lines.setdefault(name, line)
+    for function in promised(repository.crate(page.parent.name)):
+        has |= function.labels
+        named = set(function.names()) & set(said)
+        lacks = function.labels - set(common) - {label for name in named for label in said[name]}
+        if named and lacks:
+            yield min(lines[name] for name in named), f"neither a row of {function.name_shown()} nor the table of common clauses names {', '.join(sorted(lacks))}"
+    yield from ((line, f"no public function has the common clause {label}") for label, line in common.items() if label not in has)

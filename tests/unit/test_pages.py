@@ -76,6 +76,23 @@ class Pages(InRepository):
         self.refuses(clauses.wrong_cells, "`Set::has`: `found` |", "has |", "is not of the form")
         self.assertIn("nothing has a clause lost", self.found(clauses.wrong_cells, "| promise | clause |\n|---|---|\n| It has. |", "| clause | promise |\n|---|---|\n| `lost` |"))
 
+    def test_common_clauses(self):
+        source = "//! Sets.\npub fn hibitset_f()\n    ensures same { true }\n    ensures err { true }\n{\n}\n"
+        page = "| clause | says |\n|---|---|\n| `same` | It stays. |\n\n| promise | clause |\n|---|---|\n| It does. | `f`: `err` |\n"
+
+        def said(check, old="", new=""):
+            repository = self.repository({"crates.txt": "hibitset_c: std\n", "crates/hibitset_c/src/lib.rt": source, "crates/hibitset_c/README.md": page.replace(old, new)})
+            return self.said(check(repository, repository.crates / "hibitset_c" / "README.md"))
+
+        for check in (clauses.wrong_cells, clauses.unsaid_clauses):
+            self.assertEqual(said(check), "")
+            self.assertEqual(said(check, "`f`", "`hibitset_f`"), "")
+        self.assertIn("neither a row of hibitset_f nor the table of common clauses names err", said(clauses.unsaid_clauses, "`f`: `err`", "`f`"))
+        self.assertIn("names same", said(clauses.unsaid_clauses, "`same`", "`err`"))
+        self.assertIn("no public function has the common clause lost", said(clauses.unsaid_clauses, "`same`", "`same`, `lost`"))
+        self.assertIn("hibitset_f has no clause lost", said(clauses.wrong_cells, "`f`: `err`", "`f`: `err`, `lost`"))
+        self.assertIn("no function, type, record or definition g", said(clauses.wrong_cells, "`f`", "`g`"))
+
     def test_functions_that_no_row_names(self):
         source = "//! Sets.\npub fn f()\n    ensures { true }\n{\n}\n"
         repository = self.repository({"crates/hibitset/src/lib.rt": source, "crates/hibitset/README.md": "# hibitset\n"})

@@ -8,6 +8,7 @@ from checks import release
 sys.path.insert(0, str(release.TOP / "bindings/c"))
 
 import check  # noqa: E402 (its folder is named above)
+import results  # noqa: E402 (release names its folder)
 
 
 def changed(name, old, new):
@@ -63,6 +64,12 @@ class Faults(unittest.TestCase):
         self.finds(release.wrong_tables, "README.md", "<!-- slower -->", "", "no table between")
         self.finds(release.wrong_tables, "bench/results.txt", "| walk, dense, 1M of 1M | ", "| walk, dense, 1M of 1M | 1", "not those of")
         self.finds(release.wrong_tables, "bench/RESULTS.md", "| walk | ", "| walk | 1", "is not what bench/results.py makes")
+
+    def test_rows_in_a_line(self):
+        rows = {"low": ("0.03", "0.05"), "with a star": ("0.05 *", "0.01"), "high": ("0.03", "0.10")}
+        line, shown = results.in_line({name: [results.Row("", name, "", dict(zip(("ratio", "its ratio"), cells)))] for name, cells in rows.items()})
+        self.assertEqual(shown, ["with a star", "high"])
+        self.assertIn("low: 0.05.", line)
 
     def test_pictures(self):
         self.finds(release.wrong_pictures, "docs/pictures/ratios.svg", "<circle", "<circles", "is not what draw.py draws")
