@@ -10,6 +10,7 @@
 #   bindings                    C, C++ and Python programs over the library pass their tests, also where it is installed
 #   bench                       each row of the benchmark runs once, at the smallest size
 #   rust                        the Cargo crate of rust/: its derivation, its tests, derived tests, scripts, lints, package
+#   calls [CRATE] [NAME]        prints the public calls with their signatures, or those of a name with their docs and contracts
 #   guide [--make FOLDER]       the repository that docs/GUIDE.md prints passes; --make makes it alone
 # Without PART: docs, proofs beside mutants tests --gate, mutants contract --gate, allocation, differential, bindings and bench beside rust, mutants unseen --gate. It stops at the first part that fails.
 # --anew: rt ci proves and tries all, whatever it has kept on this machine.
@@ -79,6 +80,7 @@ run() { # PART [WORD..]: one part, by the script that does it
         "bindings "*) "$top/tests/bindings.sh" "${@:2}" ;;
         "bench "*) "$top/tests/bench_rows.sh" "${@:2}" ;;
         "rust "*) "$top/tests/rust.sh" ;;
+        "calls "*) "$top/tests/calls.py" "${@:2}" ;;
         "guide "*) "$top/tests/guide.py" "${@:2}" ;;
         *) usage ;;
     esac
