@@ -60,6 +60,8 @@ template <class S> static void random_calls(void) {
         if (turn % 50 == 0) check_members(ours, model);
     }
     ours.add(0);
+    model.insert(0);
+    check_members(ours, model);
     ours.clear();
     check_members(ours, {});
 }
