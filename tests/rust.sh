@@ -90,7 +90,12 @@ step "tests of the crate, without features"
 tested in_crate test --lib --tests
 step "tests of the crate, without std"
 tested in_crate test --no-default-features --lib --test atomic
-step "clippy, documentation, package"
+step "rustfmt, clippy, documentation, package"
+if cargo fmt --version >/dev/null 2>&1; then
+    (cd "$rust" && cargo fmt --check)
+else
+    echo "rust.sh: no rustfmt: it is left out"
+fi
 if cargo clippy --version >/dev/null 2>&1; then
     in_crate clippy --all-targets "${features[@]}" -- -D warnings
 else

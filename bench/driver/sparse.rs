@@ -1,7 +1,7 @@
 //! Bytes and times of sparse sets beside other sets: a table of each kind of members.
 //!
 //! sparse [REPEATS [WORDS]]: medians of REPEATS repeats, by the thread's own clock; the tables whose names have WORDS.
-use hibitset::{BitSet, BitSetLike, SparseBitSet};
+use hibitset::{BitSet, SparseBitSet};
 use std::collections::BTreeSet;
 use std::ffi::c_void;
 use std::hint::black_box;

@@ -104,7 +104,10 @@ fn the_last_index_lies_in_ranges_past_the_end() {
     set.remove_range(6..);
     assert_eq!(set.to_vec(), [5]);
     let mut dense = BitSet::from([5, 6]);
-    assert_eq!((dense.len_range(..=Index::MAX), dense.len_range(6..)), (2, 1));
+    assert_eq!(
+        (dense.len_range(..=Index::MAX), dense.len_range(6..)),
+        (2, 1)
+    );
     dense.remove_range(6..=Index::MAX);
     assert_eq!(dense.to_vec(), [5]);
 }

@@ -124,9 +124,7 @@ fn an_error_is_printed() {
 fn sparse_sets_have_the_same_streams() {
     let mut numbers = Numbers::new(7);
     for members in [0, 1, 100, 5_000, 40_000] {
-        let dense: BitSet = (0..members)
-            .map(|_| numbers.below(300_000))
-            .collect();
+        let dense: BitSet = (0..members).map(|_| numbers.below(300_000)).collect();
         let sparse = SparseBitSet::from_set(&dense);
         let bytes = dense.to_roaring();
         assert_eq!(sparse.to_roaring(), bytes);

@@ -293,9 +293,17 @@ fn a_sparse_set_has_its_old_members_or_none_if_another_panics() {
     // Whether the old members stay: `&=` and `-=` change the words in place, so theirs are gone.
     let assignments: [(bool, Assignment, SparseAssignment); 4] = [
         (true, |set, other| *set |= other, |set, other| *set |= other),
-        (false, |set, other| *set &= other, |set, other| *set &= other),
+        (
+            false,
+            |set, other| *set &= other,
+            |set, other| *set &= other,
+        ),
         (true, |set, other| *set ^= other, |set, other| *set ^= other),
-        (false, |set, other| *set -= other, |set, other| *set -= other),
+        (
+            false,
+            |set, other| *set -= other,
+            |set, other| *set -= other,
+        ),
     ];
     let mut panics = 0;
     for (dense, other) in pairs() {
@@ -314,7 +322,10 @@ fn a_sparse_set_has_its_old_members_or_none_if_another_panics() {
                     assert_eq!(set, SparseBitSet::from(&merged));
                     break;
                 }
-                assert!(if stay { set == start } else { set.is_empty() }, "read {reads}");
+                assert!(
+                    if stay { set == start } else { set.is_empty() },
+                    "read {reads}"
+                );
                 panics += 1;
             }
         }

@@ -84,7 +84,9 @@ fn a_set_of_any_type_has_all_layers() {
     let set = BitSet::from([5, 70_000, 1 << 19, 1 << 25, (1 << 30) - 1]);
     let any: &dyn BitSetLike = &set;
     assert!((&any).iter().eq(&set));
-    assert!((&any).iter_rev().eq([(1 << 30) - 1, 1 << 25, 1 << 19, 70_000, 5]));
+    assert!((&any)
+        .iter_rev()
+        .eq([(1 << 30) - 1, 1 << 25, 1 << 19, 70_000, 5]));
     assert_eq!(((&any).len(), (&any).is_empty()), (5, false));
 }
 

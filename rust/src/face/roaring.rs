@@ -108,7 +108,8 @@ impl SparseBitSet {
     /// As [`from_roaring`](SparseBitSet::from_roaring); for a greater member the fault is
     /// [`OutOfRange`](crate::RoaringFault::OutOfRange).
     pub fn from_roaring_below(bytes: &[u8], end: u32) -> Result<SparseBitSet, RoaringError> {
-        roaring::read_sparse_below(Global, bytes, (end as usize).min(roaring::KEYS)).map(SparseBitSet)
+        roaring::read_sparse_below(Global, bytes, (end as usize).min(roaring::KEYS))
+            .map(SparseBitSet)
     }
 
     /// Returns the set as a stream in the portable Roaring format: the bytes that

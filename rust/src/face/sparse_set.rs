@@ -398,7 +398,8 @@ impl SparseBitSet {
     /// assert_eq!(set.to_vec(), [5]);
     /// ```
     pub fn union_with(&mut self, other: &SparseBitSet) {
-        self.try_union_with(other).unwrap_or_else(|error| out_of_memory(error));
+        self.try_union_with(other)
+            .unwrap_or_else(|error| out_of_memory(error));
     }
 
     /// Adds the members of another sparse set, as [`union_with`](SparseBitSet::union_with) does.
@@ -413,7 +414,8 @@ impl SparseBitSet {
     /// Adds the members of another sparse set that are not in the set, and takes out those that are, chunk beside
     /// chunk: faster than `^=`.
     pub fn symmetric_difference_with(&mut self, other: &SparseBitSet) {
-        self.try_symmetric_difference_with(other).unwrap_or_else(|error| out_of_memory(error));
+        self.try_symmetric_difference_with(other)
+            .unwrap_or_else(|error| out_of_memory(error));
     }
 
     /// Flips the members of another sparse set, as
@@ -422,7 +424,10 @@ impl SparseBitSet {
     /// # Errors
     ///
     /// [`AllocError`] if an allocation fails. The members are as they were.
-    pub fn try_symmetric_difference_with(&mut self, other: &SparseBitSet) -> Result<(), AllocError> {
+    pub fn try_symmetric_difference_with(
+        &mut self,
+        other: &SparseBitSet,
+    ) -> Result<(), AllocError> {
         self.0.symmetric_difference_with(&other.0)
     }
 
