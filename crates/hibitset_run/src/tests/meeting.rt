@@ -10,10 +10,10 @@ use std::alloc::{AllocError, Global};
 use std::process::Abort;
 use std::sync::atomic::{AtomicU32, Ordering};
 use std::test::Fail;
-use std::thread::Threads;
+use std::thread::{Threads, yield_now};
 
-// How often each side looks for the other, at most: a second and more, for the other may wait for a processor.
-const TURNS: u32 = 2_000_000_000;
+// How often each side looks for the other, at most, and gives its processor up each time.
+const TURNS: u32 = 2_000_000;
 
 // So many full words of layer 0 hold the indices below 524,288.
 const RUN: usize = 8_192;
@@ -52,6 +52,7 @@ fn meet(mine: &AtomicU32, other: &AtomicU32, found: &AtomicU32, alone: u32) {
             found.fetch_add(1, Ordering::SeqCst);
             return;
         }
+        yield_now();
     }
 }
 
